@@ -1,0 +1,48 @@
+-- The questions that the rows ask, each as one function that computes.
+use Rattle.std.proofs.Common.{ℕ, Bool, true, false, List, [], ◌∷◌, Option, Some, Result, Ok}
+use Rattle.std.specs.Option.{option_and_then}
+use Rattle.std.specs.Result.{result_ok}
+use Rattle.pathspec_parts.specs.Attributes.{State, Assignment}
+use Rattle.pathspec_parts.specs.Tokens.{tokens_from}
+use Rattle.pathspec_parts.specs.GlobRelation.{matches}
+use Rattle.gix_pathspec.specs.declared.SearchMode.{SearchMode}
+use Rattle.gix_pathspec.specs.declared.SearchMode.TheVariants.{ShellGlob}
+use Rattle.gix_pathspec.specs.declared.search.MatchKind.{MatchKind}
+use Rattle.gix_pathspec.specs.Results.{◌>>=◌}
+use Rattle.gix_pathspec.specs.Faults.{Fault}
+use Rattle.gix_pathspec.specs.AttributeLists.{assignment_of, assignments_of}
+use Rattle.gix_pathspec.specs.Specs.{Spec}
+use Rattle.gix_pathspec.specs.Reading.{no_defaults, reading, cut_of, is_unimplemented, magic_of, spec_of}
+use Rattle.gix_pathspec.specs.NormalForm.{normal_form, climb}
+use Rattle.gix_pathspec.specs.Matching.{fit, prefix_directory}
+
+-- a spec with a path, a signature and a mode, and with nothing else
+abbrev pub spec : List ℕ → ℕ → SearchMode → Spec
+spec path signature mode = record { path = path; signature = signature; mode = mode; attributes = []; nil = false; prefix_length = 0 }
+
+-- the same with attributes
+abbrev pub spec_with : List ℕ → ℕ → SearchMode → List Assignment → Spec
+spec_with path signature mode attributes = record { path = path; signature = signature; mode = mode; attributes = attributes; nil = false; prefix_length = 0 }
+
+abbrev pub assigned : List ℕ → State → Assignment
+assigned name state = record { name = name; state = state }
+
+-- what a text says without defaults
+unfoldable pub parse : List ℕ → Result Spec Fault
+unfolding reading cut_of is_unimplemented magic_of spec_of assignments_of assignment_of
+parse text = reading no_defaults text
+
+-- path and prefix directory, and whether it is nil, of a text's normal form
+unfoldable pub normal : List ℕ → List ℕ → List ℕ → Result (List ℕ × List ℕ × Bool) Fault
+unfolding parse normal_form climb
+normal prefix root text = parse text >>= λ s. normal_form prefix root s >>= λ n. Ok (n.path, prefix_directory n, n.nil)
+
+-- how a spec fits a path
+unfoldable pub fitted : List ℕ → List ℕ → Bool → Option MatchKind
+unfolding parse normal_form climb fit matches tokens_from
+fitted text path is_dir = option_and_then (λ n. fit n path is_dir) (result_ok (parse text >>= λ s. normal_form [] [] s))
+
+-- how it fits a file
+unfoldable pub kind : List ℕ → List ℕ → Option MatchKind
+unfolding fitted
+kind text path = fitted text path false

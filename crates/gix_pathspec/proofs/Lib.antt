@@ -1,0 +1,9 @@
+pub mod ReadingProofs
+pub mod MatchingProofs
+pub mod JoinProofs
+pub mod NormalFormProofs
+pub mod ParseProofs
+mod Asking
+mod ReadingRows
+mod NormalFormRows
+mod MatchingRows

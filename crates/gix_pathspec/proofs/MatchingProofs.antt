@@ -1,0 +1,103 @@
+-- What lies below a path, byte by byte, and how a spec without wildcards fits.
+use Rattle.std.proofs.Common.{◌≡◌, ◌≢◌, ℕ, ◌+◌, ◌<◌, ◌≤◌, Bool, true, false, not, ◌||◌, ◌&&◌, cond, inl, inr, refl, sym, ◌∙◌, ap, subst, List, [], ◌∷◌, ◌++◌, length, take, get_or, arith, ◌==◌, Some, None, Option, is_some, length-append}
+use Rattle.std.proofs.lemmas.Bool.{and_parts, and_from, eqb-true, eq-eqb, cases_Bool, or_from, or_right, ne_eqb, cases_lt, lt-ltb, le-ltb}
+use Rattle.std.proofs.lemmas.List.{length-map, take-map, get_or-map}
+use Rattle.std.proofs.Math.Bool.{and-false, and-true, or-true}
+use Rattle.std.specs.Prelude.{bytes_eq}
+use Rattle.std.specs.Char.{to_ascii_lowercase}
+use Rattle.pathspec_parts.specs.Bytes.{slash, folded, is_empty}
+use Rattle.pathspec_parts.specs.Attributes.{Table}
+use Rattle.gix_pathspec.specs.declared.search.MatchKind.{MatchKind}
+use Rattle.gix_pathspec.specs.declared.search.MatchKind.TheVariants.{Always, Prefix, Verbatim}
+use Rattle.gix_pathspec.specs.Specs.{Spec, has_wildcard, always_matches, ignores_case}
+use Rattle.gix_pathspec.specs.Matching.{fit, means, has_attributes, keeps_prefix, is_verbatim, is_prefixed}
+use Rattle.pathspec_parts.specs.Paths.{is_below}
+
+-- ---- below a path
+
+-- the front of a pair of lists that begin alike
+below-cons : (b c : ℕ) (x d : List ℕ) → is_below (b ∷ x) (c ∷ d) ≡ ((c == b) && is_below x d)
+below-cons b c x d = refl
+
+-- a path that goes on behind d with a slash
+below-slash : (x d : List ℕ) → length d < length x → get_or x (length d) 0 ≡ slash → is_below x d ≡ bytes_eq d (take (length d) x)
+below-slash [] [] l h = absurd (omega (arith, l))
+below-slash (b ∷ x) [] l h = rw h refl
+below-slash [] (c ∷ d) l h = absurd (omega (arith, l))
+below-slash (b ∷ x) (c ∷ d) l h = below-cons b c x d ∙ ap (λ t. (c == b) && t) (below-slash x d (omega (arith, l)) h)
+
+-- one that goes on with another byte
+below-other : (x d : List ℕ) → length d < length x → get_or x (length d) 0 ≢ slash → is_below x d ≡ false
+below-other [] d l h = absurd (omega (arith, l))
+below-other (b ∷ x) [] l h = rw (ne_eqb slash b (λ e. h (sym e))) refl
+below-other (b ∷ x) (c ∷ d) l h = below-cons b c x d ∙ (rw (below-other x d (omega (arith, l)) h) (and-false (c == b)))
+
+-- one that doesn't go on
+below-short : (x d : List ℕ) → length x ≤ length d → is_below x d ≡ false
+below-short [] [] l = refl
+below-short (b ∷ x) [] l = absurd (omega (arith, l))
+below-short [] (c ∷ d) l = refl
+below-short (b ∷ x) (c ∷ d) l = below-cons b c x d ∙ (rw (below-short x d (omega (arith, l))) (and-false (c == b)))
+
+-- ---- the same without case
+
+-- no other byte becomes a slash
+lower-slash : (b : ℕ) → to_ascii_lowercase b ≡ slash → b ≡ slash
+lower-slash b h = elim (cases_lt b 65) [
+  | inl small ↦ let t : to_ascii_lowercase b ≡ b = rw (lt-ltb b 65 small) refl in sym t ∙ h
+  | inr large ↦ elim (cases_lt b 91) [
+    | inl upper ↦ let t : to_ascii_lowercase b ≡ b + 32 = rw (le-ltb b 65 large, lt-ltb b 91 upper) refl in let sum : b + 32 ≡ slash = sym t ∙ h in absurd (omega (arith, sum))
+    | inr beyond ↦ let t : to_ascii_lowercase b ≡ b = rw (le-ltb b 65 large, le-ltb b 91 beyond) refl in sym t ∙ h
+  ]
+]
+
+-- case aside, a path that goes on behind d with a slash
+pub below-folded_slash : (f : Bool) (x d : List ℕ) → length d < length x → get_or x (length d) 0 ≡ slash → bytes_eq (folded f d) (folded f (take (length d) x)) ≡ is_below (folded f x) (folded f d)
+below-folded_slash false x d l h = sym (below-slash x d l h)
+below-folded_slash true x d l h =
+    let size : length (folded true d) ≡ length d = length-map d to_ascii_lowercase in
+    let longer : length (folded true d) < length (folded true x) = rw (size, length-map x to_ascii_lowercase) l in
+    let at : get_or (folded true x) (length (folded true d)) 0 ≡ slash = rw size (get_or-map to_ascii_lowercase x (length d) 0 0 l ∙ ap to_ascii_lowercase h) in
+    sym (below-slash (folded true x) (folded true d) longer at ∙ (rw (size, take-map to_ascii_lowercase (length d) x) refl))
+
+-- one that goes on with another byte
+pub below-folded_other : (f : Bool) (x d : List ℕ) → length d < length x → get_or x (length d) 0 ≢ slash → false ≡ is_below (folded f x) (folded f d)
+below-folded_other false x d l h = sym (below-other x d l h)
+below-folded_other true x d l h =
+    let size : length (folded true d) ≡ length d = length-map d to_ascii_lowercase in
+    let longer : length (folded true d) < length (folded true x) = rw (size, length-map x to_ascii_lowercase) l in
+    let at : get_or (folded true x) (length (folded true d)) 0 ≢ slash = λ e. h (lower-slash _ (sym (get_or-map to_ascii_lowercase x (length d) 0 0 l) ∙ (rw size at e))) in
+    sym (below-other (folded true x) (folded true d) longer at)
+
+-- one that doesn't go on
+pub below-folded_short : (f : Bool) (x d : List ℕ) → length x ≤ length d → false ≡ is_below (folded f x) (folded f d)
+below-folded_short false x d l = sym (below-short x d l)
+below-folded_short true x d l = sym (below-short (folded true x) (folded true d) (rw (length-map x to_ascii_lowercase, length-map d to_ascii_lowercase) l))
+
+-- ---- a spec without wildcards
+
+module _ (s : Spec) (path : List ℕ) (is_dir : Bool) (bare : s.prefix_length ≡ 0) (plain : has_wildcard s ≡ false) where
+  -- the prefix directory is empty, so nothing is to be kept
+  keeps_all : keeps_prefix s path is_dir ≡ true
+  keeps_all = rw bare (ap (λ t. t || (bytes_eq path [] && is_dir)) (ap (λ t. t || is_below path []) (or-true (not (ignores_case s)))))
+
+  fit-plain : fit s path is_dir ≡ (cond (always_matches s) (Some Always) (cond (is_verbatim s path is_dir) (Some Verbatim) (cond (is_prefixed s path) (Some Prefix) None)))
+  unfolding fit
+  fit-plain = rw (keeps_all, plain) refl
+
+  pub fit-always : always_matches s ≡ true → Some Always ≡ fit s path is_dir
+  fit-always a = sym (fit-plain ∙ (rw a refl))
+
+  pub fit-verbatim : always_matches s ≡ false → is_verbatim s path is_dir ≡ true → Some Verbatim ≡ fit s path is_dir
+  fit-verbatim a v = sym (fit-plain ∙ (rw (a, v) refl))
+
+  pub fit-prefixed : always_matches s ≡ false → is_verbatim s path is_dir ≡ false → is_prefixed s path ≡ true → Some Prefix ≡ fit s path is_dir
+  fit-prefixed a v p = sym (fit-plain ∙ (rw (a, v, p) refl))
+
+  pub fit-none : always_matches s ≡ false → is_verbatim s path is_dir ≡ false → is_prefixed s path ≡ false → None ≡ fit s path is_dir
+  fit-none a v p = sym (fit-plain ∙ (rw (a, v, p) refl))
+
+-- a spec that lists no attributes means what it fits
+pub means-fits : (s : Spec) (path : List ℕ) (is_dir : Bool) (kind : Option MatchKind) → is_empty s.attributes ≡ true → kind ≡ fit s path is_dir → (table : Table) → is_some kind ≡ means table s path is_dir
+unfolding means has_attributes
+means-fits s path is_dir kind none is table = rw (is, none) (sym (and-true (is_some (fit s path is_dir))))

@@ -1,0 +1,200 @@
+-- Rows on what texts say.
+use Rattle.std.proofs.Common.{◌≡◌, true, false, refl, [], ◌∷◌, Ok, Err}
+use Rattle.std.specs.Prelude.{codes}
+use Rattle.gix_pathspec.specs.declared.SearchMode.TheVariants.{ShellGlob, Literal, PathAwareGlob}
+use Rattle.gix_pathspec.specs.AttributeLists.{assignments_of, assignment_of}
+use Rattle.pathspec_parts.specs.Attributes.State.{Set, Unset, Value, Unspecified}
+use Rattle.gix_pathspec.specs.Faults.Fault.{Empty, UnimplementedShort, MissingParen, InvalidKeyword, LiteralWithGlob, SecondAttributes, EmptyAttributes, InvalidName, InvalidValueByte, TrailingEscape}
+use Rattle.gix_pathspec.specs.Reading.{reading, nil_spec, long_pieces}
+use Rattle.gix_pathspec.proofs.Asking.{parse, spec, spec_with, assigned}
+
+empty_text : parse [] ≡ Err Empty
+unfolding parse
+empty_text = refl
+
+colon_is_nil : parse (codes ":") ≡ Ok nil_spec
+unfolding parse
+colon_is_nil = refl
+
+two_colons : parse (codes "::") ≡ Ok (spec [] 0 ShellGlob)
+unfolding parse
+two_colons = refl
+
+comma_behind : parse (codes ":(top,)x") ≡ Ok (spec (codes "x") 1 ShellGlob)
+unfolding parse
+comma_behind = refl
+
+comma_before : parse (codes ":(,top)x") ≡ Ok (spec (codes "x") 1 ShellGlob)
+unfolding parse
+comma_before = refl
+
+two_commas : parse (codes ":(top,,icase)x") ≡ Ok (spec (codes "x") 3 ShellGlob)
+unfolding parse
+two_commas = refl
+
+bang_then_colon_then_long : parse (codes ":!:(top)x") ≡ Ok (spec (codes "x") 5 ShellGlob)
+unfolding parse
+bang_then_colon_then_long = refl
+
+no_close : parse (codes ":(top") ≡ Err (MissingParen (codes ":(top"))
+unfolding parse
+no_close = refl
+
+unknown_keyword : parse (codes ":(foo)x") ≡ Err (InvalidKeyword (codes "foo"))
+unfolding parse
+unknown_keyword = refl
+
+free_short : parse (codes ":#x") ≡ Err (UnimplementedShort 35)
+unfolding parse
+free_short = refl
+
+literal_then_glob : parse (codes ":(literal,glob)x") ≡ Err (LiteralWithGlob (codes "glob"))
+unfolding parse
+literal_then_glob = refl
+
+escaped_comma : parse (codes ":(attr:a=x\\,y)p") ≡ Ok (spec_with (codes "p") 0 ShellGlob (assigned (codes "a") (Value (codes "x,y")) ∷ []))
+unfolding parse
+escaped_comma = refl
+
+escaped_backslash : parse (codes ":(attr:a=x\\\\,y)p") ≡ Err (InvalidValueByte 92)
+unfolding parse
+escaped_backslash = refl
+
+body_begins_with_colon : parse (codes ":(attr:a=one b=):path") ≡ Ok (spec_with (codes ":path") 0 ShellGlob (assigned (codes "a") (Value (codes "one")) ∷ assigned (codes "b") (Value []) ∷ []))
+unfolding parse
+body_begins_with_colon = refl
+
+second_list : parse (codes ":(attr:a,attr:b)x") ≡ Err (SecondAttributes (codes "attr:b"))
+unfolding parse
+second_list = refl
+
+empty_list : parse (codes ":(attr:)x") ≡ Err EmptyAttributes
+unfolding parse
+empty_list = refl
+
+digit_name : parse (codes ":(attr:-1)x") ≡ Ok (spec_with (codes "x") 0 ShellGlob (assigned (codes "1") Unset ∷ []))
+unfolding parse
+digit_name = refl
+
+name_begins_with_dash : parse (codes ":(attr:--1)x") ≡ Err (InvalidName (codes "-1"))
+unfolding parse
+name_begins_with_dash = refl
+
+trailing_escape : parse (codes ":(attr:a=x\\)y") ≡ Err (TrailingEscape (codes "x\\"))
+unfolding parse
+trailing_escape = refl
+
+five_keywords_path : parse (codes ":(top,literal,icase,attr,exclude)some/path") ≡ Ok (spec (codes "some/path") 7 Literal)
+unfolding parse
+five_keywords_path = refl
+
+one_slash_is_stripped : parse (codes "a//") ≡ Ok (spec (codes "a/") 8 ShellGlob)
+unfolding parse
+one_slash_is_stripped = refl
+
+all_kinds : parse (codes ":(glob,top,attr:a -b !c d=v)p/") ≡ Ok (spec_with (codes "p") 9 PathAwareGlob (assigned (codes "a") Set ∷ assigned (codes "b") Unset ∷ assigned (codes "c") Unspecified ∷ assigned (codes "d") (Value (codes "v")) ∷ []))
+unfolding parse
+all_kinds = refl
+
+unspecified_with_value : parse (codes ":(attr:!a=b)x") ≡ Err (InvalidName (codes "a=b"))
+unfolding parse
+unspecified_with_value = refl
+
+equals_in_value : parse (codes ":(attr:a=b=c)x") ≡ Err (InvalidValueByte 61)
+unfolding parse
+equals_in_value = refl
+
+unset_name_with_value : parse (codes ":(attr:-x=\\)y") ≡ Err (InvalidName (codes "x=\\"))
+unfolding parse
+unset_name_with_value = refl
+
+empty_name : parse (codes ":(attr:=v)x") ≡ Ok (spec_with (codes "x") 0 ShellGlob (assigned [] (Value (codes "v")) ∷ []))
+unfolding parse
+empty_name = refl
+
+value_past_ascii : parse (58 ∷ 40 ∷ 97 ∷ 116 ∷ 116 ∷ 114 ∷ 58 ∷ 97 ∷ 61 ∷ 195 ∷ 169 ∷ 41 ∷ 120 ∷ []) ≡ Err (InvalidValueByte 195)
+unfolding parse
+value_past_ascii = refl
+
+attr_alone : parse (codes ":(attr)x") ≡ Ok (spec (codes "x") 0 ShellGlob)
+unfolding parse
+attr_alone = refl
+
+attr_list_is_unknown_with_space : parse (codes ":(attr :a)x") ≡ Err (InvalidKeyword (codes "attr :a"))
+unfolding parse
+attr_list_is_unknown_with_space = refl
+
+value_before_name : parse (codes ":(attr:a!=\\)x") ≡ Err (TrailingEscape (codes "\\"))
+unfolding parse
+value_before_name = refl
+
+glob_then_literal : parse (codes ":(glob,literal)x") ≡ Err (LiteralWithGlob (codes "literal"))
+unfolding parse
+glob_then_literal = refl
+
+glob_twice : parse (codes ":(glob,glob)x") ≡ Ok (spec (codes "x") 0 PathAwareGlob)
+unfolding parse
+glob_twice = refl
+
+first_fault_wins : parse (codes ":(foo,attr:)x") ≡ Err (InvalidKeyword (codes "foo"))
+unfolding parse
+first_fault_wins = refl
+
+short_repeats : parse (codes "://!!^x") ≡ Ok (spec (codes "x") 5 ShellGlob)
+unfolding parse
+short_repeats = refl
+
+paren_in_plain_body : parse (codes "(x") ≡ Ok (spec (codes "(x") 0 ShellGlob)
+unfolding parse
+paren_in_plain_body = refl
+
+paren_behind_other_byte : parse (codes ":x(y") ≡ Ok (spec (codes "x(y") 0 ShellGlob)
+unfolding parse
+paren_behind_other_byte = refl
+
+free_behind_slash : parse (codes ":/-x") ≡ Err (UnimplementedShort 45)
+unfolding parse
+free_behind_slash = refl
+
+free_behind_end_mark : parse (codes "::-x") ≡ Ok (spec (codes "-x") 0 ShellGlob)
+unfolding parse
+free_behind_end_mark = refl
+
+colon_behind_long : parse (codes ":():x") ≡ Ok (spec (codes ":x") 0 ShellGlob)
+unfolding parse
+colon_behind_long = refl
+
+close_in_body : parse (codes ":(top)a)b") ≡ Ok (spec (codes "a)b") 1 ShellGlob)
+unfolding parse
+close_in_body = refl
+
+comma_parity : long_pieces (codes "a\\,b\\\\,c\\\\\\,d,,e") ≡ ((codes "a\\,b\\\\") ∷ (codes "c\\\\\\,d") ∷ (codes "e") ∷ [])
+comma_parity = refl
+
+literal_default : reading (record { signature = record { 0 = 1 }; search_mode = ShellGlob; literal = true }) (codes ":(top)a/") ≡ Ok (spec (codes ":(top)a/") 1 Literal)
+unfolding reading
+literal_default = refl
+
+literal_default_empty : reading (record { signature = record { 0 = 0 }; search_mode = ShellGlob; literal = true }) [] ≡ Err Empty
+unfolding reading
+literal_default_empty = refl
+
+defaults_add : reading (record { signature = record { 0 = 2 }; search_mode = PathAwareGlob; literal = false }) (codes ":/a") ≡ Ok (spec (codes "a") 3 PathAwareGlob)
+unfolding parse
+defaults_add = refl
+
+nil_ignores_defaults : reading (record { signature = record { 0 = 2 }; search_mode = PathAwareGlob; literal = false }) (codes ":") ≡ Ok nil_spec
+unfolding parse
+nil_ignores_defaults = refl
+
+space_in_value_again : parse (codes ":(attr:a=x y)p") ≡ Ok (spec_with (codes "p") 0 ShellGlob (assigned (codes "a") (Value (codes "x")) ∷ assigned (codes "y") Set ∷ []))
+unfolding parse
+space_in_value_again = refl
+
+empty_parts : assignments_of (codes "  a   b ") ≡ Ok (assigned (codes "a") Set ∷ assigned (codes "b") Set ∷ [])
+unfolding assignments_of assignment_of
+empty_parts = refl
+
+only_spaces : assignments_of (codes " ") ≡ Ok []
+unfolding assignments_of assignment_of
+only_spaces = refl

@@ -1,0 +1,15 @@
+pub use Rattle.pathspec_parts.specs.Bytes
+pub use Rattle.pathspec_parts.specs.Paths
+pub use Rattle.pathspec_parts.specs.Attributes
+pub use Rattle.pathspec_parts.specs.Tokens
+pub use Rattle.pathspec_parts.specs.GlobRelation
+pub mod Results
+pub mod Faults
+pub mod Errors
+pub mod AttributeLists
+pub mod Signatures
+pub mod Specs
+pub mod Reading
+pub mod NormalForm
+pub mod Matching
+pub mod Patterns

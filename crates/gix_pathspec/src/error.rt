@@ -1,0 +1,120 @@
+//! Why a text is no pathspec, or a pathspec has no normal form.
+ghost use Rattle.std.specs.Prelude.{◌≡◌};
+ghost use Rattle.gix_pathspec.specs.Errors.{kind_of};
+
+use bstr::BStr;
+use thiserror::Error;
+
+/// Why a text is no pathspec, or a pathspec or the environment lies outside of what can be answered.
+#[derive(Debug, Drop, PartialEq, Eq, Error)]
+pub enum Error {
+    /// The text is empty.
+    #[error("an empty string is not a valid pathspec")]
+    Empty,
+    /// A byte of short magic that git keeps free for later.
+    #[error("unimplemented short keyword: {:?}", char::from(*.0))]
+    UnimplementedShort(u8),
+    /// Long magic without its closing parenthesis: the whole text.
+    #[error("missing ')' at the end of pathspec magic in {}", BStr::new(.0.as_slice()))]
+    MissingParen(Vec<u8>),
+    /// No keyword of long magic.
+    #[error("found an unknown keyword in long magic: {}", BStr::new(.0.as_slice()))]
+    InvalidKeyword(Vec<u8>),
+    /// `literal` behind `glob`, or the other way round: the second of them.
+    #[error("'literal' and 'glob' are incompatible: {}", BStr::new(.0.as_slice()))]
+    LiteralWithGlob(Vec<u8>),
+    /// A second list of attributes: its keyword.
+    #[error("only one attribute list is allowed: {}", BStr::new(.0.as_slice()))]
+    SecondAttributes(Vec<u8>),
+    /// `attr:` without a list.
+    #[error("attribute list is empty")]
+    EmptyAttributes,
+    /// No name of an attribute.
+    #[error("invalid attribute name: {}", BStr::new(.0.as_slice()))]
+    InvalidName(Vec<u8>),
+    /// A byte that no value of an attribute holds.
+    #[error("invalid byte in attribute value: {:?}", char::from(*.0))]
+    InvalidValueByte(u8),
+    /// A value that ends within an escape, as it is written.
+    #[error("escape at the end of attribute value: {}", BStr::new(.0.as_slice()))]
+    TrailingEscape(Vec<u8>),
+    /// An absolute path that doesn't lie in the root.
+    #[error("path is not inside of the repository: {}", BStr::new(.0.as_slice()))]
+    OutsideRoot(Vec<u8>),
+    /// A path that climbs out of the repository.
+    #[error("path leaves the repository: {}", BStr::new(.0.as_slice()))]
+    LeavesRepository(Vec<u8>),
+    /// No word of truth.
+    #[error("not a boolean: {}", BStr::new(.0.as_slice()))]
+    NotTruth(Vec<u8>),
+    /// Glob and no-glob are both asked for.
+    #[error("glob and no-glob settings are incompatible")]
+    GlobAndNoGlob,
+    /// Memory was wanted, and refused.
+    #[error("out of memory")]
+    Memory,
+}
+
+impl Error {
+    /// The variant's name, as in `UnimplementedShort`.
+    pub fn kind(&self) -> &'static str
+        ensures { result.now ≡ kind_of self.now }
+    {
+        match self {
+            Error::Empty => "Empty",
+            Error::UnimplementedShort(_) => "UnimplementedShort",
+            Error::MissingParen(_) => "MissingParen",
+            Error::InvalidKeyword(_) => "InvalidKeyword",
+            Error::LiteralWithGlob(_) => "LiteralWithGlob",
+            Error::SecondAttributes(_) => "SecondAttributes",
+            Error::EmptyAttributes => "EmptyAttributes",
+            Error::InvalidName(_) => "InvalidName",
+            Error::InvalidValueByte(_) => "InvalidValueByte",
+            Error::TrailingEscape(_) => "TrailingEscape",
+            Error::OutsideRoot(_) => "OutsideRoot",
+            Error::LeavesRepository(_) => "LeavesRepository",
+            Error::NotTruth(_) => "NotTruth",
+            Error::GlobAndNoGlob => "GlobAndNoGlob",
+            Error::Memory => "Memory",
+        }
+    }
+}
+
+#[cfg(test)]
+mod tests {
+    use super::*;
+    use std::alloc::{AllocError, Global};
+    use std::test::Fail;
+
+    fn text(alloc: Global, bytes: &str) -> Result<Vec<u8>, AllocError> {
+        Vec::from_slice(alloc, bytes.as_bytes())
+    }
+
+    #[test]
+    fn errors_have_a_kind_and_a_text(rt: HostRuntime) -> Result<(), Fail> {
+        let alloc = rt.alloc();
+        let rows = [
+            (Error::Empty, "Empty", "an empty string is not a valid pathspec"),
+            (Error::UnimplementedShort(b'#'), "UnimplementedShort", "unimplemented short keyword: '#'"),
+            (Error::MissingParen(text(alloc, ":(top")?), "MissingParen", "missing ')' at the end of pathspec magic in :(top"),
+            (Error::InvalidKeyword(text(alloc, "foo")?), "InvalidKeyword", "found an unknown keyword in long magic: foo"),
+            (Error::LiteralWithGlob(text(alloc, "glob")?), "LiteralWithGlob", "'literal' and 'glob' are incompatible: glob"),
+            (Error::SecondAttributes(text(alloc, "attr:b")?), "SecondAttributes", "only one attribute list is allowed: attr:b"),
+            (Error::EmptyAttributes, "EmptyAttributes", "attribute list is empty"),
+            (Error::InvalidName(text(alloc, "-1")?), "InvalidName", "invalid attribute name: -1"),
+            (Error::InvalidValueByte(b'\\'), "InvalidValueByte", "invalid byte in attribute value: '\\\\'"),
+            (Error::TrailingEscape(text(alloc, "x\\")?), "TrailingEscape", "escape at the end of attribute value: x\\"),
+            (Error::OutsideRoot(text(alloc, "/a")?), "OutsideRoot", "path is not inside of the repository: /a"),
+            (Error::LeavesRepository(text(alloc, "..")?), "LeavesRepository", "path leaves the repository: .."),
+            (Error::NotTruth(text(alloc, "maybe")?), "NotTruth", "not a boolean: maybe"),
+            (Error::GlobAndNoGlob, "GlobAndNoGlob", "glob and no-glob settings are incompatible"),
+            (Error::Memory, "Memory", "out of memory"),
+        ];
+        for (error, kind, line) in rows.iter() {
+            assert_eq!(rt; error.kind(), *kind);
+            let printed = error.to_string(alloc)?;
+            assert_eq!(rt; printed.as_str(), *line);
+        }
+        Ok(())
+    }
+}

@@ -1,0 +1,124 @@
+//! Whether a spec means a path, and how (gitglossary, "pathspec").
+ghost use Rattle.std.specs.Prelude.{◌≡◌, IsFalse, is_some, bytes_eq};
+ghost use Rattle.bstr.specs.BStr.{bstr_bytes};
+ghost use Rattle.pathspec_parts.specs.Bytes.{folded};
+ghost use Rattle.pathspec_parts.specs.Paths.{is_below};
+ghost use Rattle.pathspec_parts.specs.Attributes.{Table};
+ghost use Rattle.gix_pathspec.specs.Specs.{has_wildcard, ignores_case};
+ghost use Rattle.gix_pathspec.specs.Matching.{fit, means, is_verbatim, is_prefixed};
+ghost use Rattle.gix_pathspec.specs.Patterns.{pattern_spec};
+
+use crate::search::MatchKind;
+use crate::{MagicSignature, Pattern};
+use bitflags::Flags;
+use bstr::BStr;
+
+/// How a pattern without wildcards means a path that isn't empty and is a directory or a file, if it does:
+/// always, or since the path is the pattern's or lies below it.
+///
+/// It looks at each byte of the pattern's path at most once, and takes no memory.
+pub fn match_kind(pattern: &Pattern, path: BStr<'_>, is_dir: bool) -> Option<MatchKind>
+    requires { IsFalse (has_wildcard (pattern_spec pattern.now)) }
+    ensures kind { result ≡ fit (pattern_spec pattern.now) (bstr_bytes path.entry) is_dir }
+    ensures means { (table : Table) → is_some result ≡ means table (pattern_spec pattern.now) (bstr_bytes path.entry) is_dir }
+{
+    if pattern.always_matches() {
+        Some(MatchKind::Always)
+    } else if is_verbatim(pattern, path, is_dir) {
+        Some(MatchKind::Verbatim)
+    } else if is_prefixed(pattern, path) {
+        Some(MatchKind::Prefix)
+    } else {
+        None
+    }
+}
+
+/// Whether the path is the pattern's, and a directory where the pattern wants one.
+fn is_verbatim(pattern: &Pattern, path: BStr<'_>, is_dir: bool) -> bool
+    ensures { result ≡ is_verbatim (pattern_spec pattern.now) (bstr_bytes path.entry) is_dir }
+{
+    let takes_kind = is_dir || !pattern.signature.contains(MagicSignature::MUST_BE_DIR);
+    takes_kind && is_same(path.as_bytes(), pattern.path.as_slice(), ignores_case(pattern))
+}
+
+/// Whether the path lies below the pattern's.
+fn is_prefixed(pattern: &Pattern, path: BStr<'_>) -> bool
+    ensures { result ≡ is_prefixed (pattern_spec pattern.now) (bstr_bytes path.entry) }
+{
+    is_below(path.as_bytes(), pattern.path.as_slice(), ignores_case(pattern))
+}
+
+/// Whether ASCII case doesn't count for the pattern.
+fn ignores_case(pattern: &Pattern) -> bool
+    ensures { result ≡ ignores_case (pattern_spec pattern.now) }
+{
+    pattern.signature.contains(MagicSignature::ICASE)
+}
+
+/// Whether two texts are one, up to ASCII case where it doesn't count.
+fn is_same(left: &[u8], right: &[u8], ignore_case: bool) -> bool
+    ensures { result ≡ bytes_eq (folded ignore_case left.now) (folded ignore_case right.now) }
+{
+    if ignore_case {
+        left.eq_ignore_ascii_case(right)
+    } else {
+        left == right
+    }
+}
+
+/// Whether a path begins with a directory's path and a slash, up to ASCII case where it doesn't count.
+fn is_below(path: &[u8], directory: &[u8], ignore_case: bool) -> bool
+    ensures { result ≡ is_below (folded ignore_case path.now) (folded ignore_case directory.now) }
+{
+    let n = directory.len();
+    if n < path.len() && path[n] == b'/' {
+        is_same(directory, &path[..n], ignore_case)
+    } else {
+        false
+    }
+}
+
+#[cfg(test)]
+mod tests {
+    use super::*;
+    use crate::{Defaults, parse};
+    use std::test::Fail;
+
+    #[test]
+    fn specs_mean_paths_in_three_ways(rt: HostRuntime) -> Result<(), Fail> {
+        let rows = [
+            ("dir", "dirt", false, None),
+            ("dir", "dir/a", false, Some(MatchKind::Prefix)),
+            ("dir", "dir", false, Some(MatchKind::Verbatim)),
+            ("dir", "DIR", false, None),
+            ("dir", "di", false, None),
+            ("dir/", "dir", false, None),
+            ("dir/", "dir", true, Some(MatchKind::Verbatim)),
+            ("dir/", "dir/a", false, Some(MatchKind::Prefix)),
+            (":!a", "a/x", false, Some(MatchKind::Prefix)),
+            (":", "q", false, Some(MatchKind::Always)),
+            ("::", "q", true, Some(MatchKind::Always)),
+        ];
+        for (text, path, is_dir, want) in rows {
+            assert!(rt; !parse::has_long_magic(text.as_bytes()), "{text}");
+            let pattern = parse::parse(rt.alloc(), text.as_bytes(), Defaults::default())?;
+            assert!(rt; !pattern.has_wildcard(), "{text}");
+            assert_eq!(rt; match_kind(&pattern, BStr::new(path.as_bytes()), is_dir), want, "{text} on {path}");
+        }
+        Ok(())
+    }
+
+    #[test]
+    fn case_may_not_count(rt: HostRuntime) -> Result<(), Fail> {
+        let pattern = Pattern::from_literal(rt.alloc(), b"Ab/C", MagicSignature::ICASE)?;
+        assert!(rt; !pattern.has_wildcard());
+        let rows = [("aB/c", Some(MatchKind::Verbatim)), ("AB/c/D", Some(MatchKind::Prefix)), ("ab/cc", None)];
+        for (path, want) in rows {
+            assert_eq!(rt; match_kind(&pattern, BStr::new(path.as_bytes()), false), want, "{path}");
+        }
+        assert!(rt; MatchKind::Always < MatchKind::Prefix);
+        assert!(rt; MatchKind::Prefix < MatchKind::WildcardMatch);
+        assert!(rt; MatchKind::WildcardMatch < MatchKind::Verbatim);
+        Ok(())
+    }
+}

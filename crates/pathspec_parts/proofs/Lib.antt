@@ -1,0 +1,4 @@
+pub mod ComponentProofs
+mod Asking
+mod GlobRows
+mod PathRows

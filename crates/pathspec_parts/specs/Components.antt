@@ -1,0 +1,8 @@
+-- What an iterator over the components of a path still gives.
+use Rattle.std.specs.Prelude.{ℕ, List}
+use Rattle.pathspec_parts.specs.declared.path.iter.Components.{Components as Left}
+use Rattle.pathspec_parts.specs.Paths.{components}
+
+-- the components of what is left of the path
+abbrev pub components_left : Left → List (List ℕ)
+components_left it = components it.rest.now

@@ -1,0 +1,6 @@
+pub mod Bytes
+pub mod Paths
+pub mod Components
+pub mod Attributes
+pub mod Tokens
+pub mod GlobRelation

@@ -1,0 +1,7 @@
+//! The parts that pathspecs are made of: paths, attributes, globs.
+#![tactic(auto)]
+
+pub mod attributes;
+pub mod glob;
+pub mod path;
+pub mod split;

@@ -1,0 +1,52 @@
+//! The iterator over the components of a path.
+ghost use Rattle.std.specs.Prelude.{◌≡◌};
+ghost use Rattle.std.specs.Iterator.{YieldsFirstBy, item_count};
+ghost use Rattle.bstr.specs.BStr.{bstr_bytes};
+ghost use Rattle.pathspec_parts.specs.Paths.{components, is_component};
+ghost use Rattle.pathspec_parts.specs.Components.{components_left};
+
+use crate::split;
+use bstr::BStr;
+
+/// The components of a path, as [`components`](crate::path::components) gives them.
+#[derive(Clone, Copy, Debug)]
+pub struct Components<'a> {
+    rest: &'a [u8],
+}
+
+impl<'a> Components<'a> {
+    /// The components of this path.
+    pub(crate) fn new(path: BStr<'a>) -> Components<'a>
+        ensures { components_left result ≡ components (bstr_bytes path.entry) }
+    {
+        Components {
+            rest: path.as_bytes(),
+        }
+    }
+}
+
+impl<'a> Iterator for Components<'a> {
+    type Item = BStr<'a>;
+
+    ghost next_gives = { YieldsFirstBy bstr_bytes components_left };
+
+    ghost remaining = { item_count components_left };
+
+    fn next(&mut self) -> Option<BStr<'a>> {
+        while !self.rest.is_empty() {
+            let (piece, rest) = split::at_first(self.rest, b'/');
+            self.rest = rest;
+            if is_component(piece) {
+                return Some(BStr::new(piece));
+            }
+        }
+        None
+    }
+}
+
+/// Whether a piece between slashes is a component.
+fn is_component(piece: &[u8]) -> bool
+    ensures { result ≡ is_component piece.now }
+{
+    !piece.is_empty() && piece != b".".as_slice()
+}

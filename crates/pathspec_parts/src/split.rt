@@ -1,0 +1,43 @@
+//! Byte strings, cut in two.
+ghost use Rattle.std.specs.Prelude.{◌≡◌, ◌==◌};
+ghost use Rattle.std.specs.List.{before_first, after_first, position};
+
+/// What stands before the first such byte and what stands behind it; where there is none, all and nothing.
+///
+/// It looks at each byte up to that one.
+pub fn at_first(bytes: &[u8], byte: u8) -> (&[u8], &[u8])
+    ensures before { result.0.now ≡ before_first (λ b. b == byte) bytes.now }
+    ensures behind { result.1.now ≡ after_first (λ b. b == byte) bytes.now }
+{
+    match place_of(bytes, byte) {
+        Some(at) => (&bytes[..at], &bytes[at + 1..]),
+        None => (bytes, &[]),
+    }
+}
+
+/// The place of the first such byte.
+fn place_of(bytes: &[u8], byte: u8) -> Option<usize>
+    ensures { result ≡ position (λ b. b == byte) bytes.now }
+{
+    bytes.iter().position(|it| *it == byte)
+}
+
+#[cfg(test)]
+mod tests {
+    use super::*;
+
+    #[test]
+    fn bytes_are_cut_at_the_first(rt: HostRuntime) {
+        for (bytes, front, rest) in [
+            ("", "", ""),
+            ("a", "a", ""),
+            ("/", "", ""),
+            ("a/b/c", "a", "b/c"),
+            ("//", "", "/"),
+        ] {
+            let (before, behind) = at_first(bytes.as_bytes(), b'/');
+            assert_eq!(rt; before, front.as_bytes(), "{bytes}");
+            assert_eq!(rt; behind, rest.as_bytes(), "{bytes}");
+        }
+    }
+}

@@ -1,0 +1,61 @@
+-- Whether a path is chosen by a list of patterns, and what is written record by record.
+use Rattle.std.proofs.Common.{◌≡◌, ℕ, Bool, true, false, not, ◌&&◌, ◌||◌, refl, sym, ◌∙◌, ap, List, [], ◌∷◌, ◌++◌, map, append_assoc}
+use Rattle.std.proofs.lemmas.List.{append-nil}
+use Rattle.std.specs.List.{list_any}
+use Rattle.pathspec_parts.specs.Attributes.{Table}
+use Rattle.gix_pathspec.specs.declared.pattern.Pattern.{Pattern}
+use Rattle.gix_pathspec.specs.Specs.{Spec, is_exclude, is_include}
+use Rattle.gix_pathspec.specs.Matching.{means, chosen}
+use Rattle.gix_pathspec.specs.Patterns.{pattern_spec}
+use Rattle.pathspec_select.specs.Listing.{output, record_path, record_is_dir}
+
+list_any-map : {X Y : Type 0} (view : X → Y) (test : Y → Bool) (xs : List X) → list_any test (map view xs) ≡ list_any (λ x. test (view x)) xs
+list_any-map view test [] = refl
+list_any-map view test (x ∷ xs) = ap (λ b. test (view x) || b) (list_any-map view test xs)
+
+module _ (table : Table) (ps : List Pattern) (path : List ℕ) (is_dir : Bool) where
+  -- some exclude means the path
+  abbrev pub out : Bool
+  out = list_any (λ p. is_exclude (pattern_spec p) && means table (pattern_spec p) path is_dir) ps
+
+  -- some include does
+  abbrev pub into : Bool
+  into = list_any (λ p. is_include (pattern_spec p) && means table (pattern_spec p) path is_dir) ps
+
+  chosen-is : chosen table (map pattern_spec ps) path is_dir ≡ (not out && (into || not (list_any (λ p. is_include (pattern_spec p)) ps)))
+  unfolding chosen
+  chosen-is = rw (list_any-map pattern_spec (λ s. is_exclude s && means table s path is_dir) ps, list_any-map pattern_spec (λ s. is_include s && means table s path is_dir) ps, list_any-map pattern_spec is_include ps) refl
+
+  pub chosen-out : out ≡ true → chosen table (map pattern_spec ps) path is_dir ≡ false
+  chosen-out o = chosen-is ∙ (rw o refl)
+
+  pub chosen-into : out ≡ false → into ≡ true → chosen table (map pattern_spec ps) path is_dir ≡ true
+  chosen-into o i = chosen-is ∙ (rw (o, i) refl)
+
+  pub chosen-neither : out ≡ false → into ≡ false → chosen table (map pattern_spec ps) path is_dir ≡ not (list_any (λ p. is_include (pattern_spec p)) ps)
+  chosen-neither o i = chosen-is ∙ (rw (o, i) refl)
+
+-- ---- what is written
+
+module _ (table : Table) (specs : List Spec) (separator : ℕ) (all written : List ℕ) where
+  -- a chosen record is written
+  pub output-chosen : (r : List ℕ) (rs left : List (List ℕ)) (body more : List ℕ) → written ++ output table specs separator left ≡ all → left ≡ r ∷ rs → chosen table specs (record_path r) (record_is_dir r) ≡ true → body ≡ written ++ r → more ≡ body ++ separator ∷ []
+      → more ++ output table specs separator rs ≡ all
+  unfolding output
+  output-chosen r rs left body more so_far l c b m =
+      let rest = output table specs separator rs in
+      let first : output table specs separator left ≡ (r ++ separator ∷ []) ++ output table specs separator rs = rw (l, c) refl in
+      let whole = ap (λ t. written ++ t) (sym (append_assoc r (separator ∷ []) rest) ∙ sym first) ∙ so_far in
+      rw (m, b) (append_assoc (written ++ r) (separator ∷ []) rest ∙ (append_assoc written r (separator ∷ rest) ∙ whole))
+
+  -- another isn't
+  pub output-skipped : (r : List ℕ) (rs left : List (List ℕ)) → written ++ output table specs separator left ≡ all → left ≡ r ∷ rs → chosen table specs (record_path r) (record_is_dir r) ≡ false → written ++ output table specs separator rs ≡ all
+  unfolding output
+  output-skipped r rs left so_far l c =
+      let same : output table specs separator left ≡ output table specs separator rs = rw (l, c) refl in
+      ap (λ t. written ++ t) (sym same) ∙ so_far
+
+  -- no record is left
+  pub output-ends : (left : List (List ℕ)) → written ++ output table specs separator left ≡ all → left ≡ [] → written ≡ all
+  unfolding output
+  output-ends left so_far l = sym (append-nil written) ∙ (rw l at so_far)

@@ -1,0 +1,113 @@
+-- Specs read and resolved one behind the other, and the first fault.
+use Rattle.std.proofs.Common.{◌≡◌, ℕ, ◌+◌, ◌<◌, ◌≤◌, Bool, true, false, refl, sym, ◌∙◌, ap, List, [], ◌∷◌, ◌++◌, length, take, drop, map, get_or, Some, None, Option, Ok, Err, Result, IfOk, IfErr, IfSome, MatchOption, MatchResult, arith, append_assoc}
+use Rattle.std.proofs.lemmas.List.{append-nil, map-append, nil_from_length, length-drop}
+use Rattle.std.proofs.Math.Seq.{drop-cons}
+use Rattle.std.proofs.Math.Numerals.{add-one}
+use Rattle.gix_pathspec.specs.declared.error.Error.{Error}
+use Rattle.gix_pathspec.specs.Results.{◌>>=◌}
+use Rattle.gix_pathspec.specs.Faults.{Fault}
+use Rattle.gix_pathspec.specs.Errors.{fault_of}
+use Rattle.gix_pathspec.specs.declared.SearchMode.{SearchMode}
+use Rattle.gix_pathspec.specs.declared.SearchMode.TheVariants.{ShellGlob}
+use Rattle.gix_pathspec.specs.declared.defaults.Defaults.{Defaults}
+use Rattle.gix_pathspec.specs.Signatures.{signature_bits}
+use Rattle.gix_pathspec.specs.Reading.{reading, no_defaults, has_long_magic}
+use Rattle.pathspec_select.specs.declared.refusal.Refusal.{Refusal}
+use Rattle.pathspec_select.specs.declared.refusal.Refusal.TheVariants as refusal
+use Rattle.pathspec_select.specs.Words.{SpecFault, WordFault, or_faulty, at_number, each_from, said, meant, spec_words, specs_of_words}
+use Rattle.gix_pathspec.specs.Specs.{Spec}
+use Rattle.std.proofs.lemmas.Grind.{common_steps}
+use Rattle.pathspec_select.specs.Refusals.{TellsWords}
+
+-- ---- one spec
+
+-- the refusal for an error tells the error's fault
+pub tells-refused : {A : Type 0} (number : ℕ) (e : Error) (r : Refusal) (x : Result A Fault) (step : Result A SpecFault) → step ≡ or_faulty x → IfSome (fault_of e) (λ fault. x ≡ Err fault)
+    → MatchOption (fault_of e) (r ≡ refusal.Memory) (λ fault. r ≡ refusal.Spec number e) → TellsWords r (λ fault. at_number number step ≡ Err fault)
+tells-refused number e r x step s h m = by_fault (fault_of e) refl h m
+  where
+    by_fault : (o : Option Fault) → fault_of e ≡ o → IfSome o (λ fault. x ≡ Err fault) → MatchOption o (r ≡ refusal.Memory) (λ fault. r ≡ refusal.Spec number e) → TellsWords r (λ fault. at_number number step ≡ Err fault)
+    by_fault None q h m = rw m tt
+    by_fault (Some fault) q h m = rw m (fault, q, rw (s, h) refl)
+
+-- defaults that ask for nothing
+abbrev defaults_of : ℕ → SearchMode → Bool → Defaults
+defaults_of bits mode literal = record { signature = record { 0 = bits }; search_mode = mode; literal = literal }
+
+pub no_defaults-is : (d : Defaults) → signature_bits d.signature ≡ 0 → d.search_mode ≡ ShellGlob → d.literal ≡ false → d ≡ no_defaults
+no_defaults-is d s m l = ap (λ bits. defaults_of bits d.search_mode d.literal) s ∙ (ap (λ mode. defaults_of 0 mode d.literal) m ∙ ap (λ literal. defaults_of 0 ShellGlob literal) l)
+
+-- what a word without long magic says
+pub said-is : (word text : List ℕ) (d : Defaults) → text ≡ word → d ≡ no_defaults → has_long_magic text ≡ false → said word ≡ or_faulty (reading d text)
+said-is word text d t e h = rw (← t, h, e) refl
+
+-- ---- one behind the other
+
+-- values and those that are still to come
+abbrev pub onto : {B E : Type 0} → List B → Result (List B) E → Result (List B) E
+onto ys (Ok zs) = Ok (ys ++ zs)
+onto ys (Err e) = Err e
+
+onto-snoc : {B E : Type 0} (ys : List B) (y : B) (r : Result (List B) E) → onto ys (r >>= λ zs. Ok (y ∷ zs)) ≡ onto (ys ++ y ∷ []) r
+onto-snoc ys y (Ok zs) = ap Ok (sym (append_assoc ys (y ∷ []) zs))
+onto-snoc ys y (Err e) = refl
+
+pub onto-nothing : {B E : Type 0} (r : Result (List B) E) → onto [] r ≡ r
+onto-nothing (Ok zs) = refl
+onto-nothing (Err e) = refl
+
+module _ {S A B : Type 0} (view : S → A) (step : A → Result B SpecFault) (xs : List S) (n : ℕ) (ys : List B) (all : Result (List B) WordFault) (so_far : all ≡ onto ys (each_from n step (map view (drop n xs)))) where
+  here : (x : S) → n < length xs → x ≡ get_or xs n x → all ≡ onto ys (each_from n step (view x ∷ map view (drop (n + 1) xs)))
+  here x l e =
+      let cut : drop n xs ≡ x ∷ drop (n + 1) xs = drop-cons xs n x l ∙ (rw (← e, add-one) refl) in
+      so_far ∙ (rw cut refl)
+
+  -- the next step gives a value
+  pub each-more : (x : S) (y : B) (zs : List B) → n < length xs → x ≡ get_or xs n x → step (view x) ≡ Ok y → ys ++ y ∷ [] ≡ zs → all ≡ onto zs (each_from (n + 1) step (map view (drop (n + 1) xs)))
+  each-more x y zs l e s z = here x l e ∙ (rw s (onto-snoc ys y (each_from (n + 1) step (map view (drop (n + 1) xs))) ∙ ap (λ front. onto front (each_from (n + 1) step (map view (drop (n + 1) xs)))) z))
+
+  -- the next step is at fault
+  pub each-fails : (x : S) (fault : WordFault) → n < length xs → x ≡ get_or xs n x → at_number n (step (view x)) ≡ Err fault → all ≡ Err fault
+  each-fails x fault l e s = here x l e ∙ (rw s refl)
+
+  -- no step is left
+  pub each-ends : length xs ≤ n → all ≡ Ok ys
+  each-ends l =
+      let none : drop n xs ≡ [] = nil_from_length (drop n xs) (length-drop n xs ∙ omega arith) in
+      so_far ∙ (rw none (ap Ok (append-nil ys)))
+
+-- one more value is pushed
+pub pushed : {X B : Type 0} (view : X → B) (items more : List X) (x : X) → more ≡ items ++ x ∷ [] → map view items ++ view x ∷ [] ≡ map view more
+pushed view items more x e = rw (e, map-append) refl
+
+-- a refusal that tells one fault tells another where the one is the other
+pub tells-on : (r : Refusal) (P Q : WordFault → Type 0) → ((fault : WordFault) → P fault → Q fault) → TellsWords r P → TellsWords r Q
+tells-on refusal.Usage P Q f h = f WordFault.Usage h
+tells-on (refusal.Spec number e) P Q f h = (h.0, h.1, f (WordFault.InSpec number (SpecFault.Faulty h.0)) h.2)
+tells-on (refusal.Unsupported number) P Q f h = f (WordFault.InSpec number SpecFault.Unsupported) h
+tells-on refusal.Read P Q f h = h
+tells-on (refusal.Line number) P Q f h = h
+tells-on refusal.Write P Q f h = h
+tells-on refusal.Memory P Q f h = h
+
+-- ---- all words
+
+module _ (words : List (List ℕ)) where
+  -- the options are at fault
+  pub words-options : (fault : WordFault) → spec_words words ≡ Err fault → specs_of_words words ≡ Err fault
+  unfolding specs_of_words
+  words-options fault o = rw o refl
+
+  -- a spec is at fault where it is read
+  pub words-read : (texts : List (List ℕ)) (fault : WordFault) → spec_words words ≡ Ok texts → each_from 0 said texts ≡ Err fault → specs_of_words words ≡ Err fault
+  unfolding specs_of_words
+  words-read texts fault o r = rw (o, r) refl
+
+  -- all are read
+  pub words-resolved : (texts : List (List ℕ)) (specs : List Spec) (end : Result (List Spec) WordFault) → spec_words words ≡ Ok texts → each_from 0 said texts ≡ Ok specs → each_from 0 meant specs ≡ end → specs_of_words words ≡ end
+  unfolding specs_of_words
+  words-resolved texts specs end o r m = rw (o, r) m
+
+-- a slice written back whole
+pub written_back : {X : Type 0} (new old : List X) (n : ℕ) → n ≡ length new → take n (new ++ drop (length new) old) ≡ new
+written_back new old n e = grind (arith, common_steps)

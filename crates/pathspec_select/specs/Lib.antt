@@ -1,0 +1,16 @@
+pub use Rattle.gix_pathspec.specs.Bytes
+pub use Rattle.gix_pathspec.specs.Paths
+pub use Rattle.gix_pathspec.specs.Attributes
+pub use Rattle.gix_pathspec.specs.Results
+pub use Rattle.gix_pathspec.specs.Faults
+pub use Rattle.gix_pathspec.specs.Errors
+pub use Rattle.gix_pathspec.specs.Specs
+pub use Rattle.gix_pathspec.specs.Reading
+pub use Rattle.gix_pathspec.specs.NormalForm
+pub use Rattle.gix_pathspec.specs.Matching
+pub use Rattle.gix_pathspec.specs.Patterns
+pub mod Listing
+pub mod Records
+pub mod Words
+pub mod Refusals
+pub mod Program

@@ -1,0 +1,64 @@
+-- Listings of paths, and what the program writes.
+use Rattle.std.specs.Prelude.{ℕ, Bool, true, false, ◌&&◌, ◌||◌, List, [], ◌∷◌, ◌++◌, map, filter, flat_map, bytes_eq, ◌==◌, if◌then◌else◌, Option}
+use Rattle.std.specs.List.{slice_split, position_from}
+use Rattle.pathspec_parts.specs.Bytes.{slash, is_empty, first_is, begins_with}
+use Rattle.pathspec_parts.specs.Paths.{is_slash, ends_with_slash, without_last_slash}
+use Rattle.pathspec_parts.specs.Attributes.{State, Assignment, Table}
+use Rattle.pathspec_parts.specs.Attributes.State.{Unspecified}
+use Rattle.gix_pathspec.specs.Specs.{Spec}
+use Rattle.gix_pathspec.specs.Matching.{chosen}
+
+-- ---- records
+
+-- without the last part, where that is empty
+abbrev pub without_empty_end : List (List ℕ) → List (List ℕ)
+without_empty_end [] = []
+without_empty_end (x ∷ []) = if is_empty x then [] else x ∷ []
+without_empty_end (x ∷ y ∷ xs) = x ∷ without_empty_end (y ∷ xs)
+
+-- Records end with the separator, which the last may lack.
+abbrev pub records : ℕ → List ℕ → List (List ℕ)
+records separator bytes = without_empty_end (slice_split (λ b. b == separator) bytes)
+
+-- a record that ends with a slash is a directory
+abbrev pub record_is_dir : List ℕ → Bool
+record_is_dir r = ends_with_slash r
+
+-- a record without its last slash
+abbrev pub record_path : List ℕ → List ℕ
+record_path r = without_last_slash r
+
+-- a slash with a slash behind it
+abbrev pub holds_two_slashes : List ℕ → Bool
+holds_two_slashes [] = false
+holds_two_slashes (b ∷ bs) = is_slash b && first_is is_slash bs || holds_two_slashes bs
+
+-- A record is bad where it is empty, begins with a slash or holds two in a row.
+abbrev pub is_bad : List ℕ → Bool
+is_bad r = is_empty r || begins_with r (slash ∷ []) || holds_two_slashes r
+
+-- the number of the first bad record, from 1
+abbrev pub first_bad : List (List ℕ) → Option ℕ
+first_bad rs = position_from is_bad 1 rs
+
+-- ---- what is written
+
+-- What is written for a listing: each chosen record with one separator behind it.
+unfoldable pub output : Table → List Spec → ℕ → List (List ℕ) → List ℕ
+output table specs separator rs = flat_map (λ r. r ++ separator ∷ []) (filter (λ r. chosen table specs (record_path r) (record_is_dir r)) rs)
+
+-- ---- the look-up of rows
+
+-- attributes that are set for a path
+pub record Row : Type 0 where
+  pub path : List ℕ
+  pub assignments : List Assignment
+
+-- the state of a name after assignments in their order, from this one on
+abbrev pub state_after : State → List Assignment → List ℕ → State
+state_after state [] name = state
+state_after state (a ∷ rest) name = state_after (if bytes_eq a.name name then a.state else state) rest name
+
+-- Each row whose path is the question's sets its assignments, in order; the answer is always found.
+abbrev pub table_of : List Row → Table
+table_of rows q = record { found = true; states = map (state_after Unspecified (flat_map (λ row. row.assignments) (filter (λ row. bytes_eq row.path q.path) rows))) q.names }

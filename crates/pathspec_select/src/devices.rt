@@ -1,0 +1,55 @@
+//! Reading to the end and writing to the end. A call that is interrupted has failed, and isn't made again.
+ghost use Rattle.std.specs.Prelude.{◌≡◌, IfOk, IfErr, IfSome, OnOk, OnErr};
+ghost use Rattle.std.specs.Io.KnownBytes.{Appends};
+ghost use Rattle.pathspec_select.specs.Refusals.{IsOfReading};
+ghost use Rattle.pathspec_select.specs.Program.{AppendsFront};
+
+use crate::Refusal;
+use std::alloc::Global;
+use std::io::{Read, Write};
+
+const CHUNK: usize = 65536;
+
+/// All bytes that a reader has left. It takes at most two and a half times as much memory as it reads.
+///
+/// # Errors
+/// [`Refusal::Read`] where a read fails, [`Refusal::Memory`].
+pub(crate) fn read_to_end<R: Read>(alloc: Global, reader: &mut R) -> Result<Vec<u8>, Refusal>
+    ensures ok { IfOk result (λ bytes. IfSome (R.remaining reader.old) (λ input. bytes.items ≡ input)) }
+    ensures err { IfErr result IsOfReading }
+{
+    let mut bytes = Vec::new(alloc);
+    let mut chunk = [0u8; CHUNK];
+    loop {
+        let n = match reader.read(&mut chunk) {
+            Ok(n) => n,
+            Err(_) => return Err(Refusal::Read),
+        };
+        if n == 0 {
+            return Ok(bytes);
+        }
+        if bytes.extend_from_slice(&chunk[..n]).is_err() {
+            return Err(Refusal::Memory);
+        }
+    }
+}
+
+/// Writes all bytes.
+///
+/// # Errors
+/// [`Refusal::Write`] where a write fails or takes no byte; a beginning of the bytes is then written.
+pub(crate) fn write_whole<W: Write>(writer: &mut W, bytes: &[u8]) -> Result<(), Refusal>
+    ensures ok { OnOk result (Appends (W.contents writer.old) (W.contents writer.new) bytes.now) }
+    ensures err { IfErr result (λ e. e ≡ Refusal.Write) }
+    ensures begun { OnErr result (AppendsFront (W.contents writer.old) (W.contents writer.new) bytes.now) }
+{
+    let mut rest = bytes;
+    while !rest.is_empty() {
+        match writer.write(rest) {
+            Ok(0) => return Err(Refusal::Write),
+            Ok(n) => rest = &rest[n..],
+            Err(_) => return Err(Refusal::Write),
+        }
+    }
+    Ok(())
+}

@@ -1,0 +1,47 @@
+//! Why the program ends without having done all.
+ghost use Rattle.std.specs.Prelude.{◌≡◌};
+
+use gix_pathspec::Error;
+
+/// Why the program ends without having done all. Its text is the line for standard error.
+#[derive(Debug, Drop, PartialEq, Eq, thiserror::Error)]
+pub enum Refusal {
+    /// An option is unknown, or lacks its argument.
+    #[error("usage: pathspec-select [-z] [--prefix P] [--root R] [--attr PATH LIST]... [--] [SPEC...]")]
+    Usage,
+    /// A spec is at fault; specs are numbered from 0.
+    #[error("spec {}: {}", .0, .1.kind())]
+    Spec(usize, Error),
+    /// A spec is of a kind that isn't read or matched yet; specs are numbered from 0.
+    #[error("spec {0}: Unsupported")]
+    Unsupported(usize),
+    /// A read failed.
+    #[error("read")]
+    Read,
+    /// A record is empty, begins with `/` or holds `//`; records are numbered from 1.
+    #[error("line {0}")]
+    Line(usize),
+    /// A write failed, or took no byte.
+    #[error("write")]
+    Write,
+    /// Memory was wanted, and refused.
+    #[error("memory")]
+    Memory,
+}
+
+impl Refusal {
+    ghost use Rattle.pathspec_select.specs.Refusals.{status_of};
+
+    /// The exit status.
+    pub fn status(&self) -> u8
+        ensures { result ≡ status_of self.now }
+    {
+        match self {
+            Refusal::Usage => 2,
+            Refusal::Spec(..) | Refusal::Unsupported(_) => 3,
+            Refusal::Line(_) => 4,
+            Refusal::Read | Refusal::Write => 5,
+            Refusal::Memory => 6,
+        }
+    }
+}

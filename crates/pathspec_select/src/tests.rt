@@ -1,0 +1,287 @@
+//! Runs of the whole program, over readers and writers that serve and that fail.
+use crate::{Environment, Refusal, run};
+use std::alloc::{AllocError, Global};
+use std::io::{self, ErrorKind, Read, Write};
+use std::test::Fail;
+
+/// What a run left: its status, the line of its refusal, and what was written.
+#[derive(Drop)]
+struct Ending {
+    status: u8,
+    line: String,
+    written: Vec<u8>,
+}
+
+const USAGE: &str = "usage: pathspec-select [-z] [--prefix P] [--root R] [--attr PATH LIST]... [--] [SPEC...]";
+
+fn no_environment() -> Environment {
+    Environment {
+        literal: None,
+        icase: None,
+        glob: None,
+        noglob: None,
+    }
+}
+
+/// The words of a line, between spaces.
+fn words_of(alloc: Global, line: &str) -> Result<Vec<String>, AllocError> {
+    let mut words = Vec::new(alloc);
+    for word in line.split_whitespace() {
+        words.push(String::from_str(alloc, word)?)?;
+    }
+    Ok(words)
+}
+
+fn status_of(outcome: &Result<(), Refusal>) -> u8 {
+    match outcome {
+        Ok(()) => 0,
+        Err(refusal) => refusal.status(),
+    }
+}
+
+fn line_of(alloc: Global, outcome: &Result<(), Refusal>) -> Result<String, AllocError> {
+    match outcome {
+        Ok(()) => Ok(String::new(alloc)),
+        Err(refusal) => refusal.to_string(alloc),
+    }
+}
+
+fn ended(alloc: Global, words: &str, listing: &[u8]) -> Result<Ending, AllocError> {
+    let words = words_of(alloc, words)?;
+    let mut reader = listing;
+    let mut written = Vec::new(alloc);
+    let outcome = run(alloc, words.as_slice(), &no_environment(), &mut reader, &mut written);
+    Ok(Ending {
+        status: status_of(&outcome),
+        line: line_of(alloc, &outcome)?,
+        written,
+    })
+}
+
+#[test]
+fn chosen_records_are_written(rt: HostRuntime) -> Result<(), Fail> {
+    let rows = [
+        ("a/b", "a/\na/b\nc/\nc/d\n", "a/b\n"),
+        (".", "a/\na/b\nc/\nc/d\n", "a/\na/b\nc/\nc/d\n"),
+        ("a :!a/x", "a/x\na/y\nab\n", "a/y\n"),
+        (":!a/x a", "a/x\na/y\nab\n", "a/y\n"),
+        (":!a", "a\nb\n", "b\n"),
+        (":/b ./c", "b\na/b\nc\n", "b\nc\n"),
+        ("", "", ""),
+        ("", "b\na/\na", "b\na/\na\n"),
+        ("a", "a", "a\n"),
+        ("a/", "a\na/\na/x\nab/\n", "a/\na/x\n"),
+        ("a :!a", "a\na/b\n", ""),
+        ("b a", "a\nb\na\nc\n", "a\nb\na\n"),
+        (": :^b", "a\nb\n", "a\n"),
+        ("-- -x", "-x\nx\n", "-x\n"),
+        ("-- --", "--\na\n", "--\n"),
+        ("a -- -z", "--\n-z\na\nb\n", "--\n-z\na\n"),
+        ("/", "a\nb/\n", "a\nb/\n"),
+        ("..a a..", "..a\na..\na\n", "..a\na..\n"),
+    ];
+    for (words, listing, want) in rows {
+        let end = ended(rt.alloc(), words, listing.as_bytes())?;
+        assert_eq!(rt; end.line.as_str(), "", "{words}");
+        assert_eq!(rt; end.status, 0, "{words}");
+        assert_eq!(rt; end.written.as_slice(), want.as_bytes(), "{words}");
+    }
+    Ok(())
+}
+
+#[test]
+fn the_first_fault_is_told_and_nothing_is_written(rt: HostRuntime) -> Result<(), Fail> {
+    let rows = [
+        ("-", "", 2, USAGE),
+        ("-z a", "", 2, USAGE),
+        ("--prefix a", "", 2, USAGE),
+        ("-x :#y", "/\n", 2, USAGE),
+        ("a*", "a\n", 3, "spec 0: Unsupported"),
+        ("../a", "a\n", 3, "spec 0: Unsupported"),
+        ("a/..", "a\n", 3, "spec 0: Unsupported"),
+        ("/a", "a\n", 3, "spec 0: Unsupported"),
+        ("a :(top)x", "a\n", 3, "spec 1: Unsupported"),
+        (":(top", "a\n", 3, "spec 0: Unsupported"),
+        (":#(x", "a\n", 3, "spec 0: UnimplementedShort"),
+        ("a :#x", "", 3, "spec 1: UnimplementedShort"),
+        ("../x :#y", "", 3, "spec 1: UnimplementedShort"),
+        ("[a /b", "", 3, "spec 0: Unsupported"),
+        ("a :#x", "/a\n", 3, "spec 1: UnimplementedShort"),
+        ("", "a\n\nb\n", 4, "line 2"),
+        ("", "\n", 4, "line 1"),
+        ("", "/a\n", 4, "line 1"),
+        ("", "a\nb\na//b\n/\n", 4, "line 3"),
+        ("", "a//\n", 4, "line 1"),
+        ("a", "b\n\n", 4, "line 2"),
+    ];
+    for (words, listing, status, line) in rows {
+        let end = ended(rt.alloc(), words, listing.as_bytes())?;
+        assert_eq!(rt; end.line.as_str(), line, "{words}");
+        assert_eq!(rt; end.status, status, "{words}");
+        assert!(rt; end.written.is_empty(), "{words}");
+    }
+    Ok(())
+}
+
+#[test]
+fn an_empty_word_is_an_empty_spec(rt: HostRuntime) -> Result<(), Fail> {
+    let mut words = words_of(rt.alloc(), "a")?;
+    words.push(String::new(rt.alloc()))?;
+    let mut reader = b"a\n".as_slice();
+    let mut written = Vec::new(rt.alloc());
+    let outcome = run(rt.alloc(), words.as_slice(), &no_environment(), &mut reader, &mut written);
+    let line = line_of(rt.alloc(), &outcome)?;
+    assert_eq!(rt; line.as_str(), "spec 1: Empty");
+    assert_eq!(rt; status_of(&outcome), 3);
+    assert!(rt; written.is_empty());
+    Ok(())
+}
+
+#[test]
+fn refusals_have_a_line_each(rt: HostRuntime) -> Result<(), Fail> {
+    let rows = [
+        (Refusal::Read, 5, "read"),
+        (Refusal::Line(18446744073709551615), 4, "line 18446744073709551615"),
+        (Refusal::Write, 5, "write"),
+        (Refusal::Memory, 6, "memory"),
+    ];
+    for (refusal, status, line) in rows.iter() {
+        let printed = refusal.to_string(rt.alloc())?;
+        assert_eq!(rt; printed.as_str(), *line);
+        assert_eq!(rt; refusal.status(), *status);
+    }
+    Ok(())
+}
+
+#[test]
+fn records_hold_any_bytes(rt: HostRuntime) -> Result<(), Fail> {
+    let mut listing = Vec::new(rt.alloc());
+    for byte in 0..=255u8 {
+        if byte != b'\n' {
+            listing.push(byte)?;
+        }
+    }
+    listing.push(b'\n')?;
+    let end = ended(rt.alloc(), ":!a", listing.as_slice())?;
+    assert_eq!(rt; end.status, 0);
+    assert_eq!(rt; end.written.as_slice(), listing.as_slice());
+    Ok(())
+}
+
+#[test]
+fn one_record_may_be_long(rt: HostRuntime) -> Result<(), Fail> {
+    let mut listing = vec![in rt.alloc(); b'a'; 1000000]?;
+    let whole = ended(rt.alloc(), ":!b", listing.as_slice())?;
+    listing.push(b'\n')?;
+    assert_eq!(rt; whole.status, 0);
+    assert_eq!(rt; whole.written.as_slice(), listing.as_slice());
+    Ok(())
+}
+
+/// Gives its bytes one a call, and then, or at the end of them, fails in its way.
+#[derive(Drop)]
+struct Faltering<'a> {
+    bytes: &'a [u8],
+    fault: ErrorKind,
+}
+
+impl<'a> Read for Faltering<'a> {
+    fn read(&mut self, buf: &mut [u8]) -> io::Result<usize> {
+        match (self.bytes.split_first(), buf.first_mut()) {
+            (Some((byte, rest)), Some(place)) => {
+                *place = *byte;
+                self.bytes = rest;
+                Ok(1)
+            }
+            _ => Err(io::Error::from(self.fault)),
+        }
+    }
+}
+
+#[test]
+fn a_failed_read_is_told(rt: HostRuntime) -> Result<(), Fail> {
+    let words = words_of(rt.alloc(), "a")?;
+    for fault in [ErrorKind::BrokenPipe, ErrorKind::Interrupted] {
+        for given in ["", "a", "a\n", "/"] {
+            let mut reader = Faltering {
+                bytes: given.as_bytes(),
+                fault,
+            };
+            let mut written = Vec::new(rt.alloc());
+            let outcome = run(rt.alloc(), words.as_slice(), &no_environment(), &mut reader, &mut written);
+            let line = line_of(rt.alloc(), &outcome)?;
+            assert_eq!(rt; line.as_str(), "read", "behind {given}");
+            assert_eq!(rt; status_of(&outcome), 5);
+            assert!(rt; written.is_empty());
+        }
+    }
+    Ok(())
+}
+
+/// Takes one byte a call, `left` times, and then answers in its way.
+#[derive(Drop)]
+struct Reluctant {
+    taken: Vec<u8>,
+    left: usize,
+    fault: Option<ErrorKind>,
+}
+
+impl Write for Reluctant {
+    fn write(&mut self, buf: &[u8]) -> io::Result<usize> {
+        if self.left == 0 {
+            return match self.fault {
+                Some(fault) => Err(io::Error::from(fault)),
+                None => Ok(0),
+            };
+        }
+        self.left -= 1;
+        let most = buf.len().min(1);
+        self.taken.extend_from_slice(&buf[..most])?;
+        Ok(most)
+    }
+
+    fn flush(&mut self) -> io::Result<()> {
+        Ok(())
+    }
+}
+
+#[test]
+fn a_writer_may_take_one_byte_a_call(rt: HostRuntime) -> Result<(), Fail> {
+    let words = words_of(rt.alloc(), "")?;
+    let rows = [
+        (4, Some(ErrorKind::BrokenPipe), "", "a\nb\n"),
+        (2, Some(ErrorKind::BrokenPipe), "write", "a\n"),
+        (2, Some(ErrorKind::Interrupted), "write", "a\n"),
+        (3, None, "write", "a\nb"),
+        (0, None, "write", ""),
+    ];
+    for (left, fault, line, taken) in rows {
+        let mut reader = b"a\nb\n".as_slice();
+        let mut writer = Reluctant {
+            taken: Vec::new(rt.alloc()),
+            left,
+            fault,
+        };
+        let outcome = run(rt.alloc(), words.as_slice(), &no_environment(), &mut reader, &mut writer);
+        let told = line_of(rt.alloc(), &outcome)?;
+        assert_eq!(rt; told.as_str(), line, "{left} calls");
+        assert_eq!(rt; status_of(&outcome), if line.is_empty() { 0 } else { 5 });
+        assert_eq!(rt; writer.taken.as_slice(), taken.as_bytes(), "{left} calls");
+    }
+    Ok(())
+}
+
+#[test]
+fn a_refused_growth_is_told_as_want_of_memory(rt: HostRuntime) -> Result<(), Fail> {
+    let words = words_of(rt.alloc(), "a ./b/ :!a/x")?;
+    let mut reader = b"a/x\na/y\nb/\nb\n".as_slice();
+    let mut written = Vec::with_capacity(rt.alloc(), 64)?;
+    match run(rt.alloc(), words.as_slice(), &no_environment(), &mut reader, &mut written) {
+        Ok(()) => assert_eq!(rt; written.as_slice(), b"a/y\nb/\n".as_slice()),
+        Err(refusal) => {
+            assert_eq!(rt; refusal.status(), 6);
+            assert!(rt; written.is_empty());
+        }
+    }
+    Ok(())
+}
