@@ -1,12 +1,11 @@
 -- The questions that the rows ask, each as one function that computes.
-use Rattle.std.proofs.Common.{ℕ, Bool, true, false, List, [], ◌∷◌, Option, Some, Result, Ok}
+use Rattle.std.proofs.Common.{ℕ, Bool, false, List, [], Option, Result, Ok}
 use Rattle.std.specs.Option.{option_and_then}
 use Rattle.std.specs.Result.{result_ok}
 use Rattle.pathspec_parts.specs.Attributes.{State, Assignment}
 use Rattle.pathspec_parts.specs.Tokens.{tokens_from}
 use Rattle.pathspec_parts.specs.GlobRelation.{matches}
 use Rattle.gix_pathspec.specs.declared.SearchMode.{SearchMode}
-use Rattle.gix_pathspec.specs.declared.SearchMode.TheVariants.{ShellGlob}
 use Rattle.gix_pathspec.specs.declared.search.MatchKind.{MatchKind}
 use Rattle.gix_pathspec.specs.Results.{◌>>=◌}
 use Rattle.gix_pathspec.specs.Faults.{Fault}

@@ -1,5 +1,5 @@
 -- Names joined one behind the other.
-use Rattle.std.proofs.Common.{◌≡◌, ℕ, Bool, true, false, not, ◌||◌, List, [], ◌∷◌, ◌++◌, ◌∙◌, ap, refl, sym, append_assoc, inl, inr, filter, cond, bytes_eq, codes}
+use Rattle.std.proofs.Common.{◌≡◌, ℕ, true, false, List, [], ◌∷◌, ◌++◌, ◌∙◌, refl, append_assoc, inl, inr, filter, cond, bytes_eq, codes}
 use Rattle.std.proofs.lemmas.Bool.{cases_Bool, or_parts, not-true}
 use Rattle.pathspec_parts.specs.Bytes.{slash, is_empty}
 use Rattle.pathspec_parts.specs.Paths.{joined, is_component}

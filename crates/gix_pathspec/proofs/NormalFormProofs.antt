@@ -1,12 +1,11 @@
 -- The normal form of a relative path without `..`.
-use Rattle.std.proofs.Common.{◌≡◌, ◌≢◌, ℕ, ◌+◌, ◌-◌, max, min, Bool, true, false, not, ◌&&◌, ◌||◌, cond, refl, sym, ◌∙◌, ap, List, [], ◌∷◌, ◌++◌, length, take, map, filter, arith, ◌==◌, inl, inr, ◌⊎◌, Ok, Result, codes, bytes_eq}
-use Rattle.std.proofs.lemmas.Bool.{cases_Bool, eq-eqb, or_parts, not-true, ne_eqb}
+use Rattle.std.proofs.Common.{◌≡◌, ℕ, ◌-◌, min, Bool, true, false, cond, refl, sym, ◌∙◌, ap, List, [], ◌∷◌, ◌++◌, length, map, arith, ◌==◌, Ok, codes}
+use Rattle.std.proofs.lemmas.Bool.{eq-eqb, or_parts, ne_eqb}
 use Rattle.std.specs.List.{list_any}
 use Rattle.pathspec_parts.specs.Bytes.{is_empty}
-use Rattle.pathspec_parts.specs.Paths.{is_up, is_component, pieces, components, joined, is_absolute}
-use Rattle.gix_pathspec.specs.Faults.{Fault}
+use Rattle.pathspec_parts.specs.Paths.{is_up, pieces, components, joined, is_absolute}
 use Rattle.gix_pathspec.specs.Specs.{Spec, wants_directory}
-use Rattle.gix_pathspec.specs.NormalForm.{fronts, ups, names, greatest, climb, survivors, normal_form, resolved, directory, kept, new_prefix_length}
+use Rattle.gix_pathspec.specs.NormalForm.{fronts, ups, names, greatest, climb, survivors, normal_form, resolved, kept, new_prefix_length}
 use Rattle.gix_pathspec.proofs.JoinProofs.{joined-empty}
 
 -- ---- names alone

@@ -1,5 +1,5 @@
 -- Rows on normal forms: path, prefix directory, and whether the spec is nil.
-use Rattle.std.proofs.Common.{◌≡◌, true, false, refl, [], ◌∷◌, Ok, Err}
+use Rattle.std.proofs.Common.{◌≡◌, true, false, refl, [], Ok, Err}
 use Rattle.std.specs.Prelude.{codes}
 use Rattle.gix_pathspec.specs.Faults.Fault.{OutsideRoot, LeavesRepository}
 use Rattle.gix_pathspec.proofs.Asking.{normal}

@@ -1,20 +1,19 @@
 -- What a text without long magic says, by the tests that its reader makes.
-use Rattle.std.proofs.Common.{◌≡◌, ◌≢◌, ℕ, ◌+◌, Bool, true, false, not, ◌||◌, ◌&&◌, cond, inl, inr, refl, sym, ◌∙◌, ap, subst, List, [], ◌∷◌, ◌++◌, length, drop, arith, ◌==◌, Some, None, Option, Ok, Err, Result, IfOk, IfErr, IfSome, MatchResult}
-use Rattle.std.proofs.lemmas.Bool.{cases_Bool, and_parts, ne_eqb, eq-eqb, eqb-true, or_parts}
-use Rattle.std.specs.Prelude.{bytes_eq, IsTrue, IsFalse}
+use Rattle.std.proofs.Common.{◌≡◌, ◌≢◌, ℕ, Bool, true, false, inl, inr, refl, sym, ◌∙◌, ap, List, [], ◌∷◌, length, drop, arith, ◌==◌, Some, None, Option, Ok, Err, Result, IfOk, IfErr, IfSome, MatchResult}
+use Rattle.std.proofs.lemmas.Bool.{cases_Bool, eqb-true}
+use Rattle.std.specs.Prelude.{bytes_eq}
 use Rattle.std.specs.List.{take_while, prefix_len}
-use Rattle.pathspec_parts.specs.Bytes.{colon, open_paren, is_empty, first_is}
+use Rattle.pathspec_parts.specs.Bytes.{colon, open_paren, first_is}
 use Rattle.gix_pathspec.specs.declared.defaults.Defaults.{Defaults}
 use Rattle.gix_pathspec.specs.declared.pattern.Pattern.{Pattern}
 use Rattle.gix_pathspec.specs.declared.error.Error.{Error}
-use Rattle.gix_pathspec.specs.Results.{◌>>=◌}
 use Rattle.gix_pathspec.specs.Faults.{Fault}
 use Rattle.gix_pathspec.specs.Faults.Fault.{Empty, UnimplementedShort}
 use Rattle.gix_pathspec.specs.Errors.{fault_of, IsMemory, IsMemoryOr}
 use Rattle.gix_pathspec.specs.Signatures.{signature_bits}
 use Rattle.gix_pathspec.specs.Specs.{Spec}
 use Rattle.gix_pathspec.specs.Patterns.{pattern_spec}
-use Rattle.gix_pathspec.specs.Reading.{Cut, Magic, cut_of, cut_end, magic_of, reading, Reads, IsRefused, spec_of, nil_spec, literal_spec, no_magic, is_short, is_unimplemented, is_colon, behind_mark, has_long_magic, short_bits}
+use Rattle.gix_pathspec.specs.Reading.{cut_of, cut_end, magic_of, reading, Reads, IsRefused, spec_of, nil_spec, literal_spec, no_magic, is_short, is_unimplemented, is_colon, behind_mark, has_long_magic, short_bits}
 use Rattle.gix_pathspec.proofs.ReadingProofs.{reading_is_exact, reading_at, plain_alone, not_colon, magic_says}
 
 -- ---- errors

@@ -1,5 +1,5 @@
 -- What a clause reads of an `Error`.
-use Rattle.std.specs.Prelude.{ℕ, List, codes, Option, Some, None, IfSome, Bool, true, false}
+use Rattle.std.specs.Prelude.{ℕ, List, codes, Option, Some, None, IfSome}
 use Rattle.gix_pathspec.specs.declared.error.Error.{Error}
 use Rattle.gix_pathspec.specs.declared.error.Error.TheVariants as told
 use Rattle.gix_pathspec.specs.Faults.{Fault}

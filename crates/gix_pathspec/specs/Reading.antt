@@ -1,6 +1,6 @@
 -- What the text of a spec says (gitglossary, "pathspec").
-use Rattle.std.specs.Prelude.{◌≡◌, ◌≢◌, ℕ, ◌+◌, ◌-◌, ◌%◌, Bool, true, false, not, ◌&&◌, ◌||◌, List, [], ◌∷◌, ◌++◌, length, take, drop, filter, codes, bytes_eq, ◌==◌, if◌then◌else◌, Option, Some, None, unwrap_or, Result, Ok, Err, IsTrue, IsFalse, bit_or, nat_eq, ◌↔◌}
-use Rattle.std.specs.List.{list_all, list_any, before_first, after_first, take_while, prefix_len, onto_first, ends_with}
+use Rattle.std.specs.Prelude.{◌≡◌, ◌≢◌, ℕ, ◌+◌, ◌%◌, Bool, true, false, not, ◌&&◌, ◌||◌, List, [], ◌∷◌, ◌++◌, drop, filter, codes, bytes_eq, ◌==◌, if◌then◌else◌, Option, Some, None, unwrap_or, Result, Ok, Err, IsTrue, IsFalse, bit_or, ◌↔◌}
+use Rattle.std.specs.List.{list_all, list_any, before_first, after_first, take_while, prefix_len, onto_first}
 use Rattle.gix_pathspec.specs.declared.SearchMode.{SearchMode}
 use Rattle.gix_pathspec.specs.declared.SearchMode.TheVariants.{ShellGlob, Literal, PathAwareGlob}
 use Rattle.gix_pathspec.specs.declared.defaults.Defaults.{Defaults}

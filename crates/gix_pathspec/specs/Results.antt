@@ -1,5 +1,5 @@
 -- Steps that may fail, one behind the other.
-use Rattle.std.specs.Prelude.{ℕ, ◌+◌, List, [], ◌∷◌, Result, Ok, Err}
+use Rattle.std.specs.Prelude.{List, [], ◌∷◌, Result, Ok, Err}
 
 infixl 10 ◌>>=◌
 -- f of the value, where there is one

@@ -91,6 +91,7 @@ mod tests {
     }
 
     #[test]
+    #[rattlefmt::skip]
     fn errors_have_a_kind_and_a_text(rt: HostRuntime) -> Result<(), Fail> {
         let alloc = rt.alloc();
         let rows = [

@@ -10,11 +10,10 @@ pub mod parse;
 mod pattern;
 pub mod search;
 
+use bitflags::{Flag, Flags};
 pub use defaults::Defaults;
 pub use error::Error;
 pub use pattern::Pattern;
-
-use bitflags::{Flag, Flags};
 
 /// What the magic of a pathspec asks for, one bit each. Further bits are kept and mean nothing.
 #[derive(Clone, Copy, Debug, Default, PartialEq, Eq, PartialOrd, Ord, Hash)]

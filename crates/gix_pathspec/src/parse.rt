@@ -149,13 +149,22 @@ fn holds_exclude(short: &[u8]) -> bool
 fn flag_if(is_set: bool, flag: MagicSignature) -> MagicSignature
     ensures { signature_bits result ≡ (if is_set then signature_bits flag else 0) }
 {
-    if is_set { flag } else { MagicSignature::empty() }
+    if is_set {
+        flag
+    } else {
+        MagicSignature::empty()
+    }
 }
 
 impl Pattern {
     /// The spec that a signature and a body say.
     #[tactic(auto, unfolding(crate::specs::Reading::spec_of))]
-    fn with_body(alloc: Global, defaults: Defaults, signature: MagicSignature, body: &[u8]) -> Result<Pattern, Error>
+    fn with_body(
+        alloc: Global,
+        defaults: Defaults,
+        signature: MagicSignature,
+        body: &[u8],
+    ) -> Result<Pattern, Error>
         ensures ok { IfOk result (λ p. pattern_spec p ≡ spec_of defaults (record { signature = signature_bits signature; mode = None; attributes = [] }) body.now) }
         ensures err { IfErr result IsMemory }
     {
@@ -200,9 +209,17 @@ mod tests {
         for (text, path, bits) in rows {
             assert!(rt; !has_long_magic(text.as_bytes()), "{text}");
             let pattern = parse(rt.alloc(), text.as_bytes(), Defaults::default())?;
-            assert_eq!(rt; pattern.path().as_bytes(), path.as_bytes(), "path of {text}");
+            assert_eq!(rt;
+                pattern.path().as_bytes(),
+                path.as_bytes(),
+                "path of {text}"
+            );
             assert_eq!(rt; pattern.signature.bits(), bits, "signature of {text}");
-            assert_eq!(rt; pattern.search_mode, SearchMode::ShellGlob, "mode of {text}");
+            assert_eq!(rt;
+                pattern.search_mode,
+                SearchMode::ShellGlob,
+                "mode of {text}"
+            );
             assert!(rt; !pattern.is_nil(), "{text}");
         }
         Ok(())

@@ -34,7 +34,11 @@ impl Pattern {
     ///
     /// # Errors
     /// [`Error::Memory`] alone.
-    pub fn from_literal(alloc: Global, path: &[u8], signature: MagicSignature) -> Result<Pattern, Error>
+    pub fn from_literal(
+        alloc: Global,
+        path: &[u8],
+        signature: MagicSignature,
+    ) -> Result<Pattern, Error>
         ensures ok { IfOk result (λ p. pattern_spec p ≡ literal_spec (signature_bits signature) path.now) }
         ensures err { IfErr result IsMemory }
     {
@@ -198,7 +202,11 @@ mod tests {
             assert!(rt; !pattern.needs_root(), "{text}");
             let bits = pattern.signature;
             pattern.resolve()?;
-            assert_eq!(rt; pattern.path().as_bytes(), path.as_bytes(), "path of {text}");
+            assert_eq!(rt;
+                pattern.path().as_bytes(),
+                path.as_bytes(),
+                "path of {text}"
+            );
             assert_eq!(rt; pattern.is_nil(), nil, "nil of {text}");
             assert_eq!(rt; pattern.signature, bits, "signature of {text}");
         }
@@ -207,8 +215,19 @@ mod tests {
 
     #[test]
     fn absolute_paths_and_steps_up_need_a_root(rt: HostRuntime) -> Result<(), Fail> {
-        for (path, want) in [("/a", true), ("a/../b", true), ("..", true), ("a/..b", false), ("...", false), ("", false)] {
-            let pattern = Pattern::from_literal(rt.alloc(), path.as_bytes(), MagicSignature::empty())?;
+        for (path, want) in [
+            ("/a", true),
+            ("a/../b", true),
+            ("..", true),
+            ("a/..b", false),
+            ("...", false),
+            ("", false),
+        ] {
+            let pattern = Pattern::from_literal(
+                rt.alloc(),
+                path.as_bytes(),
+                MagicSignature::empty(),
+            )?;
             assert_eq!(rt; pattern.needs_root(), want, "{path}");
         }
         Ok(())
@@ -228,8 +247,19 @@ mod tests {
 
     #[test]
     fn four_bytes_are_wildcards(rt: HostRuntime) -> Result<(), Fail> {
-        for (text, want) in [("a*", true), ("?a", true), ("[", true), ("a\\b", true), ("a]b{}", false), ("", false)] {
-            let pattern = Pattern::from_literal(rt.alloc(), text.as_bytes(), MagicSignature::empty())?;
+        for (text, want) in [
+            ("a*", true),
+            ("?a", true),
+            ("[", true),
+            ("a\\b", true),
+            ("a]b{}", false),
+            ("", false),
+        ] {
+            let pattern = Pattern::from_literal(
+                rt.alloc(),
+                text.as_bytes(),
+                MagicSignature::empty(),
+            )?;
             assert_eq!(rt; pattern.has_wildcard(), want, "{text}");
         }
         Ok(())

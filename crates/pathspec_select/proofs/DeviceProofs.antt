@@ -1,5 +1,5 @@
 -- What was read and written so far.
-use Rattle.std.proofs.Common.{◌≡◌, ℕ, ◌≤◌, ◌-◌, arith, List, [], ◌++◌, Option, Some, None, refl, sym, ◌∙◌, ap, append_assoc, take, drop, length}
+use Rattle.std.proofs.Common.{◌≡◌, ℕ, ◌-◌, arith, List, ◌++◌, Option, Some, None, sym, ◌∙◌, ap, append_assoc, take, drop, length}
 use Rattle.std.proofs.lemmas.List.{take-append-drop, take_all, length-drop}
 use Rattle.std.specs.Io.KnownBytes.{Appends}
 

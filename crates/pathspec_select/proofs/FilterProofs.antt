@@ -13,27 +13,31 @@ list_any-map : {X Y : Type 0} (view : X → Y) (test : Y → Bool) (xs : List X)
 list_any-map view test [] = refl
 list_any-map view test (x ∷ xs) = ap (λ b. test (view x) || b) (list_any-map view test xs)
 
-module _ (table : Table) (ps : List Pattern) (path : List ℕ) (is_dir : Bool) where
-  -- some exclude means the path
-  abbrev pub out : Bool
-  out = list_any (λ p. is_exclude (pattern_spec p) && means table (pattern_spec p) path is_dir) ps
+module _ (table : Table) (path : List ℕ) (is_dir : Bool) where
+  -- some exclude of these means the path
+  abbrev pub out : List Pattern → Bool
+  out ps = list_any (λ p. is_exclude (pattern_spec p) && means table (pattern_spec p) path is_dir) ps
 
-  -- some include does
-  abbrev pub into : Bool
-  into = list_any (λ p. is_include (pattern_spec p) && means table (pattern_spec p) path is_dir) ps
+  -- some include of these does
+  abbrev pub into : List Pattern → Bool
+  into ps = list_any (λ p. is_include (pattern_spec p) && means table (pattern_spec p) path is_dir) ps
 
-  chosen-is : chosen table (map pattern_spec ps) path is_dir ≡ (not out && (into || not (list_any (λ p. is_include (pattern_spec p)) ps)))
+  -- the path is chosen by these, where it may be included already
+  abbrev pub passes : Bool → List Pattern → Bool
+  passes included ps = not (out ps) && (included || into ps)
+
+  or-turned : (a b : Bool) → (a || b) ≡ (b || a)
+  or-turned true true = refl
+  or-turned true false = refl
+  or-turned false true = refl
+  or-turned false false = refl
+
+  -- before the first spec a path is included where there is no include
+  pub chosen-passes : (ps : List Pattern) (included : Bool) → included ≡ not (list_any (λ p. is_include (pattern_spec p)) ps) → chosen table (map pattern_spec ps) path is_dir ≡ passes included ps
   unfolding chosen
-  chosen-is = rw (list_any-map pattern_spec (λ s. is_exclude s && means table s path is_dir) ps, list_any-map pattern_spec (λ s. is_include s && means table s path is_dir) ps, list_any-map pattern_spec is_include ps) refl
-
-  pub chosen-out : out ≡ true → chosen table (map pattern_spec ps) path is_dir ≡ false
-  chosen-out o = chosen-is ∙ (rw o refl)
-
-  pub chosen-into : out ≡ false → into ≡ true → chosen table (map pattern_spec ps) path is_dir ≡ true
-  chosen-into o i = chosen-is ∙ (rw (o, i) refl)
-
-  pub chosen-neither : out ≡ false → into ≡ false → chosen table (map pattern_spec ps) path is_dir ≡ not (list_any (λ p. is_include (pattern_spec p)) ps)
-  chosen-neither o i = chosen-is ∙ (rw (o, i) refl)
+  chosen-passes ps included e =
+      rw (list_any-map pattern_spec (λ s. is_exclude s && means table s path is_dir) ps, list_any-map pattern_spec (λ s. is_include s && means table s path is_dir) ps, list_any-map pattern_spec is_include ps)
+      (ap (λ b. not (out ps) && b) (or-turned (into ps) _ ∙ ap (λ b. b || into ps) (sym e)))
 
 -- ---- what is written
 

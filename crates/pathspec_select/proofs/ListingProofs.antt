@@ -1,11 +1,10 @@
 -- Records one behind the other, and the slashes in them.
-use Rattle.std.proofs.Common.{◌≡◌, ℕ, ◌+◌, Bool, true, false, not, ◌⊎◌, ◌||◌, ◌&&◌, inl, inr, refl, sym, ◌∙◌, ap, List, [], ◌∷◌, cond, ◌==◌, length, arith}
+use Rattle.std.proofs.Common.{◌≡◌, ℕ, Bool, false, ◌⊎◌, inl, inr, refl, sym, ◌∙◌, ap, List, [], ◌∷◌, cond, ◌==◌, length, arith}
 use Rattle.std.proofs.lemmas.Bool.{cases_Bool, ne_eqb}
 use Rattle.std.proofs.Math.Numerals.{one-add, add-one}
 use Rattle.std.specs.List.{slice_split, onto_first, before_first, after_first}
-use Rattle.pathspec_parts.specs.Bytes.{is_empty, first_is}
-use Rattle.pathspec_parts.specs.Paths.{is_slash}
-use Rattle.pathspec_select.specs.Listing.{records, without_empty_end, holds_two_slashes}
+use Rattle.pathspec_parts.specs.Bytes.{is_empty}
+use Rattle.pathspec_select.specs.Listing.{records, without_empty_end}
 
 -- ---- the first record
 

@@ -1,8 +1,7 @@
 -- What a run ends with, by how far it came.
-use Rattle.std.proofs.Common.{◌≡◌, ◌≢◌, ℕ, refl, sym, ◌∙◌, List, Option, Some, None, Ok, Err, Result}
+use Rattle.std.proofs.Common.{◌≡◌, ◌≢◌, ℕ, refl, List, Option, Some, None, Ok, Err, Result}
 use Rattle.std.specs.Io.KnownBytes.{Keeps}
 use Rattle.gix_pathspec.specs.Specs.{Spec}
-use Rattle.gix_pathspec.specs.Results.{◌>>=◌}
 use Rattle.pathspec_select.specs.declared.refusal.Refusal.{Refusal}
 use Rattle.pathspec_select.specs.declared.refusal.Refusal.TheVariants as refusal
 use Rattle.pathspec_select.specs.Words.{WordFault, spec_words, specs_of_words}

@@ -1,5 +1,5 @@
 -- Specs read and resolved one behind the other, and the first fault.
-use Rattle.std.proofs.Common.{◌≡◌, ℕ, ◌+◌, ◌<◌, ◌≤◌, Bool, true, false, refl, sym, ◌∙◌, ap, List, [], ◌∷◌, ◌++◌, length, take, drop, map, get_or, Some, None, Option, Ok, Err, Result, IfOk, IfErr, IfSome, MatchOption, MatchResult, arith, append_assoc}
+use Rattle.std.proofs.Common.{◌≡◌, ℕ, ◌+◌, ◌<◌, ◌≤◌, Bool, false, refl, sym, ◌∙◌, ap, List, [], ◌∷◌, ◌++◌, length, take, drop, map, get_or, Some, None, Option, Ok, Err, Result, IfSome, MatchOption, arith, append_assoc}
 use Rattle.std.proofs.lemmas.List.{append-nil, map-append, nil_from_length, length-drop}
 use Rattle.std.proofs.Math.Seq.{drop-cons}
 use Rattle.std.proofs.Math.Numerals.{add-one}

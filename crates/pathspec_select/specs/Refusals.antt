@@ -1,5 +1,5 @@
 -- What a clause reads of a `Refusal`.
-use Rattle.std.specs.Prelude.{◌≡◌, ℕ, List, codes, Some}
+use Rattle.std.specs.Prelude.{◌≡◌, ℕ, Some}
 use Rattle.gix_pathspec.specs.Faults.{Fault}
 use Rattle.gix_pathspec.specs.Errors.{fault_of}
 use Rattle.pathspec_select.specs.declared.refusal.Refusal.{Refusal}

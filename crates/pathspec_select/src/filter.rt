@@ -16,8 +16,13 @@ use std::alloc::{AllocError, Global};
 
 /// The chosen records of a listing in their order, each with one separator behind it.
 ///
-/// Each spec is asked about each record at most twice.
-pub(crate) fn chosen_records(alloc: Global, patterns: &[Pattern], listing: &[u8], separator: u8) -> Result<Vec<u8>, AllocError>
+/// Each spec is asked about each record at most once.
+pub(crate) fn chosen_records(
+    alloc: Global,
+    patterns: &[Pattern],
+    listing: &[u8],
+    separator: u8,
+) -> Result<Vec<u8>, AllocError>
     requires { All (λ p. IsFalse (has_wildcard (pattern_spec p))) patterns.now }
     ensures { IfOk result (λ out. out.items ≡ output (table_of []) (map pattern_spec patterns.now) separator (records separator listing.now)) }
 {
@@ -32,11 +37,11 @@ pub(crate) fn chosen_records(alloc: Global, patterns: &[Pattern], listing: &[u8]
 }
 
 /// Whether a record is chosen: it is a directory where it ends with a slash, which is no part of its path.
-fn is_chosen_record(patterns: &[Pattern], record: &[u8]) -> bool
+fn is_chosen_record(patterns: &[Pattern], text: &[u8]) -> bool
     requires { All (λ p. IsFalse (has_wildcard (pattern_spec p))) patterns.now }
-    ensures { result ≡ chosen (table_of []) (map pattern_spec patterns.now) (record_path record.now) (record_is_dir record.now) }
+    ensures { result ≡ chosen (table_of []) (map pattern_spec patterns.now) (record_path text.now) (record_is_dir text.now) }
 {
-    let (path, is_dir) = path::strip_last_slash(record);
+    let (path, is_dir) = path::strip_last_slash(text);
     is_chosen(patterns, BStr::new(path), is_dir)
 }
 
@@ -45,33 +50,18 @@ fn is_chosen(patterns: &[Pattern], path: BStr<'_>, is_dir: bool) -> bool
     requires { All (λ p. IsFalse (has_wildcard (pattern_spec p))) patterns.now }
     ensures { result ≡ chosen (table_of []) (map pattern_spec patterns.now) (bstr_bytes path.entry) is_dir }
 {
-    !some_exclude_means(patterns, path, is_dir) && (some_include_means(patterns, path, is_dir) || !has_include(patterns))
-}
-
-/// Whether some exclude means the path.
-fn some_exclude_means(patterns: &[Pattern], path: BStr<'_>, is_dir: bool) -> bool
-    requires { All (λ p. IsFalse (has_wildcard (pattern_spec p))) patterns.now }
-    ensures { result ≡ list_any (λ p. is_exclude (pattern_spec p) && means (table_of []) (pattern_spec p) (bstr_bytes path.entry) is_dir) patterns.now }
-{
+    let mut included = !has_include(patterns);
     for pattern in patterns {
-        if pattern.is_excluded() && matching::match_kind(pattern, path, is_dir).is_some() {
-            return true;
+        let excludes = pattern.is_excluded();
+        // Where an include means the path already, further ones change nothing.
+        if (excludes || !included) && matching::match_kind(pattern, path, is_dir).is_some() {
+            if excludes {
+                return false;
+            }
+            included = true;
         }
     }
-    false
-}
-
-/// Whether some include means the path.
-fn some_include_means(patterns: &[Pattern], path: BStr<'_>, is_dir: bool) -> bool
-    requires { All (λ p. IsFalse (has_wildcard (pattern_spec p))) patterns.now }
-    ensures { result ≡ list_any (λ p. is_include (pattern_spec p) && means (table_of []) (pattern_spec p) (bstr_bytes path.entry) is_dir) patterns.now }
-{
-    for pattern in patterns {
-        if !pattern.is_excluded() && matching::match_kind(pattern, path, is_dir).is_some() {
-            return true;
-        }
-    }
-    false
+    included
 }
 
 /// Whether some spec is an include.

@@ -58,18 +58,18 @@ pub(crate) fn first_bad(listing: &[u8], separator: u8) -> Option<usize>
 }
 
 /// Whether a record is bad: it is empty, begins with `/` or holds `//`.
-fn is_bad(record: &[u8]) -> bool
-    ensures { result ≡ is_bad record.now }
+fn is_bad(text: &[u8]) -> bool
+    ensures { result ≡ is_bad text.now }
 {
-    record.is_empty() || record.starts_with(b"/") || holds_two_slashes(record)
+    text.is_empty() || text.starts_with(b"/") || holds_two_slashes(text)
 }
 
 /// Whether a slash stands behind a slash.
-fn holds_two_slashes(record: &[u8]) -> bool
-    ensures { result ≡ holds_two_slashes record.now }
+fn holds_two_slashes(text: &[u8]) -> bool
+    ensures { result ≡ holds_two_slashes text.now }
 {
     let mut behind_slash = false;
-    for byte in record {
+    for byte in text {
         let slash = *byte == b'/';
         if slash && behind_slash {
             return true;

@@ -21,7 +21,13 @@ const LINE_FEED: u8 = b'\n';
 /// spec that can't be read, and then of the first that can't be resolved; [`Refusal::Read`]; [`Refusal::Line`];
 /// [`Refusal::Write`]. [`Refusal::Memory`] comes at its place among them. Nothing is written before a fault, but
 /// for a write's.
-pub fn run<R: Read, W: Write>(alloc: Global, words: &[String], environment: &Environment, reader: &mut R, writer: &mut W) -> Result<(), Refusal>
+pub fn run<R: Read, W: Write>(
+    alloc: Global,
+    words: &[String],
+    environment: &Environment,
+    reader: &mut R,
+    writer: &mut W,
+) -> Result<(), Refusal>
     ensures { Ends (map string_bytes words.now) (R.remaining reader.old) (W.contents writer.old) (W.contents writer.new) result }
 {
     let _ = environment;
@@ -30,7 +36,12 @@ pub fn run<R: Read, W: Write>(alloc: Global, words: &[String], environment: &Env
     if let Some(number) = listing::first_bad(listing.as_slice(), LINE_FEED) {
         return Err(Refusal::Line(number));
     }
-    let Ok(output) = filter::chosen_records(alloc, patterns.as_slice(), listing.as_slice(), LINE_FEED) else {
+    let Ok(output) = filter::chosen_records(
+        alloc,
+        patterns.as_slice(),
+        listing.as_slice(),
+        LINE_FEED,
+    ) else {
         return Err(Refusal::Memory);
     };
     devices::write_whole(writer, output.as_slice())

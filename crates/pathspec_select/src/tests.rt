@@ -12,7 +12,8 @@ struct Ending {
     written: Vec<u8>,
 }
 
-const USAGE: &str = "usage: pathspec-select [-z] [--prefix P] [--root R] [--attr PATH LIST]... [--] [SPEC...]";
+const USAGE: &str =
+    "usage: pathspec-select [-z] [--prefix P] [--root R] [--attr PATH LIST]... [--] [SPEC...]";
 
 fn no_environment() -> Environment {
     Environment {
@@ -50,7 +51,13 @@ fn ended(alloc: Global, words: &str, listing: &[u8]) -> Result<Ending, AllocErro
     let words = words_of(alloc, words)?;
     let mut reader = listing;
     let mut written = Vec::new(alloc);
-    let outcome = run(alloc, words.as_slice(), &no_environment(), &mut reader, &mut written);
+    let outcome = run(
+        alloc,
+        words.as_slice(),
+        &no_environment(),
+        &mut reader,
+        &mut written,
+    );
     Ok(Ending {
         status: status_of(&outcome),
         line: line_of(alloc, &outcome)?,
@@ -129,7 +136,13 @@ fn an_empty_word_is_an_empty_spec(rt: HostRuntime) -> Result<(), Fail> {
     words.push(String::new(rt.alloc()))?;
     let mut reader = b"a\n".as_slice();
     let mut written = Vec::new(rt.alloc());
-    let outcome = run(rt.alloc(), words.as_slice(), &no_environment(), &mut reader, &mut written);
+    let outcome = run(
+        rt.alloc(),
+        words.as_slice(),
+        &no_environment(),
+        &mut reader,
+        &mut written,
+    );
     let line = line_of(rt.alloc(), &outcome)?;
     assert_eq!(rt; line.as_str(), "spec 1: Empty");
     assert_eq!(rt; status_of(&outcome), 3);
@@ -141,7 +154,11 @@ fn an_empty_word_is_an_empty_spec(rt: HostRuntime) -> Result<(), Fail> {
 fn refusals_have_a_line_each(rt: HostRuntime) -> Result<(), Fail> {
     let rows = [
         (Refusal::Read, 5, "read"),
-        (Refusal::Line(18446744073709551615), 4, "line 18446744073709551615"),
+        (
+            Refusal::Line(18446744073709551615),
+            4,
+            "line 18446744073709551615",
+        ),
         (Refusal::Write, 5, "write"),
         (Refusal::Memory, 6, "memory"),
     ];
@@ -208,7 +225,13 @@ fn a_failed_read_is_told(rt: HostRuntime) -> Result<(), Fail> {
                 fault,
             };
             let mut written = Vec::new(rt.alloc());
-            let outcome = run(rt.alloc(), words.as_slice(), &no_environment(), &mut reader, &mut written);
+            let outcome = run(
+                rt.alloc(),
+                words.as_slice(),
+                &no_environment(),
+                &mut reader,
+                &mut written,
+            );
             let line = line_of(rt.alloc(), &outcome)?;
             assert_eq!(rt; line.as_str(), "read", "behind {given}");
             assert_eq!(rt; status_of(&outcome), 5);
@@ -262,7 +285,13 @@ fn a_writer_may_take_one_byte_a_call(rt: HostRuntime) -> Result<(), Fail> {
             left,
             fault,
         };
-        let outcome = run(rt.alloc(), words.as_slice(), &no_environment(), &mut reader, &mut writer);
+        let outcome = run(
+            rt.alloc(),
+            words.as_slice(),
+            &no_environment(),
+            &mut reader,
+            &mut writer,
+        );
         let told = line_of(rt.alloc(), &outcome)?;
         assert_eq!(rt; told.as_str(), line, "{left} calls");
         assert_eq!(rt; status_of(&outcome), if line.is_empty() { 0 } else { 5 });
@@ -276,7 +305,13 @@ fn a_refused_growth_is_told_as_want_of_memory(rt: HostRuntime) -> Result<(), Fai
     let words = words_of(rt.alloc(), "a ./b/ :!a/x")?;
     let mut reader = b"a/x\na/y\nb/\nb\n".as_slice();
     let mut written = Vec::with_capacity(rt.alloc(), 64)?;
-    match run(rt.alloc(), words.as_slice(), &no_environment(), &mut reader, &mut written) {
+    match run(
+        rt.alloc(),
+        words.as_slice(),
+        &no_environment(),
+        &mut reader,
+        &mut written,
+    ) {
         Ok(()) => assert_eq!(rt; written.as_slice(), b"a/y\nb/\n".as_slice()),
         Err(refusal) => {
             assert_eq!(rt; refusal.status(), 6);

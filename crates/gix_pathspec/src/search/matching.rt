@@ -38,14 +38,23 @@ fn is_verbatim(pattern: &Pattern, path: BStr<'_>, is_dir: bool) -> bool
     ensures { result ≡ is_verbatim (pattern_spec pattern.now) (bstr_bytes path.entry) is_dir }
 {
     let takes_kind = is_dir || !pattern.signature.contains(MagicSignature::MUST_BE_DIR);
-    takes_kind && is_same(path.as_bytes(), pattern.path.as_slice(), ignores_case(pattern))
+    takes_kind
+        && is_same(
+            path.as_bytes(),
+            pattern.path.as_slice(),
+            ignores_case(pattern),
+        )
 }
 
 /// Whether the path lies below the pattern's.
 fn is_prefixed(pattern: &Pattern, path: BStr<'_>) -> bool
     ensures { result ≡ is_prefixed (pattern_spec pattern.now) (bstr_bytes path.entry) }
 {
-    is_below(path.as_bytes(), pattern.path.as_slice(), ignores_case(pattern))
+    is_below(
+        path.as_bytes(),
+        pattern.path.as_slice(),
+        ignores_case(pattern),
+    )
 }
 
 /// Whether ASCII case doesn't count for the pattern.
@@ -103,7 +112,11 @@ mod tests {
             assert!(rt; !parse::has_long_magic(text.as_bytes()), "{text}");
             let pattern = parse::parse(rt.alloc(), text.as_bytes(), Defaults::default())?;
             assert!(rt; !pattern.has_wildcard(), "{text}");
-            assert_eq!(rt; match_kind(&pattern, BStr::new(path.as_bytes()), is_dir), want, "{text} on {path}");
+            assert_eq!(rt;
+                match_kind(&pattern, BStr::new(path.as_bytes()), is_dir),
+                want,
+                "{text} on {path}"
+            );
         }
         Ok(())
     }
@@ -112,9 +125,17 @@ mod tests {
     fn case_may_not_count(rt: HostRuntime) -> Result<(), Fail> {
         let pattern = Pattern::from_literal(rt.alloc(), b"Ab/C", MagicSignature::ICASE)?;
         assert!(rt; !pattern.has_wildcard());
-        let rows = [("aB/c", Some(MatchKind::Verbatim)), ("AB/c/D", Some(MatchKind::Prefix)), ("ab/cc", None)];
+        let rows = [
+            ("aB/c", Some(MatchKind::Verbatim)),
+            ("AB/c/D", Some(MatchKind::Prefix)),
+            ("ab/cc", None),
+        ];
         for (path, want) in rows {
-            assert_eq!(rt; match_kind(&pattern, BStr::new(path.as_bytes()), false), want, "{path}");
+            assert_eq!(rt;
+                match_kind(&pattern, BStr::new(path.as_bytes()), false),
+                want,
+                "{path}"
+            );
         }
         assert!(rt; MatchKind::Always < MatchKind::Prefix);
         assert!(rt; MatchKind::Prefix < MatchKind::WildcardMatch);

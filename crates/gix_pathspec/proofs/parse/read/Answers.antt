@@ -1,5 +1,5 @@
 -- What the text says, by the tests that were made on the way.
-use Rattle.std.proofs.Common.{◌≡◌, sym, ◌∙◌, ap, refl, Ok}
+use Rattle.std.proofs.Common.{sym, ◌∙◌, ap, refl, Ok}
 use Rattle.gix_pathspec.specs.Reading.{short_bits}
 use Rattle.gix_pathspec.proofs.ParseProofs.{exact-from, exact-from_body, reading-empty, reading-literal, reading-plain, reading-nil, reading-free, reading-short}
 use Rattle.gix_pathspec.proofs.parse.read.Goals as goal

@@ -1,7 +1,5 @@
-use Rattle.std.proofs.Common.{◌≡◌, ◌∙◌, ap}
 use Rattle.pathspec_parts.specs.Paths.{pieces}
-use Rattle.pathspec_parts.specs.Components.{components_left}
-use Rattle.gix_pathspec.proofs.JoinProofs.{joined_onto, joined_onto-nothing}
+use Rattle.gix_pathspec.proofs.JoinProofs.{joined_onto-nothing}
 use Rattle.gix_pathspec.proofs.pattern.joined.Goals as goal
 
 pub loop-name-init : goal.loop-name-init

@@ -1,7 +1,6 @@
 -- A record is written where it is chosen, and passed over where it isn't.
-use Rattle.std.proofs.Common.{◌≡◌, ◌++◌, ◌∷◌, ◌∙◌, sym, ap, map, []}
+use Rattle.std.proofs.Common.{◌∙◌, sym, map, []}
 use Rattle.gix_pathspec.specs.Patterns.{pattern_spec}
-use Rattle.gix_pathspec.specs.Matching.{chosen}
 use Rattle.pathspec_select.specs.Listing.{table_of}
 use Rattle.pathspec_select.proofs.FilterProofs.{output-chosen, output-skipped, output-ends}
 use Rattle.pathspec_select.proofs.filter.chosen_records.Goals as goal

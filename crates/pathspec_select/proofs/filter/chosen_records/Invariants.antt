@@ -7,4 +7,4 @@ use Rattle.pathspec_select.proofs.filter.chosen_records.Given as goal
 abbrev pub invariant-loop-record : goal.invariant-loop-record
 invariant-loop-record l =
     l.output.items ++ output (table_of []) (map pattern_spec l.patterns) l.separator (records_left l.record-iterator)
-        ≡ output (table_of []) (map pattern_spec l.patterns) l.separator (records l.separator l.listing)
+    ≡ output (table_of []) (map pattern_spec l.patterns) l.separator (records l.separator l.listing)

@@ -1,5 +1,5 @@
 -- Nothing is counted at the start, and all records are left.
-use Rattle.std.proofs.Common.{◌≡◌, ◌+◌, ◌∙◌, ap, arith, length}
+use Rattle.std.proofs.Common.{◌∙◌, ap, arith}
 use Rattle.std.specs.List.{position_from}
 use Rattle.pathspec_select.specs.Listing.{is_bad}
 use Rattle.pathspec_select.specs.Records.{records_left, bytes_left}

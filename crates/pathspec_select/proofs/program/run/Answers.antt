@@ -1,5 +1,5 @@
 -- Each way to end early, by how far the run came.
-use Rattle.std.proofs.Common.{◌≡◌, map, string_bytes}
+use Rattle.std.proofs.Common.{map, string_bytes}
 use Rattle.std.proofs.lemmas.Result.{err_from_is_err_and}
 use Rattle.pathspec_select.proofs.ProgramProofs.{refuses-words, refuses-reading, options-right, keeps-itself}
 use Rattle.pathspec_select.proofs.program.run.Goals as goal

@@ -1,8 +1,8 @@
 -- The next word is read, or its fault is the first.
-use Rattle.std.proofs.Common.{◌≡◌, ◌∙◌, ap, refl, map, not, true, is_ok, string_bytes}
+use Rattle.std.proofs.Common.{◌≡◌, ◌∙◌, ap, map, not, true, is_ok, string_bytes}
 use Rattle.gix_pathspec.specs.Patterns.{pattern_spec}
-use Rattle.pathspec_select.specs.Words.{said, each_from}
-use Rattle.pathspec_select.proofs.WordProofs.{each-more, each-fails, tells-on, onto, pushed}
+use Rattle.pathspec_select.specs.Words.{said}
+use Rattle.pathspec_select.proofs.WordProofs.{each-more, each-fails, tells-on, pushed}
 use Rattle.pathspec_select.proofs.words.read_all.Goals as goal
 
 pub returns-in-Err : goal.returns-in-Err

@@ -1,5 +1,5 @@
 -- The ways to fit, one behind the other; a pattern lists no attributes, so it means what it fits.
-use Rattle.std.proofs.Common.{◌≡◌, sym, ◌∙◌, refl}
+use Rattle.std.proofs.Common.{sym, ◌∙◌, refl}
 use Rattle.bstr.specs.BStr.{bstr_bytes}
 use Rattle.gix_pathspec.specs.Patterns.{pattern_spec}
 use Rattle.gix_pathspec.proofs.MatchingProofs.{fit-always, fit-verbatim, fit-prefixed, fit-none, means-fits}

@@ -1,5 +1,5 @@
 -- What is left is a record and the records of the rest.
-use Rattle.std.proofs.Common.{◌≡◌, ◌∙◌, sym}
+use Rattle.std.proofs.Common.{◌∙◌, sym}
 use Rattle.pathspec_select.proofs.ListingProofs.{records-first}
 use Rattle.pathspec_select.proofs.listing.RecordsIterator.next.Goals as goal
 
