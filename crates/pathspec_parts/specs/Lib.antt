@@ -4,3 +4,4 @@ pub mod Components
 pub mod Attributes
 pub mod Tokens
 pub mod GlobRelation
+pub mod Stacks

@@ -63,9 +63,10 @@ ends_with_slash path = ends_with nat_eq path (slash ∷ [])
 abbrev pub without_last_slash : List ℕ → List ℕ
 without_last_slash path = if ends_with_slash path then take (length path - 1) path else path
 
+-- the names behind those that begin them
+abbrev pub behind_front : List (List ℕ) → List (List ℕ) → Option (List (List ℕ))
+behind_front front names = if starts_with bytes_eq names front then Some (drop (length front) names) else None
+
 -- the components of an absolute path behind those of an absolute root that begin them
 abbrev pub after_root : List ℕ → List ℕ → Option (List (List ℕ))
-after_root root path =
-    if is_absolute root && is_absolute path && starts_with bytes_eq (components path) (components root)
-    then Some (drop (length (components root)) (components path))
-    else None
+after_root root path = if is_absolute root && is_absolute path then behind_front (components root) (components path) else None

@@ -1,14 +1,18 @@
 //! Paths as byte strings, and their components: what stands between slashes
 //! (gitglossary, "pathspec"; `Path::components` of Rust's standard library).
 ghost use Rattle.std.specs.Prelude.{◌≡◌};
+ghost use Rattle.std.specs.Option.{option_map};
+ghost use Rattle.std.specs.List.{list_all};
 ghost use Rattle.bstr.specs.BStr.{bstr_bytes};
-ghost use Rattle.pathspec_parts.specs.Paths.{components, is_absolute, without_last_slash, ends_with_slash};
+ghost use Rattle.pathspec_parts.specs.Paths.{components, pieces, is_name, is_absolute, is_clean_prefix, after_root, behind_front, without_last_slash, ends_with_slash};
 ghost use Rattle.pathspec_parts.specs.Components.{components_left};
 
 mod iter;
+mod stack;
 
 use bstr::BStr;
 pub use iter::Components;
+pub use stack::Stack;
 
 /// Whether a path is absolute: it begins with `/`.
 pub fn is_absolute(path: BStr<'_>) -> bool
@@ -25,6 +29,57 @@ pub fn components(path: BStr<'_>) -> Components<'_>
     ensures { components_left result ≡ components (bstr_bytes path.entry) }
 {
     Components::new(path)
+}
+
+/// Whether a prefix is clean: it is empty, or names joined by single slashes, none of them `.` or `..`.
+///
+/// It looks at each byte once.
+pub fn is_clean_prefix(prefix: BStr<'_>) -> bool
+    ensures { result ≡ is_clean_prefix (bstr_bytes prefix.entry) }
+{
+    let prefix = prefix.as_bytes();
+    prefix.is_empty() || are_names(prefix)
+}
+
+/// Whether each piece between slashes is a name.
+fn are_names(path: &[u8]) -> bool
+    ensures { result ≡ list_all is_name (pieces path.now) }
+{
+    path.split(|byte| *byte == b'/').all(is_name)
+}
+
+/// Whether a piece between slashes is a name: it isn't empty, `.` or `..`.
+fn is_name(piece: &[u8]) -> bool
+    ensures { result ≡ is_name piece.now }
+{
+    !piece.is_empty() && piece != b".".as_slice() && piece != b"..".as_slice()
+}
+
+/// The components of an absolute path behind those of an absolute root, or None where one of the two isn't
+/// absolute, or the root's components aren't a beginning of the path's. A `..` isn't resolved.
+///
+/// It looks at each byte of the root, and of the path as far as they agree, once.
+pub fn strip_root<'p>(path: BStr<'p>, root: BStr<'_>) -> Option<Components<'p>>
+    ensures { option_map components_left result ≡ after_root (bstr_bytes root.entry) (bstr_bytes path.entry) }
+{
+    if !is_absolute(root) || !is_absolute(path) {
+        return None;
+    }
+    behind(components(path), components(root))
+}
+
+/// The components behind those that begin them, if these do.
+fn behind<'p>(path: Components<'p>, front: Components<'_>) -> Option<Components<'p>>
+    ensures { option_map components_left result ≡ behind_front (components_left front.entry) (components_left path.entry) }
+{
+    let mut rest = path;
+    for component in front {
+        match rest.next() {
+            Some(own) if own.as_bytes() == component.as_bytes() => {}
+            _ => return None,
+        }
+    }
+    Some(rest)
 }
 
 /// A path without its last slash, and whether it has one.
@@ -75,6 +130,64 @@ mod tests {
         ] {
             assert_eq!(rt; is_absolute(BStr::new(path.as_bytes())), want, "{path}");
         }
+    }
+
+    #[test]
+    fn clean_prefixes_are_names_joined_by_slashes(rt: HostRuntime) {
+        let rows = [
+            ("", true),
+            ("a", true),
+            ("a/b", true),
+            ("...", true),
+            ("../a", false),
+            ("a//", false),
+            ("a//b", false),
+            ("a/", false),
+            ("/a", false),
+            ("..", false),
+            (".", false),
+            ("a/./b", false),
+        ];
+        for (prefix, want) in rows {
+            assert_eq!(rt;
+                is_clean_prefix(BStr::new(prefix.as_bytes())),
+                want,
+                "{prefix}"
+            );
+        }
+    }
+
+    #[test]
+    fn a_root_is_stripped_by_its_components(rt: HostRuntime) -> Result<(), Fail> {
+        let rows = [
+            ("/r/a/b", "/r", "a b"),
+            ("/r", "/r", ""),
+            ("/r/a/..", "/r", "a .."),
+            ("/r/a", "//r/./", "a"),
+            ("/a", "/", "a"),
+            ("/r/../x", "/r/..", "x"),
+        ];
+        for (path, root, want) in rows {
+            let (path, root) = (BStr::new(path.as_bytes()), BStr::new(root.as_bytes()));
+            let mut found = strip_root(path, root).ok_or("outside")?;
+            for name in want.split_whitespace() {
+                let component = found.next().ok_or("too few")?;
+                assert_eq!(rt; component.as_bytes(), name.as_bytes(), "in {path}");
+            }
+            assert!(rt; found.next().is_none(), "behind {path}");
+        }
+        for (path, root) in [
+            ("/r/a/b", "/rr"),
+            ("/r/a/b", ""),
+            ("/r/a", "r"),
+            ("r/a", "/r"),
+            ("/r", "/r/a"),
+            ("/x", "/r/.."),
+        ] {
+            let (path, root) = (BStr::new(path.as_bytes()), BStr::new(root.as_bytes()));
+            assert!(rt; strip_root(path, root).is_none(), "{path}");
+        }
+        Ok(())
     }
 
     #[test]

@@ -1,0 +1,7 @@
+-- A stack of components, and how low it was.
+use Rattle.std.specs.Prelude.{ℕ, List}
+
+-- what stands on a stack, the top last, and the least height since the last mark, or since the start
+pub record Stacked : Type 0 where
+  pub names : List (List ℕ)
+  pub least : ℕ

@@ -1,0 +1,126 @@
+//! A stack of components, on which `..` is resolved.
+ghost use Rattle.std.specs.Prelude.{◌≡◌, ◌≤◌, ◌<◌, ◌-◌, ◌↔◌, ℕ, [], ◌∷◌, ◌++◌, length, map, min, take, slice_get, if◌then◌else◌, IsTrue, OnOk, OnErr};
+ghost use Rattle.std.specs.Option.{option_map};
+ghost use Rattle.bstr.specs.BStr.{bstr_bytes};
+ghost use Rattle.pathspec_parts.specs.Stacks.{Stacked};
+
+use bstr::BStr;
+use std::alloc::{AllocError, Global};
+use std::marker::Model;
+
+/// A stack of borrowed components, which knows how low it was since the last mark.
+#[derive(Debug, Drop)]
+pub struct Stack<'a> {
+    names: Vec<BStr<'a>>,
+    least: usize,
+}
+
+impl<'a> Model for Stack<'a> {
+    ghost Value = { Stacked };
+
+    ghost view = { λ s. record { names = map bstr_bytes s.names.items; least = s.least } };
+
+    ghost invariant = { λ s. s.least ≤ length s.names.items };
+}
+
+impl<'a> Stack<'a> {
+    /// An empty stack. It takes no memory.
+    pub fn new(alloc: Global) -> Stack<'a>
+        ensures { result ≡ record { names = []; least = 0 } }
+    {
+        Stack {
+            names: Vec::new(alloc),
+            least: 0,
+        }
+    }
+
+    /// Puts a component on top.
+    ///
+    /// # Errors
+    /// Want of memory; the stack is then as it was.
+    pub fn push(&mut self, component: BStr<'a>) -> Result<(), AllocError>
+        ensures ok { OnOk result (self.new ≡ record self.old { names = self.old.names ++ bstr_bytes component.entry ∷ [] }) }
+        ensures err { OnErr result (self.new ≡ self.old) }
+    {
+        self.names.push(component)?;
+        Ok(())
+    }
+
+    /// Takes the top off, and says whether there was one.
+    pub fn pop(&mut self) -> bool
+        ensures popped { IsTrue result ↔ (0 < length self.old.names) }
+        ensures names { self.new.names ≡ take (length self.old.names - 1) self.old.names }
+        ensures least { self.new.least ≡ min self.old.least (length self.new.names) }
+    {
+        let popped = self.names.pop().is_some();
+        self.least = self.least.min(self.names.len());
+        popped
+    }
+
+    /// How many components stand on it.
+    pub fn len(&self) -> usize
+        ensures { result ≡ length self.now.names }
+    {
+        self.names.len()
+    }
+
+    /// Whether none does.
+    pub fn is_empty(&self) -> bool
+        ensures { IsTrue result ↔ (self.now.names ≡ []) }
+    {
+        self.names.is_empty()
+    }
+
+    /// The component at a place, the lowest at 0.
+    pub fn get(&self, place: usize) -> Option<BStr<'a>>
+        ensures { option_map bstr_bytes result ≡ slice_get self.now.names place }
+    {
+        self.names.get(place).copied()
+    }
+
+    /// From now on the least height counts anew, this moment included.
+    pub fn mark(&mut self)
+        ensures { self.new ≡ record self.old { least = length self.old.names } }
+    {
+        self.least = self.names.len();
+    }
+
+    /// The least height since the last mark, that moment included; without a mark, since the start.
+    pub fn least(&self) -> usize
+        ensures least { result ≡ self.now.least }
+        ensures within { result ≤ length self.now.names }
+    {
+        self.least
+    }
+}
+
+#[cfg(test)]
+mod tests {
+    use super::*;
+    use std::test::Fail;
+
+    #[test]
+    fn a_stack_knows_how_low_it_was(rt: HostRuntime) -> Result<(), Fail> {
+        let mut stack = Stack::new(rt.alloc());
+        assert!(rt; !stack.pop());
+        assert!(rt; stack.is_empty());
+        for name in ["a", "b", "c"] {
+            stack.push(BStr::new(name.as_bytes()))?;
+        }
+        assert_eq!(rt; stack.least(), 0);
+        stack.mark();
+        assert_eq!(rt; stack.least(), 3);
+        assert!(rt; stack.pop());
+        assert!(rt; stack.pop());
+        stack.push(BStr::new(b"d"))?;
+        assert_eq!(rt; stack.least(), 1);
+        assert_eq!(rt; stack.len(), 2);
+        assert!(rt;
+            stack
+                .get(1)
+                .is_some_and(|name| name.as_bytes() == b"d".as_slice())
+        );
+        assert!(rt; stack.get(2).is_none());
+        Ok(())
+    }
+}
