@@ -3,6 +3,8 @@ pub mod MatchingProofs
 pub mod JoinProofs
 pub mod NormalFormProofs
 pub mod ParseProofs
+pub mod CutProofs
+pub mod PiecesProofs
 mod Asking
 mod ReadingRows
 mod NormalFormRows

@@ -1,20 +1,19 @@
--- What a text without long magic says, by the tests that its reader makes.
-use Rattle.std.proofs.Common.{◌≡◌, ◌≢◌, ℕ, Bool, true, false, inl, inr, refl, sym, ◌∙◌, ap, List, [], ◌∷◌, length, drop, arith, ◌==◌, Some, None, Option, Ok, Err, Result, IfOk, IfErr, IfSome, MatchResult}
-use Rattle.std.proofs.lemmas.Bool.{cases_Bool, eqb-true}
+-- What a text says, by the tests that its reader makes.
+use Rattle.std.proofs.Common.{◌≡◌, ◌≢◌, ℕ, true, false, refl, sym, ◌∙◌, ap, List, [], ◌∷◌, length, arith, ◌==◌, Some, None, Option, Ok, Err, Result, IfOk, IfErr, IfSome, MatchResult}
+use Rattle.std.proofs.lemmas.Bool.{eqb-true}
 use Rattle.std.specs.Prelude.{bytes_eq}
-use Rattle.std.specs.List.{take_while, prefix_len}
-use Rattle.pathspec_parts.specs.Bytes.{colon, open_paren, first_is}
+use Rattle.pathspec_parts.specs.Bytes.{colon, first_is}
 use Rattle.gix_pathspec.specs.declared.defaults.Defaults.{Defaults}
 use Rattle.gix_pathspec.specs.declared.pattern.Pattern.{Pattern}
 use Rattle.gix_pathspec.specs.declared.error.Error.{Error}
 use Rattle.gix_pathspec.specs.Faults.{Fault}
-use Rattle.gix_pathspec.specs.Faults.Fault.{Empty, UnimplementedShort}
+use Rattle.gix_pathspec.specs.Faults.Fault.{Empty}
 use Rattle.gix_pathspec.specs.Errors.{fault_of, IsMemory, IsMemoryOr}
 use Rattle.gix_pathspec.specs.Signatures.{signature_bits}
 use Rattle.gix_pathspec.specs.Specs.{Spec}
 use Rattle.gix_pathspec.specs.Patterns.{pattern_spec}
-use Rattle.gix_pathspec.specs.Reading.{cut_of, cut_end, magic_of, reading, Reads, IsRefused, spec_of, nil_spec, literal_spec, no_magic, is_short, is_unimplemented, is_colon, behind_mark, has_long_magic, short_bits}
-use Rattle.gix_pathspec.proofs.ReadingProofs.{reading_is_exact, reading_at, plain_alone, not_colon, magic_says}
+use Rattle.gix_pathspec.specs.Reading.{reading, magic_says, Reads, IsRefused, spec_of, nil_spec, literal_spec, no_magic, is_colon}
+use Rattle.gix_pathspec.proofs.ReadingProofs.{reading_is_exact, reading_at, plain_alone}
 
 -- ---- errors
 
@@ -27,11 +26,6 @@ pub exact-from : (d : Defaults) (text : List ℕ) (s : Spec) (r : Result Pattern
     → MatchResult r (λ p. reading d text ≡ Ok (pattern_spec p)) (λ e. IsMemoryOr e (λ fault. reading d text ≡ Err fault))
 exact-from d text s (Ok p) h ok err = h ∙ ap Ok (sym ok)
 exact-from d text s (Err e) h ok err = memory_or (fault_of e) (λ fault. reading d text ≡ Err fault) err
-
--- the same where the spec is made of magic and a body
-pub exact-from_body : (d : Defaults) (text : List ℕ) (bits said : ℕ) (body rest : List ℕ) (r : Result Pattern Error) → bits ≡ said → body ≡ rest → reading d text ≡ Ok (spec_of d (record { signature = said; mode = None; attributes = [] }) rest)
-    → IfOk r (λ p. pattern_spec p ≡ spec_of d (record { signature = bits; mode = None; attributes = [] }) body) → IfErr r IsMemory → MatchResult r (λ p. reading d text ≡ Ok (pattern_spec p)) (λ e. IsMemoryOr e (λ fault. reading d text ≡ Err fault))
-exact-from_body d text bits said body rest r b t h ok err = exact-from d text (spec_of d (record { signature = bits; mode = None; attributes = [] }) body) r (rw (b, t) h) ok err
 
 -- the relation, from the function
 pub reads-from : (d : Defaults) (text : List ℕ) (r : Result Pattern Error) → MatchResult r (λ p. reading d text ≡ Ok (pattern_spec p)) (λ e. IsMemoryOr e (λ fault. reading d text ≡ Err fault)) → IfOk r (λ p. Reads d text (pattern_spec p))
@@ -66,48 +60,12 @@ module _ (d : Defaults) (text : List ℕ) (filled : (length text == 0) ≡ false
   pub reading-plain : d.literal ≡ false → first_is is_colon text ≡ false → reading d text ≡ Ok (spec_of d no_magic text)
   reading-plain l p = reading_at d text false false false (something_there text filled) l (plain_alone text p) p
 
--- ---- magic
+  pub reading-nil : d.literal ≡ false → bytes_eq text (colon ∷ []) ≡ true → first_is is_colon text ≡ true → reading d text ≡ Ok nil_spec
+  reading-nil l a p = reading_at d text false true true (something_there text filled) l a p
 
--- a cut without long magic
-cut_end-short : (text short rest : List ℕ) → first_is is_unimplemented rest ≡ false → first_is (λ b. b == open_paren) (behind_mark rest) ≡ false
-    → (ended : Bool) × (cut_end text short rest ≡ Ok (record { short = short; ended = ended; long = None; body = behind_mark rest }))
-cut_end-short text short [] u p = (false, refl)
-cut_end-short text short (b ∷ []) u p = elim (cases_Bool (b == colon)) [
-  | inl c ↦ (true, rw (u, c) refl)
-  | inr n ↦ let q : (b == open_paren) ≡ false = rw n at p in (false, rw (u, n, q) refl)
-]
-cut_end-short text short (b ∷ c ∷ bs) u p = elim (cases_Bool (b == colon)) [
-  | inl e ↦ let q : (c == open_paren) ≡ false = rw e at p in (true, rw (u, e, q) refl)
-  | inr n ↦ let q : (b == open_paren) ≡ false = rw n at p in (false, rw (u, n, q) refl)
-]
+  reading-magic : d.literal ≡ false → bytes_eq text (colon ∷ []) ≡ false → first_is is_colon text ≡ true → reading d text ≡ magic_says d text
+  reading-magic l a p = reading_at d text false false true (something_there text filled) l a p
 
-magic_of-short : (short body : List ℕ) (ended : Bool) → magic_of (record { short = short; ended = ended; long = None; body = body }) ≡ Ok (record { signature = short_bits short; mode = None; attributes = [] })
-unfolding magic_of
-magic_of-short short body ended = refl
-
-module _ (d : Defaults) (text magic : List ℕ) (marked : text ≡ colon ∷ magic) (read : d.literal ≡ false) where
-  pub reading-nil : (length magic == 0) ≡ true → reading d text ≡ Ok nil_spec
-  unfolding reading
-  reading-nil h = rw (marked, nothing_there magic h, read) refl
-
-  magic_reading : (length magic == 0) ≡ false → reading d text ≡ magic_says d text
-  magic_reading f =
-      let more : text ≢ colon ∷ [] = λ e. something_there magic f (let same : colon ∷ magic ≡ colon ∷ [] = sym marked ∙ e in let tail : magic ≡ [] = cc in tail) in
-      let some : text ≢ [] = λ e. let no : colon ∷ magic ≡ [] = sym marked ∙ e in let clash : ⊥ = cc in clash in
-      reading_at d text false false true some read (not_colon text more) (rw marked refl)
-
-  module _ (rest : List ℕ) (filled : (length magic == 0) ≡ false) (behind : rest ≡ drop (prefix_len is_short magic) magic) where
-    cut-is : cut_of text ≡ cut_end text (take_while is_short magic) rest
-    unfolding cut_of
-    cut-is = rw (marked, behind) refl
-
-    pub reading-free : (b : ℕ) → rest ≡ b ∷ drop 1 rest → is_unimplemented b ≡ true → reading d text ≡ Err (UnimplementedShort b)
-    reading-free b r u =
-        let cut : cut_of text ≡ Err (UnimplementedShort b) = cut-is ∙ (ap (cut_end text (take_while is_short magic)) r ∙ (rw u refl)) in
-        magic_reading filled ∙ (rw cut refl)
-
-    pub reading-short : first_is is_unimplemented rest ≡ false → has_long_magic text ≡ false → reading d text ≡ Ok (spec_of d (record { signature = short_bits (take_while is_short magic); mode = None; attributes = [] }) (behind_mark rest))
-    reading-short u l =
-        let plain : first_is (λ b. b == open_paren) (behind_mark rest) ≡ false = rw (marked, ← behind) at l in
-        let cut = cut_end-short text (take_while is_short magic) rest u plain in
-        magic_reading filled ∙ (rw (cut-is, cut.1, magic_of-short (take_while is_short magic) (behind_mark rest) cut.0) refl)
+  pub exact-from_magic : (r : Result Pattern Error) → d.literal ≡ false → bytes_eq text (colon ∷ []) ≡ false → first_is is_colon text ≡ true
+      → MatchResult r (λ p. magic_says d text ≡ Ok (pattern_spec p)) (λ e. IsMemoryOr e (λ fault. magic_says d text ≡ Err fault)) → MatchResult r (λ p. reading d text ≡ Ok (pattern_spec p)) (λ e. IsMemoryOr e (λ fault. reading d text ≡ Err fault))
+  exact-from_magic r l a p h = rw (reading-magic l a p) h

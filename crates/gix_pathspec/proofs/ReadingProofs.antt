@@ -14,7 +14,7 @@ use Rattle.gix_pathspec.specs.Faults.{Fault}
 use Rattle.gix_pathspec.specs.Faults.Fault.{Empty, UnimplementedShort, MissingParen}
 use Rattle.gix_pathspec.specs.Signatures.{signature_bits}
 use Rattle.gix_pathspec.specs.Specs.{Spec}
-use Rattle.gix_pathspec.specs.Reading.{Cut, IsCut, text_of, cut_of, cut_end, cut_long, cut_paren, is_short, is_unimplemented, is_colon, end_mark, in_parentheses, holds_close, may_begin, magic_of, Magic, Reads, IsRefused, reading, spec_of, no_magic, nil_spec, literal_spec, OneCut, ReadingIsExact}
+use Rattle.gix_pathspec.specs.Reading.{Cut, IsCut, text_of, cut_of, cut_end, cut_long, cut_paren, is_short, is_unimplemented, is_colon, end_mark, in_parentheses, holds_close, may_begin, magic_of, magic_says, Magic, Reads, IsRefused, reading, spec_of, no_magic, nil_spec, literal_spec, OneCut, ReadingIsExact}
 use Rattle.gix_pathspec.specs.Reading.Reads.{verbatim, nothing, plain, magic}
 use Rattle.gix_pathspec.specs.Reading.IsRefused.{empty, short as short_fault, paren, piece}
 
@@ -307,10 +307,6 @@ not_empty (b ∷ bs) h = refl
 
 pub not_colon : (text : List ℕ) → text ≢ colon ∷ [] → bytes_eq text (colon ∷ []) ≡ false
 not_colon text h = false_from_ne_true (bytes_eq text (colon ∷ [])) (λ e. h ((bytes_eq-Decides text (colon ∷ [])).0 e))
-
--- what a text with magic says
-abbrev pub magic_says : Defaults → List ℕ → Result Spec Fault
-magic_says d text = cut_of text >>= λ cut. magic_of cut >>= λ said. Ok (spec_of d said cut.body)
 
 same_ok : {A E : Type 0} (x y : A) → ◌≡◌ {A = Result A E} (Ok x) (Ok y) → x ≡ y
 same_ok x y h = cc

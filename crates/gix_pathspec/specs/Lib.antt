@@ -6,6 +6,7 @@ pub use Rattle.pathspec_parts.specs.GlobRelation
 pub mod Results
 pub mod Faults
 pub mod Errors
+pub mod Keywords
 pub mod AttributeLists
 pub mod Signatures
 pub mod Specs

@@ -4,13 +4,12 @@ use Rattle.std.specs.List.{list_all, list_any, before_first, after_first, take_w
 use Rattle.gix_pathspec.specs.declared.SearchMode.{SearchMode}
 use Rattle.gix_pathspec.specs.declared.SearchMode.TheVariants.{ShellGlob, Literal, PathAwareGlob}
 use Rattle.gix_pathspec.specs.declared.defaults.Defaults.{Defaults}
-use Rattle.pathspec_parts.specs.Bytes.{slash, colon, open_paren, close_paren, comma, backslash, is_one_of, is_empty, first_is, begins_with}
+use Rattle.pathspec_parts.specs.Bytes.{slash, colon, open_paren, close_paren, comma, backslash, is_one_of, is_empty, first_is}
 use Rattle.pathspec_parts.specs.Paths.{ends_with_slash, without_last_slash}
 use Rattle.pathspec_parts.specs.Attributes.{Assignment}
 use Rattle.gix_pathspec.specs.Results.{◌>>=◌}
 use Rattle.gix_pathspec.specs.Faults.{Fault}
-use Rattle.gix_pathspec.specs.Faults.Fault.{Empty, UnimplementedShort, MissingParen, InvalidKeyword, LiteralWithGlob, SecondAttributes}
-use Rattle.gix_pathspec.specs.AttributeLists.{assignments_of}
+use Rattle.gix_pathspec.specs.Faults.Fault.{Empty, UnimplementedShort, MissingParen, InvalidKeyword, LiteralWithGlob}
 use Rattle.gix_pathspec.specs.Signatures.{signature_bits, no_bits}
 use Rattle.gix_pathspec.specs.Specs.{Spec, top, icase, exclude, must_be_dir}
 
@@ -40,10 +39,9 @@ pub data Keyword : Type 0 where
   Adds : (flag : ℕ) → Keyword
   Picks : (mode : SearchMode) → Keyword
   Ignored : Keyword
-  Lists : (list : List ℕ) → Keyword
   Unknown : Keyword
 
--- the table of pieces
+-- the table of pieces; a list of attributes isn't read yet
 abbrev pub keyword_of : List ℕ → Keyword
 keyword_of piece =
     if bytes_eq piece (codes "top") then Adds top
@@ -52,7 +50,6 @@ keyword_of piece =
     else if bytes_eq piece (codes "literal") then Picks Literal
     else if bytes_eq piece (codes "glob") then Picks PathAwareGlob
     else if bytes_eq piece (codes "attr") then Ignored
-    else if begins_with piece (codes "attr:") then Lists (drop 5 piece)
     else Unknown
 
 -- what magic has said so far
@@ -72,18 +69,11 @@ same_mode _ _ = false
 abbrev pub picked : Magic → List ℕ → SearchMode → Result Magic Fault
 picked magic piece mode = if same_mode (unwrap_or magic.mode mode) mode then Ok (record magic { mode = Some mode }) else Err (LiteralWithGlob piece)
 
--- only one list of attributes may stand, unless the one before was of spaces alone
-abbrev pub listed : Magic → List ℕ → List ℕ → Result Magic Fault
-listed magic piece list =
-    if is_empty magic.attributes then (assignments_of list >>= λ assignments. Ok (record magic { attributes = assignments }))
-    else Err (SecondAttributes piece)
-
 -- what a piece makes of the magic before it, or its fault
 abbrev pub after_piece : Magic → List ℕ → Keyword → Result Magic Fault
 after_piece magic piece (Adds flag) = Ok (record magic { signature = bit_or magic.signature flag })
 after_piece magic piece (Picks mode) = picked magic piece mode
 after_piece magic piece Ignored = Ok magic
-after_piece magic piece (Lists list) = listed magic piece list
 after_piece magic piece Unknown = Err (InvalidKeyword piece)
 
 -- what the pieces make of the magic before them, from left to right, or the fault of the first at fault
@@ -176,12 +166,6 @@ abbrev pub behind_mark : List ℕ → List ℕ
 behind_mark [] = []
 behind_mark (b ∷ bs) = if b == colon then bs else b ∷ bs
 
--- A text has long magic where `(` stands behind its `:`, its short magic and its end mark.
-abbrev pub has_long_magic : List ℕ → Bool
-has_long_magic text =
-    let magic = drop 1 text in
-    first_is is_colon text && first_is (λ b. b == open_paren) (behind_mark (drop (prefix_len is_short magic) magic))
-
 -- ---- the value
 
 -- the bits of short magic: `/` is top, and `^` and `!` are exclude
@@ -240,13 +224,17 @@ pub data IsRefused (defaults : Defaults) (text : List ℕ) (fault : Fault) : Typ
   -- a piece of long magic is at fault
   piece : IsFalse defaults.literal → (cut : Cut) → IsCut cut → text ≡ text_of cut → magic_of cut ≡ Err fault → IsRefused defaults text fault
 
+-- what a text with magic says
+abbrev pub magic_says : Defaults → List ℕ → Result Spec Fault
+magic_says defaults text = cut_of text >>= λ cut. magic_of cut >>= λ said. Ok (spec_of defaults said cut.body)
+
 -- The spec that a text says, or why it says none: the same as a function.
 unfoldable pub reading : Defaults → List ℕ → Result Spec Fault
 reading defaults text =
     if is_empty text then Err Empty
     else if defaults.literal then Ok (literal_spec (signature_bits defaults.signature) text)
     else if bytes_eq text (colon ∷ []) then Ok nil_spec
-    else if first_is is_colon text then (cut_of text >>= λ cut. magic_of cut >>= λ said. Ok (spec_of defaults said cut.body))
+    else if first_is is_colon text then magic_says defaults text
     else Ok (spec_of defaults no_magic text)
 
 -- the defaults that ask for nothing

@@ -1,41 +1,35 @@
 //! Reading the text of a pathspec (gitglossary, "pathspec").
-ghost use Rattle.std.specs.Prelude.{◌≡◌, ◌≤◌, [], ◌∷◌, length, drop, codes, if◌then◌else◌, None, Ok, Err, IfOk, IfErr, MatchOption, MatchResult, IsTrue, IsFalse};
-ghost use Rattle.std.specs.List.{list_any, take_while, prefix_len};
+ghost use Rattle.std.specs.Prelude.{◌≡◌, [], ◌∷◌, bytes_eq, codes, if◌then◌else◌, unwrap_or, None, Ok, Err, IfOk, IfErr, MatchResult};
+ghost use Rattle.std.specs.List.{list_any};
 ghost use Rattle.pathspec_parts.specs.Bytes.{colon, first_is, is_one_of};
 ghost use Rattle.gix_pathspec.specs.Errors.{IsMemory, IsMemoryOr};
 ghost use Rattle.gix_pathspec.specs.Signatures.{signature_bits};
-ghost use Rattle.gix_pathspec.specs.Reading.{Reads, IsRefused, reading, has_long_magic, behind_mark, is_short, is_unimplemented, short_bits, spec_of, is_colon};
+ghost use Rattle.gix_pathspec.specs.Reading.{Reads, IsRefused, reading, magic_says, magic_of, short_bits, spec_of, is_colon};
 ghost use Rattle.gix_pathspec.specs.Patterns.{pattern_spec};
+
+mod cut;
+mod magic;
+mod pieces;
 
 use crate::{Defaults, Error, MagicSignature, Pattern};
 use bitflags::Flags;
+use cut::Cut;
+use magic::Magic;
 use pathspec_parts::path;
 use std::alloc::Global;
 
-/// Whether a text has long magic: `(` behind its `:`, its short magic and its end mark. [`parse`] doesn't read
-/// such texts yet.
+/// Reads the text of a pathspec: `:` alone, a path, or a path behind `:`, short magic (`/`, `^`, `!`, and a `:` that
+/// may end it) and long magic (`(top,icase,..)`). Long magic may say `top`, `icase`, `exclude`, `literal`, `glob`
+/// and `attr`, the last of which asks for nothing; `attr:LIST` isn't read yet. The defaults say what a text gets that
+/// says nothing of it.
 ///
-/// It looks at each byte of the magic once.
-pub fn has_long_magic(input: &[u8]) -> bool
-    ensures { result ≡ has_long_magic input.now }
-{
-    let Some(magic) = behind_colon(input) else {
-        return false;
-    };
-    let (_, rest) = split_short(magic);
-    matches!(behind_mark(rest), [b'(', ..])
-}
-
-/// Reads the text of a pathspec: `:` alone, a path, or a path behind `:` and short magic. The defaults say what
-/// a text gets that says nothing of it.
-///
-/// It looks at each byte at most three times, and takes as much memory as the path has bytes.
+/// It looks at each byte a fixed number of times, and takes as much memory as the path has bytes.
 ///
 /// # Errors
 /// [`Error::Empty`] for the empty text, [`Error::UnimplementedShort`] for a byte of short magic that git keeps
-/// free, [`Error::Memory`].
+/// free, [`Error::MissingParen`] for `(` without `)`; for the first piece of long magic at fault
+/// [`Error::InvalidKeyword`], or [`Error::LiteralWithGlob`] where it picks a second mode; [`Error::Memory`].
 pub fn parse(alloc: Global, input: &[u8], defaults: Defaults) -> Result<Pattern, Error>
-    requires { IsFalse (has_long_magic input.now) }
     ensures reads { IfOk result (λ p. Reads defaults input.now (pattern_spec p)) }
     ensures refused { IfErr result (λ e. IsMemoryOr e (λ fault. IsRefused defaults input.now fault)) }
     // The same by the function that other definitions stand on.
@@ -44,9 +38,8 @@ pub fn parse(alloc: Global, input: &[u8], defaults: Defaults) -> Result<Pattern,
     read(alloc, input, defaults)
 }
 
-/// Reads the text of a pathspec without long magic.
+/// Reads the text of a pathspec.
 fn read(alloc: Global, input: &[u8], defaults: Defaults) -> Result<Pattern, Error>
-    requires { IsFalse (has_long_magic input.now) }
     ensures { MatchResult result (λ p. reading defaults input.now ≡ Ok (pattern_spec p)) (λ e. IsMemoryOr e (λ fault. reading defaults input.now ≡ Err fault)) }
 {
     if input.is_empty() {
@@ -55,78 +48,48 @@ fn read(alloc: Global, input: &[u8], defaults: Defaults) -> Result<Pattern, Erro
     if defaults.literal {
         return Pattern::from_literal(alloc, input, defaults.signature);
     }
-    let Some(magic) = behind_colon(input) else {
-        return Pattern::with_body(alloc, defaults, MagicSignature::empty(), input);
-    };
-    if magic.is_empty() {
+    if !begins_with_colon(input) {
+        return Pattern::with_body(alloc, defaults, &Magic::none(), input);
+    }
+    if is_lone_colon(input) {
         return Ok(Pattern::nil(alloc));
     }
-    let (short, rest) = split_short(magic);
-    if let Some(byte) = free_byte(rest) {
-        return Err(Error::UnimplementedShort(byte));
-    }
-    Pattern::with_body(alloc, defaults, signature_of(short), behind_mark(rest))
+    read_magic(alloc, input, defaults)
 }
 
-/// What stands behind a `:` in front.
-fn behind_colon(input: &[u8]) -> Option<&[u8]>
-    ensures { MatchOption result (IsFalse (first_is is_colon input.now)) (λ magic. input.now ≡ colon ∷ magic.now) }
+/// Reads a text that begins with `:` and doesn't end there.
+fn read_magic(alloc: Global, text: &[u8], defaults: Defaults) -> Result<Pattern, Error>
+    ensures { MatchResult result (λ p. magic_says defaults text.now ≡ Ok (pattern_spec p)) (λ e. IsMemoryOr e (λ fault. magic_says defaults text.now ≡ Err fault)) }
 {
-    match input {
-        [b':', magic @ ..] => Some(magic),
-        _ => None,
-    }
+    let cut = cut::cut_text(alloc, text)?;
+    let said = magic_of(alloc, &cut)?;
+    Pattern::with_body(alloc, defaults, &said, cut.body)
 }
 
-/// The byte in front, if git keeps it free for more short magic.
-fn free_byte(rest: &[u8]) -> Option<u8>
-    ensures { MatchOption result (IsFalse (first_is is_unimplemented rest.now)) (λ b. (rest.now ≡ b ∷ drop 1 rest.now) × IsTrue (is_unimplemented b)) }
+/// What the magic of a cut says.
+#[tactic(auto, unfolding(crate::specs::Reading::magic_of))]
+fn magic_of(alloc: Global, cut: &Cut<'_>) -> Result<Magic, Error>
+    ensures { MatchResult result (λ m. magic_of cut.now ≡ Ok m) (λ e. IsMemoryOr e (λ fault. magic_of cut.now ≡ Err fault)) }
 {
-    match rest {
-        [byte, ..] if is_unimplemented(*byte) => Some(*byte),
-        _ => None,
-    }
+    let short = Magic {
+        signature: signature_of(cut.short),
+        mode: None,
+    };
+    magic::after_long(alloc, short, cut.long.unwrap_or(&[]))
 }
 
-/// Short magic, and what stands behind it.
-fn split_short(magic: &[u8]) -> (&[u8], &[u8])
-    ensures short { result.0.now ≡ take_while is_short magic.now }
-    ensures rest { result.1.now ≡ drop (prefix_len is_short magic.now) magic.now }
+/// Whether the text is `:` alone.
+fn is_lone_colon(input: &[u8]) -> bool
+    ensures { result ≡ bytes_eq input.now (colon ∷ []) }
 {
-    magic.split_at(short_len(magic))
+    input == b":".as_slice()
 }
 
-/// How many bytes of short magic stand in front.
-fn short_len(magic: &[u8]) -> usize
-    ensures count { result ≡ prefix_len is_short magic.now }
-    ensures within { result ≤ length magic.now }
+/// Whether a `:` stands in front.
+fn begins_with_colon(input: &[u8]) -> bool
+    ensures { result ≡ first_is is_colon input.now }
 {
-    magic.iter().take_while(|byte| is_short(**byte)).count()
-}
-
-/// What stands behind an end mark, if there is one.
-fn behind_mark(rest: &[u8]) -> &[u8]
-    ensures { result.now ≡ behind_mark rest.now }
-{
-    match rest {
-        [b':', behind @ ..] => behind,
-        _ => rest,
-    }
-}
-
-/// Whether the byte is short magic.
-fn is_short(byte: u8) -> bool
-    ensures { result ≡ is_short byte }
-{
-    matches!(byte, b'/' | b'^' | b'!')
-}
-
-/// Whether git keeps the byte free for more short magic.
-#[tactic(auto, unfolding(crate::specs::Reading::is_unimplemented))]
-fn is_unimplemented(byte: u8) -> bool
-    ensures { result ≡ is_unimplemented byte }
-{
-    b"\"#%&'-,;<=>@_`~".contains(&byte)
+    matches!(input, [b':', ..])
 }
 
 /// What short magic asks for: `/` the top, `^` and `!` an exclude.
@@ -157,15 +120,15 @@ fn flag_if(is_set: bool, flag: MagicSignature) -> MagicSignature
 }
 
 impl Pattern {
-    /// The spec that a signature and a body say.
+    /// The spec that magic and a body say.
     #[tactic(auto, unfolding(crate::specs::Reading::spec_of))]
     fn with_body(
         alloc: Global,
         defaults: Defaults,
-        signature: MagicSignature,
+        magic: &Magic,
         body: &[u8],
     ) -> Result<Pattern, Error>
-        ensures ok { IfOk result (λ p. pattern_spec p ≡ spec_of defaults (record { signature = signature_bits signature; mode = None; attributes = [] }) body.now) }
+        ensures ok { IfOk result (λ p. pattern_spec p ≡ spec_of defaults magic.now body.now) }
         ensures err { IfErr result IsMemory }
     {
         let (path, wants_directory) = path::strip_last_slash(body);
@@ -173,8 +136,8 @@ impl Pattern {
         match Vec::from_slice(alloc, path) {
             Ok(path) => Ok(Pattern {
                 path,
-                signature: defaults.signature.union(signature).union(directory),
-                search_mode: defaults.search_mode,
+                signature: defaults.signature.union(magic.signature).union(directory),
+                search_mode: magic.mode.unwrap_or(defaults.search_mode),
                 nil: false,
             }),
             Err(_) => Err(Error::Memory),
@@ -207,7 +170,6 @@ mod tests {
             (":!a/", "a", 12),
         ];
         for (text, path, bits) in rows {
-            assert!(rt; !has_long_magic(text.as_bytes()), "{text}");
             let pattern = parse(rt.alloc(), text.as_bytes(), Defaults::default())?;
             assert_eq!(rt;
                 pattern.path().as_bytes(),
@@ -251,7 +213,6 @@ mod tests {
             (":~", Error::UnimplementedShort(b'~')),
         ];
         for (text, want) in rows {
-            assert!(rt; !has_long_magic(text.as_bytes()), "{text}");
             let fault = parse(rt.alloc(), text.as_bytes(), Defaults::default()).err();
             assert!(rt; fault.is_some_and(|error| error == want), "{text}");
         }
@@ -279,12 +240,63 @@ mod tests {
     }
 
     #[test]
-    fn long_magic_stands_behind_short_magic(rt: HostRuntime) {
-        for text in [":(top)x", ":(", ":!(a", "::(a)b", ":/!:("] {
-            assert!(rt; has_long_magic(text.as_bytes()), "{text}");
+    #[rattlefmt::skip]
+    fn long_magic_says_a_signature_and_a_mode(rt: HostRuntime) -> Result<(), Fail> {
+        let rows = [
+            (":(top)x", "x", 1, SearchMode::ShellGlob),
+            (":(top,)x", "x", 1, SearchMode::ShellGlob),
+            (":(,top)x", "x", 1, SearchMode::ShellGlob),
+            (":()x", "x", 0, SearchMode::ShellGlob),
+            (":()", "", 0, SearchMode::ShellGlob),
+            (":(attr)x", "x", 0, SearchMode::ShellGlob),
+            (":(icase,exclude)a/", "a", 14, SearchMode::ShellGlob),
+            (":(top,literal,icase,attr,exclude)some/path", "some/path", 7, SearchMode::Literal),
+            (":(glob)a*", "a*", 0, SearchMode::PathAwareGlob),
+            (":(glob,glob)x", "x", 0, SearchMode::PathAwareGlob),
+            (":!(top)x", "x", 5, SearchMode::ShellGlob),
+            ("::(top)x", "x", 1, SearchMode::ShellGlob),
+            (":/!:(icase)x", "x", 7, SearchMode::ShellGlob),
+            (":(top)(icase)x", "(icase)x", 1, SearchMode::ShellGlob),
+            (":(top):x)", ":x)", 1, SearchMode::ShellGlob),
+        ];
+        for (text, path, bits, mode) in rows {
+            let pattern = parse(rt.alloc(), text.as_bytes(), Defaults::default())?;
+            assert_eq!(rt; pattern.path().as_bytes(), path.as_bytes(), "path of {text}");
+            assert_eq!(rt; pattern.signature.bits(), bits, "signature of {text}");
+            assert_eq!(rt; pattern.search_mode, mode, "mode of {text}");
+            assert!(rt; !pattern.is_nil(), "{text}");
         }
-        for text in ["", ":", "(top)x", ":x(", ":#(", ":::("] {
-            assert!(rt; !has_long_magic(text.as_bytes()), "{text}");
+        Ok(())
+    }
+
+    #[test]
+    #[rattlefmt::skip]
+    fn the_first_piece_at_fault_is_told(rt: HostRuntime) -> Result<(), Fail> {
+        let rows = [
+            (":(top", "MissingParen", ":(top"),
+            (":!(", "MissingParen", ":!("),
+            (":(foo)x", "InvalidKeyword", "foo"),
+            (":(foo,attr:)x", "InvalidKeyword", "foo"),
+            (":( top)x", "InvalidKeyword", " top"),
+            (":(Top)x", "InvalidKeyword", "Top"),
+            (":(attr :a)x", "InvalidKeyword", "attr :a"),
+            (":(attr:a=x\\,y)p", "InvalidKeyword", "attr:a=x\\,y"),
+            (":(attr:a=x\\\\,y)p", "InvalidKeyword", "attr:a=x\\\\"),
+            (":(literal,glob)x", "LiteralWithGlob", "glob"),
+            (":(glob,literal)x", "LiteralWithGlob", "literal"),
+        ];
+        for (text, kind, told) in rows {
+            let Err(error) = parse(rt.alloc(), text.as_bytes(), Defaults::default()) else {
+                return Err("read".into());
+            };
+            assert_eq!(rt; error.kind(), kind, "{text}");
+            match &error {
+                Error::MissingParen(bytes) | Error::InvalidKeyword(bytes) | Error::LiteralWithGlob(bytes) => {
+                    assert_eq!(rt; bytes.as_slice(), told.as_bytes(), "{text}");
+                }
+                _ => return Err("another error".into()),
+            }
         }
+        Ok(())
     }
 }

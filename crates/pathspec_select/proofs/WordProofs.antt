@@ -11,7 +11,7 @@ use Rattle.gix_pathspec.specs.declared.SearchMode.{SearchMode}
 use Rattle.gix_pathspec.specs.declared.SearchMode.TheVariants.{ShellGlob}
 use Rattle.gix_pathspec.specs.declared.defaults.Defaults.{Defaults}
 use Rattle.gix_pathspec.specs.Signatures.{signature_bits}
-use Rattle.gix_pathspec.specs.Reading.{reading, no_defaults, has_long_magic}
+use Rattle.gix_pathspec.specs.Reading.{reading, no_defaults}
 use Rattle.pathspec_select.specs.declared.refusal.Refusal.{Refusal}
 use Rattle.pathspec_select.specs.declared.refusal.Refusal.TheVariants as refusal
 use Rattle.pathspec_select.specs.Words.{SpecFault, WordFault, or_faulty, at_number, each_from, said, meant, spec_words, specs_of_words}
@@ -37,9 +37,9 @@ defaults_of bits mode literal = record { signature = record { 0 = bits }; search
 pub no_defaults-is : (d : Defaults) → signature_bits d.signature ≡ 0 → d.search_mode ≡ ShellGlob → d.literal ≡ false → d ≡ no_defaults
 no_defaults-is d s m l = ap (λ bits. defaults_of bits d.search_mode d.literal) s ∙ (ap (λ mode. defaults_of 0 mode d.literal) m ∙ ap (λ literal. defaults_of 0 ShellGlob literal) l)
 
--- what a word without long magic says
-pub said-is : (word text : List ℕ) (d : Defaults) → text ≡ word → d ≡ no_defaults → has_long_magic text ≡ false → said word ≡ or_faulty (reading d text)
-said-is word text d t e h = rw (← t, h, e) refl
+-- what a word says
+pub said-is : (word text : List ℕ) (d : Defaults) → text ≡ word → d ≡ no_defaults → said word ≡ or_faulty (reading d text)
+said-is word text d t e = rw (← t, e) refl
 
 -- ---- one behind the other
 

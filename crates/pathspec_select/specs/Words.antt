@@ -4,14 +4,14 @@ use Rattle.pathspec_parts.specs.Bytes.{begins_with}
 use Rattle.gix_pathspec.specs.Results.{◌>>=◌}
 use Rattle.gix_pathspec.specs.Faults.{Fault}
 use Rattle.gix_pathspec.specs.Specs.{Spec, has_wildcard}
-use Rattle.gix_pathspec.specs.Reading.{reading, no_defaults, has_long_magic}
+use Rattle.gix_pathspec.specs.Reading.{reading, no_defaults}
 use Rattle.gix_pathspec.specs.NormalForm.{normal_form, needs_root}
 
 -- why a spec asks for nothing that can be done
 pub data SpecFault : Type 0 where
   -- it is at fault
   Faulty : (fault : Fault) → SpecFault
-  -- it is of a kind that isn't read or matched yet
+  -- it is of a kind that isn't resolved or matched yet
   Unsupported : SpecFault
 
 -- why words do
@@ -34,9 +34,9 @@ abbrev pub or_faulty : {A : Type 0} → Result A Fault → Result A SpecFault
 or_faulty (Ok x) = Ok x
 or_faulty (Err fault) = Err (Faulty fault)
 
--- what a word says; long magic isn't read yet
+-- what a word says
 abbrev pub said : List ℕ → Result Spec SpecFault
-said word = if has_long_magic word then Err Unsupported else or_faulty (reading no_defaults word)
+said word = or_faulty (reading no_defaults word)
 
 -- a spec, unless it has a wildcard: globs aren't matched yet
 abbrev pub unless_wild : Spec → Result Spec SpecFault

@@ -58,11 +58,7 @@ fn read_all(alloc: Global, texts: &[String]) -> Result<Vec<Pattern>, Refusal>
 fn read(alloc: Global, number: usize, text: &String) -> Result<Pattern, Refusal>
     ensures { MatchResult result (λ p. said (string_bytes text.now) ≡ Ok (pattern_spec p)) (λ e. TellsWords e (λ fault. at_number number (said (string_bytes text.now)) ≡ Err fault)) }
 {
-    let text = text.as_bytes();
-    if parse::has_long_magic(text) {
-        return Err(Refusal::Unsupported(number));
-    }
-    match parse::parse(alloc, text, Defaults::default()) {
+    match parse::parse(alloc, text.as_bytes(), Defaults::default()) {
         Ok(pattern) => Ok(pattern),
         Err(error) => Err(refused(number, error)),
     }

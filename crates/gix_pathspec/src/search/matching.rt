@@ -109,7 +109,6 @@ mod tests {
             ("::", "q", true, Some(MatchKind::Always)),
         ];
         for (text, path, is_dir, want) in rows {
-            assert!(rt; !parse::has_long_magic(text.as_bytes()), "{text}");
             let pattern = parse::parse(rt.alloc(), text.as_bytes(), Defaults::default())?;
             assert!(rt; !pattern.has_wildcard(), "{text}");
             assert_eq!(rt;

@@ -1,0 +1,59 @@
+-- The cut of a text, by the tests that are made on the way.
+use Rattle.std.proofs.Common.{◌≡◌, ℕ, Bool, true, false, inl, inr, refl, sym, ◌∙◌, ap, List, [], ◌∷◌, drop, ◌==◌, Some, None, Option, Ok, Err, IfSome}
+use Rattle.std.proofs.lemmas.Bool.{cases_Bool}
+use Rattle.std.specs.List.{take_while, prefix_len, list_any, before_first, after_first}
+use Rattle.pathspec_parts.specs.Bytes.{colon, open_paren, close_paren, first_is}
+use Rattle.gix_pathspec.specs.Faults.{Fault}
+use Rattle.gix_pathspec.specs.Faults.Fault.{UnimplementedShort, MissingParen}
+use Rattle.gix_pathspec.specs.declared.error.Error.{Error}
+use Rattle.gix_pathspec.specs.Errors.{fault_of, IsMemoryOr}
+use Rattle.gix_pathspec.specs.Reading.{cut_of, cut_end, cut_long, cut_paren, is_short, is_unimplemented, is_colon, behind_mark}
+
+-- behind short magic stands an end mark or none
+cut_end-long : (text short rest : List ℕ) → first_is is_unimplemented rest ≡ false → cut_end text short rest ≡ cut_long text short (first_is is_colon rest) (behind_mark rest)
+cut_end-long text short [] u = refl
+cut_end-long text short (b ∷ bs) u = elim (cases_Bool (b == colon)) [
+  | inl e ↦ rw (u, e) refl
+  | inr n ↦ rw (u, n) refl
+]
+
+cut_long-body : (text short : List ℕ) (ended : Bool) (rest : List ℕ) → first_is (λ b. b == open_paren) rest ≡ false → cut_long text short ended rest ≡ Ok (record { short = short; ended = ended; long = None; body = rest })
+cut_long-body text short ended [] h = refl
+cut_long-body text short ended (b ∷ bs) h = rw h refl
+
+-- that long magic does not end, or want of memory
+told : (text : List ℕ) (o : Option Fault) → IfSome o (λ fault. fault ≡ MissingParen text) → cut_of text ≡ Err (MissingParen text) → IfSome o (λ fault. cut_of text ≡ Err fault)
+told text None h e = tt
+told text (Some fault) h e = e ∙ ap Err (sym h)
+
+pub told-open : (text : List ℕ) (e : Error) → IsMemoryOr e (λ fault. fault ≡ MissingParen text) → cut_of text ≡ Err (MissingParen text) → IsMemoryOr e (λ fault. cut_of text ≡ Err fault)
+told-open text e = told text (fault_of e)
+
+-- a text, its short magic, and what stands behind that
+module _ (text short rest : List ℕ) (s : short ≡ take_while is_short (drop 1 text)) (r : rest ≡ drop (prefix_len is_short (drop 1 text)) (drop 1 text)) where
+  cut_of-end : cut_of text ≡ cut_end text short rest
+  unfolding cut_of
+  cut_of-end = rw (s, r) refl
+
+  pub cut-free : (b : ℕ) → rest ≡ b ∷ drop 1 rest → is_unimplemented b ≡ true → cut_of text ≡ Err (UnimplementedShort b)
+  cut-free b h u =
+      let end : cut_end text short (b ∷ drop 1 rest) ≡ Err (UnimplementedShort b) = rw u refl in
+      cut_of-end ∙ (ap (cut_end text short) h ∙ end)
+
+  -- the end mark, and what stands behind it
+  module _ (kept : first_is is_unimplemented rest ≡ false) (ended : Bool) (behind : List ℕ) (e : ended ≡ first_is is_colon rest) (m : behind ≡ behind_mark rest) where
+    cut_of-long : cut_of text ≡ cut_long text short ended behind
+    cut_of-long = cut_of-end ∙ (cut_end-long text short rest kept ∙ rw (e, m) refl)
+
+    pub cut-body : first_is (λ b. b == open_paren) behind ≡ false → cut_of text ≡ Ok (record { short = short; ended = ended; long = None; body = behind })
+    cut-body h = cut_of-long ∙ cut_long-body text short ended behind h
+
+    module _ (inside : List ℕ) (i : behind ≡ open_paren ∷ inside) where
+      cut_of-paren : cut_of text ≡ cut_paren text short ended inside
+      cut_of-paren = cut_of-long ∙ ap (cut_long text short ended) i
+
+      pub cut-open : list_any (λ b. b == close_paren) inside ≡ false → cut_of text ≡ Err (MissingParen text)
+      cut-open h = let it : cut_paren text short ended inside ≡ Err (MissingParen text) = rw h refl in cut_of-paren ∙ it
+
+      pub cut-closed : list_any (λ b. b == close_paren) inside ≡ true → cut_of text ≡ Ok (record { short = short; ended = ended; long = Some (before_first (λ b. b == close_paren) inside); body = after_first (λ b. b == close_paren) inside })
+      cut-closed h = let it : cut_paren text short ended inside ≡ Ok (record { short = short; ended = ended; long = Some (before_first (λ b. b == close_paren) inside); body = after_first (λ b. b == close_paren) inside }) = rw h refl in cut_of-paren ∙ it

@@ -1,0 +1,153 @@
+//! The cut of a text into its magic and its body.
+ghost use Rattle.std.specs.Prelude.{◌≡◌, ◌∷◌, drop, if◌then◌else◌, Option, Some, None, Ok, Err, IsTrue, IsFalse, IfErr, MatchOption, MatchResult, length, ◌≤◌, ◌==◌};
+ghost use Rattle.std.specs.Option.{option_map};
+ghost use Rattle.std.specs.List.{take_while, prefix_len, list_any};
+ghost use Rattle.pathspec_parts.specs.Bytes.{colon, open_paren, close_paren, first_is};
+ghost use Rattle.gix_pathspec.specs.Faults.Fault.{MissingParen};
+ghost use Rattle.gix_pathspec.specs.Errors.{IsMemoryOr};
+ghost use Rattle.gix_pathspec.specs.Reading.{Cut as Parts, cut_of, behind_mark, is_short, is_unimplemented, is_colon};
+
+use crate::Error;
+use pathspec_parts::split;
+use std::alloc::Global;
+use std::marker::Model;
+
+/// The parts of a text with magic, behind its `:`.
+#[derive(Drop)]
+pub(super) struct Cut<'t> {
+    /// A word over `/`, `^` and `!`.
+    pub(super) short: &'t [u8],
+    /// Whether a further `:` ends it.
+    pub(super) ended: bool,
+    /// What stands in parentheses, where any do.
+    pub(super) long: Option<&'t [u8]>,
+    pub(super) body: &'t [u8],
+}
+
+impl<'t> Model for Cut<'t> {
+    ghost Value = { Parts };
+
+    ghost view = { λ c. record { short = c.short.now; ended = c.ended; long = option_map (λ long. long.now) c.long; body = c.body.now } };
+}
+
+/// Cuts a text that begins with `:`. It looks at each byte at most twice.
+///
+/// # Errors
+/// [`Error::UnimplementedShort`] and [`Error::MissingParen`]; for the second it copies the text, which may be
+/// [`Error::Memory`].
+pub(super) fn cut_text(alloc: Global, text: &[u8]) -> Result<Cut<'_>, Error>
+    ensures { MatchResult result (λ parts. cut_of text.now ≡ Ok parts) (λ e. IsMemoryOr e (λ fault. cut_of text.now ≡ Err fault)) }
+{
+    let (short, rest) = split_short(behind_first(text));
+    if let Some(byte) = free_byte(rest) {
+        return Err(Error::UnimplementedShort(byte));
+    }
+    let (ended, rest) = split_mark(rest);
+    let Some(inside) = behind_paren(rest) else {
+        return Ok(Cut {
+            short,
+            ended,
+            long: None,
+            body: rest,
+        });
+    };
+    if !is_closed(inside) {
+        return Err(missing_paren(alloc, text));
+    }
+    let (long, body) = split::at_first(inside, b')');
+    Ok(Cut {
+        short,
+        ended,
+        long: Some(long),
+        body,
+    })
+}
+
+/// What stands behind the first byte.
+fn behind_first(text: &[u8]) -> &[u8]
+    ensures { result.now ≡ drop 1 text.now }
+{
+    match text {
+        [_, behind @ ..] => behind,
+        [] => text,
+    }
+}
+
+/// Whether a `)` stands in it.
+fn is_closed(inside: &[u8]) -> bool
+    ensures { result ≡ list_any (λ b. b == close_paren) inside.now }
+{
+    inside.contains(&b')')
+}
+
+/// That long magic doesn't end.
+fn missing_paren(alloc: Global, text: &[u8]) -> Error
+    ensures { IsMemoryOr result (λ fault. fault ≡ MissingParen text.now) }
+{
+    match Vec::from_slice(alloc, text) {
+        Ok(text) => Error::MissingParen(text),
+        Err(_) => Error::Memory,
+    }
+}
+
+/// The byte in front, if git keeps it free for more short magic.
+fn free_byte(rest: &[u8]) -> Option<u8>
+    ensures { MatchOption result (IsFalse (first_is is_unimplemented rest.now)) (λ b. (rest.now ≡ b ∷ drop 1 rest.now) × IsTrue (is_unimplemented b)) }
+{
+    match rest {
+        [byte, ..] if is_unimplemented(*byte) => Some(*byte),
+        _ => None,
+    }
+}
+
+/// Short magic, and what stands behind it.
+fn split_short(magic: &[u8]) -> (&[u8], &[u8])
+    ensures short { result.0.now ≡ take_while is_short magic.now }
+    ensures rest { result.1.now ≡ drop (prefix_len is_short magic.now) magic.now }
+{
+    magic.split_at(short_len(magic))
+}
+
+/// How many bytes of short magic stand in front.
+fn short_len(magic: &[u8]) -> usize
+    ensures count { result ≡ prefix_len is_short magic.now }
+    ensures within { result ≤ length magic.now }
+{
+    magic.iter().take_while(|byte| is_short(**byte)).count()
+}
+
+/// Whether an end mark stands in front, and what stands behind it.
+fn split_mark(rest: &[u8]) -> (bool, &[u8])
+    ensures ended { result.0 ≡ first_is is_colon rest.now }
+    ensures behind { result.1.now ≡ behind_mark rest.now }
+{
+    match rest {
+        [b':', behind @ ..] => (true, behind),
+        _ => (false, rest),
+    }
+}
+
+/// What stands behind a `(` in front.
+fn behind_paren(rest: &[u8]) -> Option<&[u8]>
+    ensures { MatchOption result (IsFalse (first_is (λ b. b == open_paren) rest.now)) (λ inside. rest.now ≡ open_paren ∷ inside.now) }
+{
+    match rest {
+        [b'(', inside @ ..] => Some(inside),
+        _ => None,
+    }
+}
+
+/// Whether the byte is short magic.
+fn is_short(byte: u8) -> bool
+    ensures { result ≡ is_short byte }
+{
+    matches!(byte, b'/' | b'^' | b'!')
+}
+
+/// Whether git keeps the byte free for more short magic.
+#[tactic(auto, unfolding(crate::specs::Reading::is_unimplemented))]
+fn is_unimplemented(byte: u8) -> bool
+    ensures { result ≡ is_unimplemented byte }
+{
+    b"\"#%&'-,;<=>@_`~".contains(&byte)
+}

@@ -1,0 +1,146 @@
+//! What long magic asks for (gitglossary, "pathspec").
+ghost use Rattle.std.specs.Prelude.{◌≡◌, [], ◌∷◌, codes, unwrap_or, Some, None, Ok, Err, MatchResult, filter, not};
+ghost use Rattle.pathspec_parts.specs.Bytes.{is_empty};
+ghost use Rattle.gix_pathspec.specs.Faults.Fault.{InvalidKeyword, LiteralWithGlob};
+ghost use Rattle.gix_pathspec.specs.Errors.{IsMemoryOr};
+ghost use Rattle.gix_pathspec.specs.Signatures.{signature_bits};
+ghost use Rattle.gix_pathspec.specs.Keywords.{asked_by};
+ghost use Rattle.gix_pathspec.specs.Reading.{Magic as Said, keyword_of, same_mode, picked, after_piece, after_pieces, long_pieces, no_magic};
+
+use super::pieces;
+use crate::{Error, MagicSignature, SearchMode};
+use bitflags::Flags;
+use std::alloc::Global;
+use std::marker::Model;
+
+/// What magic has said so far.
+#[derive(Drop)]
+pub(super) struct Magic {
+    pub(super) signature: MagicSignature,
+    pub(super) mode: Option<SearchMode>,
+}
+
+impl Model for Magic {
+    ghost Value = { Said };
+
+    ghost view = { λ m. record { signature = signature_bits m.signature; mode = m.mode; attributes = [] } };
+}
+
+/// What a piece of long magic asks for.
+enum Keyword {
+    /// A bit of the signature.
+    Adds(MagicSignature),
+    /// A mode.
+    Picks(SearchMode),
+    /// Nothing.
+    Ignored,
+    /// There is no such piece.
+    Unknown,
+}
+
+/// What a piece asks for, by the table of pieces.
+fn keyword_of(piece: &[u8]) -> Keyword
+    ensures { asked_by result ≡ keyword_of piece.now }
+{
+    if piece == b"top".as_slice() {
+        Keyword::Adds(MagicSignature::TOP)
+    } else if piece == b"icase".as_slice() {
+        Keyword::Adds(MagicSignature::ICASE)
+    } else if piece == b"exclude".as_slice() {
+        Keyword::Adds(MagicSignature::EXCLUDE)
+    } else if piece == b"literal".as_slice() {
+        Keyword::Picks(SearchMode::Literal)
+    } else if piece == b"glob".as_slice() {
+        Keyword::Picks(SearchMode::PathAwareGlob)
+    } else if piece == b"attr".as_slice() {
+        Keyword::Ignored
+    } else {
+        Keyword::Unknown
+    }
+}
+
+/// Whether the modes are one.
+fn is_same(mode: SearchMode, other: SearchMode) -> bool
+    ensures { result ≡ same_mode mode other }
+{
+    mode == other
+}
+
+impl Magic {
+    /// Magic that says nothing.
+    pub(super) fn none() -> Magic
+        ensures { result ≡ no_magic }
+    {
+        Magic {
+            signature: MagicSignature::empty(),
+            mode: None,
+        }
+    }
+
+    /// With the mode that a piece picks; a mode may be picked again, and not beside another.
+    fn picking(self, alloc: Global, piece: &[u8], mode: SearchMode) -> Result<Magic, Error>
+        ensures { MatchResult result (λ m. picked self piece.now mode ≡ Ok m) (λ e. IsMemoryOr e (λ fault. picked self piece.now mode ≡ Err fault)) }
+    {
+        if !is_same(self.mode.unwrap_or(mode), mode) {
+            return Err(literal_with_glob(alloc, piece));
+        }
+        Ok(Magic {
+            mode: Some(mode),
+            ..self
+        })
+    }
+
+    /// With what a piece asks for.
+    fn with_piece(self, alloc: Global, piece: &[u8]) -> Result<Magic, Error>
+        ensures { MatchResult result (λ m. after_piece self piece.now (keyword_of piece.now) ≡ Ok m) (λ e. IsMemoryOr e (λ fault. after_piece self piece.now (keyword_of piece.now) ≡ Err fault)) }
+    {
+        match keyword_of(piece) {
+            Keyword::Adds(flag) => Ok(Magic {
+                signature: self.signature.union(flag),
+                ..self
+            }),
+            Keyword::Picks(mode) => self.picking(alloc, piece, mode),
+            Keyword::Ignored => Ok(self),
+            Keyword::Unknown => Err(invalid_keyword(alloc, piece)),
+        }
+    }
+}
+
+/// That the piece is no keyword.
+fn invalid_keyword(alloc: Global, piece: &[u8]) -> Error
+    ensures { IsMemoryOr result (λ fault. fault ≡ InvalidKeyword piece.now) }
+{
+    match Vec::from_slice(alloc, piece) {
+        Ok(piece) => Error::InvalidKeyword(piece),
+        Err(_) => Error::Memory,
+    }
+}
+
+/// That the piece picks a mode beside another.
+fn literal_with_glob(alloc: Global, piece: &[u8]) -> Error
+    ensures { IsMemoryOr result (λ fault. fault ≡ LiteralWithGlob piece.now) }
+{
+    match Vec::from_slice(alloc, piece) {
+        Ok(piece) => Error::LiteralWithGlob(piece),
+        Err(_) => Error::Memory,
+    }
+}
+
+/// What the pieces of long magic make of the magic before them. It looks at each byte a fixed number of times.
+///
+/// # Errors
+/// [`Error::InvalidKeyword`] and [`Error::LiteralWithGlob`] for the first piece at fault, [`Error::Memory`].
+pub(super) fn after_long(alloc: Global, short: Magic, long: &[u8]) -> Result<Magic, Error>
+    ensures { MatchResult result (λ m. after_pieces short (long_pieces long.now) ≡ Ok m) (λ e. IsMemoryOr e (λ fault. after_pieces short (long_pieces long.now) ≡ Err fault)) }
+{
+    let mut magic = short;
+    let mut rest = Some(long);
+    while let Some(text) = rest {
+        let (piece, behind) = pieces::split_piece(text);
+        if !piece.is_empty() {
+            magic = magic.with_piece(alloc, piece)?;
+        }
+        rest = behind;
+    }
+    Ok(magic)
+}

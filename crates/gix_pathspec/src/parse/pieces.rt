@@ -1,0 +1,42 @@
+//! The pieces of long magic.
+ghost use Rattle.std.specs.Prelude.{◌≡◌, ◌<◌, ◌+◌, [], ◌∷◌, take, drop, length, MatchOption, ◌==◌, ◌&&◌, not};
+ghost use Rattle.pathspec_parts.specs.Bytes.{comma, backslash};
+ghost use Rattle.gix_pathspec.specs.Reading.{long_pieces_from};
+
+/// The place of the first comma that an even number of backslashes precedes directly: it cuts.
+fn place_of_cut(long: &[u8]) -> Option<usize>
+    ensures { MatchOption result (long_pieces_from 0 long.now ≡ long.now ∷ []) (λ at. (at < length long.now) × (long_pieces_from 0 long.now ≡ take at long.now ∷ long_pieces_from 0 (drop (at + 1) long.now))) }
+{
+    let mut escaped = false;
+    for (at, byte) in long.iter().enumerate() {
+        if is_cut(*byte, escaped) {
+            return Some(at);
+        }
+        escaped = is_escape(*byte, escaped);
+    }
+    None
+}
+
+/// Whether the byte is a comma that nothing escapes.
+fn is_cut(byte: u8, is_escaped: bool) -> bool
+    ensures { result ≡ (byte == comma && not is_escaped) }
+{
+    byte == b',' && !is_escaped
+}
+
+/// Whether the byte is a backslash that nothing escapes.
+fn is_escape(byte: u8, is_escaped: bool) -> bool
+    ensures { result ≡ (byte == backslash && not is_escaped) }
+{
+    byte == b'\\' && !is_escaped
+}
+
+/// The first piece, and what stands behind the comma that cuts it off, if one does.
+pub(super) fn split_piece(long: &[u8]) -> (&[u8], Option<&[u8]>)
+    ensures pieces { MatchOption result.1 (long_pieces_from 0 long.now ≡ result.0.now ∷ []) (λ behind. (length behind.now < length long.now) × (long_pieces_from 0 long.now ≡ result.0.now ∷ long_pieces_from 0 behind.now)) }
+{
+    match place_of_cut(long) {
+        Some(at) => (&long[..at], Some(&long[at + 1..])),
+        None => (long, None),
+    }
+}
