@@ -1,8 +1,8 @@
 //! The cut of a text into its magic and its body.
-ghost use Rattle.std.specs.Prelude.{◌≡◌, ◌∷◌, drop, if◌then◌else◌, Option, Some, None, Ok, Err, IsTrue, IsFalse, IfErr, MatchOption, MatchResult, length, ◌≤◌, ◌==◌};
+ghost use Rattle.std.specs.Prelude.{◌≡◌, ◌∷◌, drop, Some, None, Ok, Err, IsTrue, IsFalse, MatchOption, MatchResult, length, ◌≤◌, ◌==◌};
 ghost use Rattle.std.specs.Option.{option_map};
 ghost use Rattle.std.specs.List.{take_while, prefix_len, list_any};
-ghost use Rattle.pathspec_parts.specs.Bytes.{colon, open_paren, close_paren, first_is};
+ghost use Rattle.pathspec_parts.specs.Bytes.{open_paren, close_paren, first_is};
 ghost use Rattle.gix_pathspec.specs.Faults.Fault.{MissingParen};
 ghost use Rattle.gix_pathspec.specs.Errors.{IsMemoryOr};
 ghost use Rattle.gix_pathspec.specs.Reading.{Cut as Parts, cut_of, behind_mark, is_short, is_unimplemented, is_colon};

@@ -1,6 +1,5 @@
 //! What long magic asks for (gitglossary, "pathspec").
-ghost use Rattle.std.specs.Prelude.{◌≡◌, [], ◌∷◌, codes, unwrap_or, Some, None, Ok, Err, MatchResult, filter, not};
-ghost use Rattle.pathspec_parts.specs.Bytes.{is_empty};
+ghost use Rattle.std.specs.Prelude.{◌≡◌, [], unwrap_or, Some, None, Ok, Err, MatchResult};
 ghost use Rattle.gix_pathspec.specs.Faults.Fault.{InvalidKeyword, LiteralWithGlob};
 ghost use Rattle.gix_pathspec.specs.Errors.{IsMemoryOr};
 ghost use Rattle.gix_pathspec.specs.Signatures.{signature_bits};

@@ -1,5 +1,4 @@
 -- The refusal tells the fault of the reading.
-use Rattle.std.proofs.Common.{sym, ◌∙◌}
 use Rattle.pathspec_select.proofs.WordProofs.{tells-refused, said-is, no_defaults-is}
 use Rattle.pathspec_select.proofs.words.read.Goals as goal
 
