@@ -1,12 +1,9 @@
 -- The cut of a text, by the tests that are made on the way.
-use Rattle.std.proofs.Common.{◌≡◌, ℕ, Bool, true, false, inl, inr, refl, sym, ◌∙◌, ap, List, [], ◌∷◌, drop, ◌==◌, Some, None, Option, Ok, Err, IfSome}
+use Rattle.std.proofs.Common.{◌≡◌, ℕ, Bool, true, false, inl, inr, refl, ◌∙◌, ap, List, [], ◌∷◌, drop, ◌==◌, Some, None, Ok, Err}
 use Rattle.std.proofs.lemmas.Bool.{cases_Bool}
 use Rattle.std.specs.List.{take_while, prefix_len, list_any, before_first, after_first}
 use Rattle.pathspec_parts.specs.Bytes.{colon, open_paren, close_paren, first_is}
-use Rattle.gix_pathspec.specs.Faults.{Fault}
 use Rattle.gix_pathspec.specs.Faults.Fault.{UnimplementedShort, MissingParen}
-use Rattle.gix_pathspec.specs.declared.error.Error.{Error}
-use Rattle.gix_pathspec.specs.Errors.{fault_of, IsMemoryOr}
 use Rattle.gix_pathspec.specs.Reading.{cut_of, cut_end, cut_long, cut_paren, is_short, is_unimplemented, is_colon, behind_mark}
 
 -- behind short magic stands an end mark or none
@@ -20,14 +17,6 @@ cut_end-long text short (b ∷ bs) u = elim (cases_Bool (b == colon)) [
 cut_long-body : (text short : List ℕ) (ended : Bool) (rest : List ℕ) → first_is (λ b. b == open_paren) rest ≡ false → cut_long text short ended rest ≡ Ok (record { short = short; ended = ended; long = None; body = rest })
 cut_long-body text short ended [] h = refl
 cut_long-body text short ended (b ∷ bs) h = rw h refl
-
--- that long magic does not end, or want of memory
-told : (text : List ℕ) (o : Option Fault) → IfSome o (λ fault. fault ≡ MissingParen text) → cut_of text ≡ Err (MissingParen text) → IfSome o (λ fault. cut_of text ≡ Err fault)
-told text None h e = tt
-told text (Some fault) h e = e ∙ ap Err (sym h)
-
-pub told-open : (text : List ℕ) (e : Error) → IsMemoryOr e (λ fault. fault ≡ MissingParen text) → cut_of text ≡ Err (MissingParen text) → IsMemoryOr e (λ fault. cut_of text ≡ Err fault)
-told-open text e = told text (fault_of e)
 
 -- a text, its short magic, and what stands behind that
 module _ (text short rest : List ℕ) (s : short ≡ take_while is_short (drop 1 text)) (r : rest ≡ drop (prefix_len is_short (drop 1 text)) (drop 1 text)) where

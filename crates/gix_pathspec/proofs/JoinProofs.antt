@@ -1,51 +1,21 @@
 -- Names joined one behind the other.
-use Rattle.std.proofs.Common.{◌≡◌, ℕ, true, false, List, [], ◌∷◌, ◌++◌, ◌∙◌, refl, append_assoc, inl, inr, filter, cond, bytes_eq, codes}
-use Rattle.std.proofs.lemmas.Bool.{cases_Bool, or_parts, not-true}
-use Rattle.pathspec_parts.specs.Bytes.{slash, is_empty}
-use Rattle.pathspec_parts.specs.Paths.{joined, is_component}
+use Rattle.std.proofs.Common.{◌≡◌, ℕ, zero, suc, ◌+◌, List, [], ◌∷◌, ◌++◌, ◌∙◌, refl, sym, append_assoc, ap, cond, take, Some, ◌==◌, false, arith}
+use Rattle.std.proofs.lemmas.Bool.{ne_eqb}
+use Rattle.std.proofs.Math.Numerals.{add-one}
+use Rattle.std.specs.List.{slice_get}
+use Rattle.pathspec_parts.specs.Bytes.{slash}
+use Rattle.pathspec_parts.specs.Paths.{joined}
 
--- a text with one more name
-abbrev pub with_name : List ℕ → List ℕ → List ℕ
-with_name text name = cond (is_empty text) name (text ++ slash ∷ name)
+joined-next : (xs : List (List ℕ)) (n : ℕ) (x : List ℕ) → slice_get xs n ≡ Some x → joined (take (suc n) xs) ≡ joined (take n xs) ++ cond (n == 0) x (slash ∷ x)
+joined-next [] n x h = cc
+joined-next (y ∷ ys) zero x h = cc
+joined-next (y ∷ []) (suc n) x h = cc
+joined-next (y ∷ z ∷ zs) (suc zero) x h = ap (λ t. y ++ slash ∷ t) (joined-next (z ∷ zs) zero x h)
+joined-next (y ∷ z ∷ zs) (suc (suc n)) x h =
+    let later : (m : ℕ) → (suc m == 0) ≡ false = λ m. ne_eqb (suc m) 0 (λ e. omega (arith, e)) in
+    let ih = rw later at (joined-next (z ∷ zs) (suc n) x h) in
+    rw later (ap (λ t. y ++ slash ∷ t) ih ∙ sym (append_assoc y (slash ∷ joined (z ∷ take n zs)) (slash ∷ x)))
 
--- a text with these names behind it
-abbrev pub joined_onto : List ℕ → List (List ℕ) → List ℕ
-joined_onto text [] = text
-joined_onto text (name ∷ names) = joined_onto (with_name text name) names
-
-joined-regrouped : (text name : List ℕ) (names : List (List ℕ)) → joined ((text ++ slash ∷ name) ∷ names) ≡ text ++ slash ∷ joined (name ∷ names)
-joined-regrouped text name [] = refl
-joined-regrouped text name (n ∷ names) = append_assoc text (slash ∷ name) (slash ∷ joined (n ∷ names))
-
-longer : (text rest : List ℕ) → is_empty text ≡ false → is_empty (text ++ rest) ≡ false
-longer [] rest h = cc
-longer (b ∷ text) rest h = refl
-
--- behind a text that isn't empty
-joined_onto-text : (text : List ℕ) (names : List (List ℕ)) → is_empty text ≡ false → joined_onto text names ≡ joined (text ∷ names)
-joined_onto-text text [] h = refl
-joined_onto-text text (n ∷ names) h = rw h (joined_onto-text (text ++ slash ∷ n) names (longer text (slash ∷ n) h) ∙ joined-regrouped text n names)
-
--- a component isn't empty
-component-filled : (piece : List ℕ) → is_component piece ≡ true → is_empty piece ≡ false
-component-filled piece h = (or_parts (is_empty piece) (bytes_eq piece (codes ".")) (not-true _ h)).0
-
--- behind nothing
-pub joined_onto-nothing : (pieces : List (List ℕ)) → joined_onto [] (filter is_component pieces) ≡ joined (filter is_component pieces)
-joined_onto-nothing [] = refl
-joined_onto-nothing (piece ∷ pieces) = elim (cases_Bool (is_component piece)) [
-  | inl h ↦ rw h (joined_onto-text piece (filter is_component pieces) (component-filled piece h))
-  | inr h ↦ rw h (joined_onto-nothing pieces)
-]
-
-joined-filled : (name : List ℕ) (names : List (List ℕ)) → is_empty name ≡ false → is_empty (joined (name ∷ names)) ≡ false
-joined-filled name [] h = h
-joined-filled name (n ∷ names) h = longer name (slash ∷ joined (n ∷ names)) h
-
--- joined components are empty only where there are none
-pub joined-empty : (pieces : List (List ℕ)) → is_empty (joined (filter is_component pieces)) ≡ is_empty (filter is_component pieces)
-joined-empty [] = refl
-joined-empty (piece ∷ pieces) = elim (cases_Bool (is_component piece)) [
-  | inl h ↦ rw h (joined-filled piece (filter is_component pieces) (component-filled piece h))
-  | inr h ↦ rw h (joined-empty pieces)
-]
+-- The names up to a place, and the one there with a slash in front, unless it is the first, are those up to the next place.
+pub joined-more : (xs : List (List ℕ)) (n : ℕ) (x old new : List ℕ) → old ≡ joined (take n xs) → new ≡ old ++ cond (n == 0) x (slash ∷ x) → slice_get xs n ≡ Some x → new ≡ joined (take (n + 1) xs)
+joined-more xs n x old new o w h = rw (w, o, add-one, joined-next xs n x h) refl

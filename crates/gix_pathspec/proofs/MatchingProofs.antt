@@ -1,16 +1,18 @@
--- What lies below a path, byte by byte, and how a spec without wildcards fits.
-use Rattle.std.proofs.Common.{◌≡◌, ◌≢◌, ℕ, ◌+◌, ◌<◌, ◌≤◌, Bool, true, false, not, ◌||◌, ◌&&◌, cond, inl, inr, refl, sym, ◌∙◌, ap, List, [], ◌∷◌, length, take, get_or, arith, ◌==◌, Some, None, Option, is_some}
+-- What lies below a path, byte by byte, and how a spec that isn't a glob fits.
+use Rattle.std.proofs.Common.{◌≡◌, ◌≢◌, ℕ, ◌+◌, ◌<◌, ◌≤◌, Bool, true, false, not, ◌&&◌, cond, inl, inr, refl, sym, ◌∙◌, ap, List, [], ◌∷◌, length, take, get_or, arith, ◌==◌, Some, None, Option, is_some}
 use Rattle.std.proofs.lemmas.Bool.{ne_eqb, cases_lt, lt-ltb, le-ltb}
 use Rattle.std.proofs.lemmas.List.{length-map, take-map, get_or-map}
-use Rattle.std.proofs.Math.Bool.{and-false, and-true, or-true}
+use Rattle.std.proofs.Math.Bool.{and-false, and-true}
 use Rattle.std.specs.Prelude.{bytes_eq}
 use Rattle.std.specs.Char.{to_ascii_lowercase}
 use Rattle.pathspec_parts.specs.Bytes.{slash, folded, is_empty}
 use Rattle.pathspec_parts.specs.Attributes.{Table}
+use Rattle.gix_pathspec.specs.declared.SearchMode.{SearchMode}
+use Rattle.gix_pathspec.specs.declared.SearchMode.TheVariants.{ShellGlob, Literal, PathAwareGlob}
 use Rattle.gix_pathspec.specs.declared.search.MatchKind.{MatchKind}
 use Rattle.gix_pathspec.specs.declared.search.MatchKind.TheVariants.{Always, Prefix, Verbatim}
-use Rattle.gix_pathspec.specs.Specs.{Spec, has_wildcard, always_matches, ignores_case}
-use Rattle.gix_pathspec.specs.Matching.{fit, means, has_attributes, keeps_prefix, is_verbatim, is_prefixed}
+use Rattle.gix_pathspec.specs.Specs.{Spec, has_wildcard, is_literal, is_glob, always_matches}
+use Rattle.gix_pathspec.specs.Matching.{fit, means, has_attributes, keeps_prefix, glob_matches, takes_kind, is_verbatim, is_prefixed}
 use Rattle.pathspec_parts.specs.Paths.{is_below}
 
 -- ---- below a path
@@ -74,16 +76,24 @@ pub below-folded_short : (f : Bool) (x d : List ℕ) → length x ≤ length d �
 below-folded_short false x d l = sym (below-short x d l)
 below-folded_short true x d l = sym (below-short (folded true x) (folded true d) (rw (length-map x to_ascii_lowercase, length-map d to_ascii_lowercase) l))
 
--- ---- a spec without wildcards
+-- ---- a spec that isn't a glob
 
-module _ (s : Spec) (path : List ℕ) (is_dir : Bool) (bare : s.prefix_length ≡ 0) (plain : has_wildcard s ≡ false) where
-  -- the prefix directory is empty, so nothing is to be kept
-  keeps_all : keeps_prefix s path is_dir ≡ true
-  keeps_all = rw bare (ap (λ t. t || (bytes_eq path [] && is_dir)) (ap (λ t. t || is_below path []) (or-true (not (ignores_case s)))))
+-- in each mode no glob matches
+none-globbed : (mode : SearchMode) (s : Spec) (path : List ℕ) (is_dir : Bool) → (has_wildcard s && not (is_literal mode)) ≡ false → (has_wildcard s && glob_matches mode s path && takes_kind s is_dir) ≡ false
+none-globbed ShellGlob s path is_dir plain = rw (sym (and-true (has_wildcard s)) ∙ plain) refl
+none-globbed Literal s path is_dir plain = rw (and-false (has_wildcard s)) refl
+none-globbed PathAwareGlob s path is_dir plain = rw (sym (and-true (has_wildcard s)) ∙ plain) refl
 
+-- where the prefix directory isn't kept
+pub fit-lost : (s : Spec) (path : List ℕ) (is_dir : Bool) → keeps_prefix s path is_dir ≡ false → None ≡ fit s path is_dir
+unfolding fit
+fit-lost s path is_dir lost = rw lost refl
+
+-- where it is kept
+module _ (s : Spec) (path : List ℕ) (is_dir : Bool) (kept : keeps_prefix s path is_dir ≡ true) (plain : is_glob s ≡ false) where
   fit-plain : fit s path is_dir ≡ (cond (always_matches s) (Some Always) (cond (is_verbatim s path is_dir) (Some Verbatim) (cond (is_prefixed s path) (Some Prefix) None)))
   unfolding fit
-  fit-plain = rw (keeps_all, plain) refl
+  fit-plain = rw (kept, none-globbed s.mode s path is_dir plain) refl
 
   pub fit-always : always_matches s ≡ true → Some Always ≡ fit s path is_dir
   fit-always a = sym (fit-plain ∙ (rw a refl))

@@ -14,3 +14,5 @@ pub mod Reading
 pub mod NormalForm
 pub mod Matching
 pub mod Patterns
+pub mod Heights
+pub mod Resolving

@@ -13,5 +13,5 @@ pattern_spec p =
       mode = p.search_mode;
       attributes = [];
       nil = p.nil;
-      prefix_length = 0;
+      prefix_length = p.prefix_length;
     }

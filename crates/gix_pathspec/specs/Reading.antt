@@ -192,9 +192,13 @@ spec_of defaults magic body =
 abbrev pub no_magic : Magic
 no_magic = record { signature = 0; mode = None; attributes = [] }
 
+-- a spec that asks for nothing
+abbrev pub empty_spec : Spec
+empty_spec = record { path = []; signature = 0; mode = ShellGlob; attributes = []; nil = false; prefix_length = 0 }
+
 -- the spec `:`, which says that there is no pathspec
 abbrev pub nil_spec : Spec
-nil_spec = record { path = []; signature = 0; mode = ShellGlob; attributes = []; nil = true; prefix_length = 0 }
+nil_spec = record empty_spec { nil = true }
 
 -- a text that is taken as it stands
 abbrev pub literal_spec : ℕ → List ℕ → Spec

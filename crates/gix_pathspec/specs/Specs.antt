@@ -1,7 +1,8 @@
 -- A spec: what a pathspec says, read and perhaps normalised.
-use Rattle.std.specs.Prelude.{ℕ, Bool, not, ◌&&◌, ◌||◌, List, ◌==◌, codes, bit_and}
+use Rattle.std.specs.Prelude.{ℕ, Bool, true, false, not, ◌&&◌, ◌||◌, List, ◌==◌, codes, bit_and}
 use Rattle.std.specs.List.{list_any}
 use Rattle.gix_pathspec.specs.declared.SearchMode.{SearchMode}
+use Rattle.gix_pathspec.specs.declared.SearchMode.TheVariants.{Literal}
 use Rattle.pathspec_parts.specs.Bytes.{is_empty, is_one_of}
 use Rattle.pathspec_parts.specs.Attributes.{Assignment}
 
@@ -62,3 +63,12 @@ is_wildcard b = is_one_of (codes "*?[\\") b
 -- A spec has a wildcard where it is not nil and its path holds one.
 abbrev pub has_wildcard : Spec → Bool
 has_wildcard s = not s.nil && list_any is_wildcard s.path
+
+-- the mode in which a path is compared byte for byte
+abbrev pub is_literal : SearchMode → Bool
+is_literal Literal = true
+is_literal _ = false
+
+-- A spec is a glob where it has a wildcard, and its mode isn't Literal.
+abbrev pub is_glob : Spec → Bool
+is_glob s = has_wildcard s && not (is_literal s.mode)

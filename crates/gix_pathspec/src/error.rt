@@ -1,8 +1,9 @@
 //! Why a text is no pathspec, or a pathspec has no normal form.
-ghost use Rattle.std.specs.Prelude.{◌≡◌};
-ghost use Rattle.gix_pathspec.specs.Errors.{kind_of};
+ghost use Rattle.std.specs.Prelude.{◌≡◌, IfOk, IfErr};
+ghost use Rattle.gix_pathspec.specs.Errors.{kind_of, IsMemory};
 
 use bstr::BStr;
+use std::alloc::{AllocError, Global};
 use thiserror::Error;
 
 /// Why a text is no pathspec, or a pathspec or the environment lies outside of what can be answered.
@@ -80,10 +81,30 @@ impl Error {
     }
 }
 
+impl From<AllocError> for Error {
+    ghost use Rattle.gix_pathspec.specs.declared.error.Error.TheVariants.{Memory};
+
+    ghost from_gives = { λ _ e. e ≡ Memory };
+
+    fn from(_: AllocError) -> Error {
+        Error::Memory
+    }
+}
+
+/// The bytes that an error carries.
+///
+/// # Errors
+/// [`Error::Memory`], in place of that error.
+pub(crate) fn copied(alloc: Global, bytes: &[u8]) -> Result<Vec<u8>, Error>
+    ensures ok { IfOk result (λ copy. copy.items ≡ bytes.now) }
+    ensures err { IfErr result IsMemory }
+{
+    Ok(Vec::from_slice(alloc, bytes)?)
+}
+
 #[cfg(test)]
 mod tests {
     use super::*;
-    use std::alloc::{AllocError, Global};
     use std::test::Fail;
 
     fn text(alloc: Global, bytes: &str) -> Result<Vec<u8>, AllocError> {

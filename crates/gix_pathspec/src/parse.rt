@@ -23,7 +23,8 @@ use std::alloc::Global;
 /// and `attr`, the last of which asks for nothing; `attr:LIST` isn't read yet. The defaults say what a text gets that
 /// says nothing of it.
 ///
-/// It looks at each byte a fixed number of times, and takes as much memory as the path has bytes.
+/// It looks at each byte a fixed number of times, and takes as much memory as the path has bytes, or those that an
+/// error carries.
 ///
 /// # Errors
 /// [`Error::Empty`] for the empty text, [`Error::UnimplementedShort`] for a byte of short magic that git keeps
@@ -133,15 +134,13 @@ impl Pattern {
     {
         let (path, wants_directory) = path::strip_last_slash(body);
         let directory = flag_if(wants_directory, MagicSignature::MUST_BE_DIR);
-        match Vec::from_slice(alloc, path) {
-            Ok(path) => Ok(Pattern {
-                path,
-                signature: defaults.signature.union(magic.signature).union(directory),
-                search_mode: magic.mode.unwrap_or(defaults.search_mode),
-                nil: false,
-            }),
-            Err(_) => Err(Error::Memory),
-        }
+        Ok(Pattern {
+            path: Vec::from_slice(alloc, path)?,
+            signature: defaults.signature.union(magic.signature).union(directory),
+            search_mode: magic.mode.unwrap_or(defaults.search_mode),
+            nil: false,
+            prefix_length: 0,
+        })
     }
 }
 

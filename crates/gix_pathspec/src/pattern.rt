@@ -1,23 +1,25 @@
 //! A pathspec as it is read from a text, and its normal form.
-ghost use Rattle.std.specs.Prelude.{◌≡◌, [], Ok, IfOk, IfErr, OnOk, OnErr, IsFalse};
+ghost use Rattle.std.specs.Prelude.{◌≡◌, Ok, Err, IfOk, IfErr, MatchResult};
 ghost use Rattle.std.specs.List.{list_any};
 ghost use Rattle.bstr.specs.BStr.{bstr_bytes};
-ghost use Rattle.pathspec_parts.specs.Paths.{joined, is_up};
-ghost use Rattle.pathspec_parts.specs.Components.{components_left};
-ghost use Rattle.gix_pathspec.specs.Errors.{IsMemory};
+ghost use Rattle.gix_pathspec.specs.Errors.{IsMemory, IsMemoryOr};
 ghost use Rattle.gix_pathspec.specs.Signatures.{signature_bits};
-ghost use Rattle.gix_pathspec.specs.Specs.{is_exclude, always_matches, has_wildcard, is_wildcard};
-ghost use Rattle.gix_pathspec.specs.Reading.{nil_spec, literal_spec};
-ghost use Rattle.gix_pathspec.specs.NormalForm.{normal_form, needs_root};
+ghost use Rattle.gix_pathspec.specs.Specs.{is_exclude, always_matches, has_wildcard, is_wildcard, is_glob};
+ghost use Rattle.gix_pathspec.specs.Reading.{empty_spec, nil_spec, literal_spec, Reads, IsRefused, reading};
+ghost use Rattle.gix_pathspec.specs.Matching.{prefix_directory};
 
-use crate::{Error, MagicSignature, SearchMode};
+mod normalize;
+
+use crate::{Defaults, Error, MagicSignature, SearchMode, parse};
 use bitflags::Flags;
 use bstr::BStr;
-use pathspec_parts::path::{self, Components};
-use std::alloc::{AllocError, Global};
+use std::alloc::Global;
 
 /// A pathspec: a path, and how it is to be compared with paths.
-#[derive(Debug, Drop)]
+///
+/// Patterns are compared by their path, signature, search mode, whether they are nil, and how long their prefix
+/// directory is, in this order.
+#[derive(Debug, Drop, PartialEq, Eq, PartialOrd, Ord, Hash)]
 pub struct Pattern {
     pub(crate) path: Vec<u8>,
     /// What its magic asks for.
@@ -25,10 +27,37 @@ pub struct Pattern {
     /// How its path is compared with paths.
     pub search_mode: SearchMode,
     pub(crate) nil: bool,
+    /// How many bytes of the path are the prefix directory.
+    pub(crate) prefix_length: usize,
 }
 
 impl Pattern {
     ghost use Rattle.gix_pathspec.specs.Patterns.{pattern_spec};
+
+    /// The spec with an empty path, no magic and mode [`SearchMode::ShellGlob`]. It takes no memory.
+    pub fn new(alloc: Global) -> Pattern
+        ensures { pattern_spec result ≡ empty_spec }
+    {
+        Pattern {
+            path: Vec::new(alloc),
+            signature: MagicSignature::empty(),
+            search_mode: SearchMode::ShellGlob,
+            nil: false,
+            prefix_length: 0,
+        }
+    }
+
+    /// Reads the text of a pathspec, as [`parse::parse`] does, with its cost and its errors.
+    ///
+    /// # Errors
+    /// Those of [`parse::parse`].
+    pub fn from_bytes(alloc: Global, input: &[u8], defaults: Defaults) -> Result<Pattern, Error>
+        ensures reads { IfOk result (λ p. Reads defaults input.now (pattern_spec p)) }
+        ensures refused { IfErr result (λ e. IsMemoryOr e (λ fault. IsRefused defaults input.now fault)) }
+        ensures exact { MatchResult result (λ p. reading defaults input.now ≡ Ok (pattern_spec p)) (λ e. IsMemoryOr e (λ fault. reading defaults input.now ≡ Err fault)) }
+    {
+        parse::parse(alloc, input, defaults)
+    }
 
     /// The spec whose path is the text as it stands, in mode [`SearchMode::Literal`]. No slash is stripped.
     ///
@@ -42,15 +71,13 @@ impl Pattern {
         ensures ok { IfOk result (λ p. pattern_spec p ≡ literal_spec (signature_bits signature) path.now) }
         ensures err { IfErr result IsMemory }
     {
-        match Vec::from_slice(alloc, path) {
-            Ok(path) => Ok(Pattern {
-                path,
-                signature,
-                search_mode: SearchMode::Literal,
-                nil: false,
-            }),
-            Err(_) => Err(Error::Memory),
-        }
+        Ok(Pattern {
+            path: Vec::from_slice(alloc, path)?,
+            signature,
+            search_mode: SearchMode::Literal,
+            nil: false,
+            prefix_length: 0,
+        })
     }
 
     /// The spec `:`, which says that there is no pathspec. It takes no memory.
@@ -58,11 +85,26 @@ impl Pattern {
         ensures { pattern_spec result ≡ nil_spec }
     {
         Pattern {
-            path: Vec::new(alloc),
-            signature: MagicSignature::empty(),
-            search_mode: SearchMode::ShellGlob,
             nil: true,
+            ..Pattern::new(alloc)
         }
+    }
+
+    /// A pattern equal to this one.
+    ///
+    /// # Errors
+    /// [`Error::Memory`] alone.
+    pub fn try_clone(&self) -> Result<Pattern, Error>
+        ensures ok { IfOk result (λ p. pattern_spec p ≡ pattern_spec self.now) }
+        ensures err { IfErr result IsMemory }
+    {
+        Ok(Pattern {
+            path: self.path.clone()?,
+            signature: self.signature,
+            search_mode: self.search_mode,
+            nil: self.nil,
+            prefix_length: self.prefix_length,
+        })
     }
 
     /// The path, without magic and without the last slash that asks for a directory.
@@ -70,6 +112,15 @@ impl Pattern {
         ensures { bstr_bytes result ≡ (pattern_spec self.now).path }
     {
         BStr::new(self.path.as_slice())
+    }
+
+    /// The part of the path that came from the prefix under which it was normalised, without a last slash: a spec
+    /// without case compares it with case. It is empty before [`Pattern::normalize`].
+    pub fn prefix_directory(&self) -> BStr<'_>
+        ensures { bstr_bytes result ≡ prefix_directory (pattern_spec self.now) }
+    {
+        let length = self.prefix_length.min(self.path.len());
+        BStr::new(&self.path[..length])
     }
 
     /// Whether this spec says that there is no pathspec.
@@ -94,74 +145,19 @@ impl Pattern {
     }
 
     /// Whether the spec isn't nil and its path holds `*`, `?`, `[` or `\`. One look at each byte of the path.
-    pub fn has_wildcard(&self) -> bool
+    pub(crate) fn has_wildcard(&self) -> bool
         ensures { result ≡ has_wildcard (pattern_spec self.now) }
     {
         !self.nil && holds_wildcard(self.path.as_slice())
     }
 
-    /// Whether the path is absolute or has `..`; [`Pattern::resolve`] doesn't resolve such paths yet.
-    ///
-    /// It looks at each byte of the path once.
-    pub fn needs_root(&self) -> bool
-        ensures { result ≡ needs_root (pattern_spec self.now).path }
+    /// Whether the path is compared as a glob: the spec has a wildcard, and its mode isn't [`SearchMode::Literal`].
+    /// One look at each byte of the path.
+    pub fn is_glob(&self) -> bool
+        ensures { result ≡ is_glob (pattern_spec self.now) }
     {
-        path::is_absolute(self.path()) || climbs(path::components(self.path()))
+        self.has_wildcard() && self.search_mode != SearchMode::Literal
     }
-
-    /// Resolves a relative path without `..`: its components with a slash between each two. An empty path stays
-    /// empty, and of any other path without components nothing is left but the nil spec `.`.
-    ///
-    /// It looks at each byte of the path once, and takes as much memory as the path has bytes.
-    ///
-    /// # Errors
-    /// [`Error::Memory`] alone; the pattern is then as it was.
-    pub fn resolve(&mut self) -> Result<(), Error>
-        requires { IsFalse (needs_root (pattern_spec self.old).path) }
-        ensures ok { OnOk result (normal_form [] [] (pattern_spec self.old) ≡ Ok (pattern_spec self.new)) }
-        ensures unchanged { OnErr result (pattern_spec self.new ≡ pattern_spec self.old) }
-        ensures err { IfErr result IsMemory }
-    {
-        let Ok(mut path) = joined(*self.path.allocator(), path::components(self.path())) else {
-            return Err(Error::Memory);
-        };
-        if !path.is_empty() || self.path.is_empty() {
-            self.path = path;
-            return Ok(());
-        }
-        if path.push(b'.').is_err() {
-            return Err(Error::Memory);
-        }
-        self.path = path;
-        self.nil = true;
-        Ok(())
-    }
-}
-
-/// Whether some component is `..`.
-fn climbs(components: Components<'_>) -> bool
-    ensures { result ≡ list_any is_up (components_left components.entry) }
-{
-    for component in components {
-        if component.as_bytes() == b"..".as_slice() {
-            return true;
-        }
-    }
-    false
-}
-
-/// The components with a slash between each two.
-fn joined(alloc: Global, names: Components<'_>) -> Result<Vec<u8>, AllocError>
-    ensures { IfOk result (λ path. path.items ≡ joined (components_left names.entry)) }
-{
-    let mut path = Vec::new(alloc);
-    for name in names {
-        if !path.is_empty() {
-            path.push(b'/')?;
-        }
-        path.extend_from_slice(name.as_bytes())?;
-    }
-    Ok(path)
 }
 
 /// Whether some byte of the path is a wildcard.
@@ -181,57 +177,7 @@ fn is_wildcard(byte: u8) -> bool
 #[cfg(test)]
 mod tests {
     use super::*;
-    use crate::{Defaults, parse};
     use std::test::Fail;
-
-    #[test]
-    fn relative_paths_are_resolved(rt: HostRuntime) -> Result<(), Fail> {
-        let rows = [
-            ("a", "a", false),
-            ("./c", "c", false),
-            ("a//", "a", false),
-            ("a/./b//c/.", "a/b/c", false),
-            (":", "", true),
-            ("::", "", false),
-            (".", ".", true),
-            ("./", ".", true),
-            ("/", "", false),
-        ];
-        for (text, path, nil) in rows {
-            let mut pattern = parse::parse(rt.alloc(), text.as_bytes(), Defaults::default())?;
-            assert!(rt; !pattern.needs_root(), "{text}");
-            let bits = pattern.signature;
-            pattern.resolve()?;
-            assert_eq!(rt;
-                pattern.path().as_bytes(),
-                path.as_bytes(),
-                "path of {text}"
-            );
-            assert_eq!(rt; pattern.is_nil(), nil, "nil of {text}");
-            assert_eq!(rt; pattern.signature, bits, "signature of {text}");
-        }
-        Ok(())
-    }
-
-    #[test]
-    fn absolute_paths_and_steps_up_need_a_root(rt: HostRuntime) -> Result<(), Fail> {
-        for (path, want) in [
-            ("/a", true),
-            ("a/../b", true),
-            ("..", true),
-            ("a/..b", false),
-            ("...", false),
-            ("", false),
-        ] {
-            let pattern = Pattern::from_literal(
-                rt.alloc(),
-                path.as_bytes(),
-                MagicSignature::empty(),
-            )?;
-            assert_eq!(rt; pattern.needs_root(), want, "{path}");
-        }
-        Ok(())
-    }
 
     #[test]
     fn a_literal_pattern_is_its_text(rt: HostRuntime) -> Result<(), Fail> {
@@ -246,6 +192,38 @@ mod tests {
     }
 
     #[test]
+    fn a_new_pattern_asks_for_nothing(rt: HostRuntime) -> Result<(), Fail> {
+        let pattern = Pattern::new(rt.alloc());
+        assert_eq!(rt; pattern.path().as_bytes(), b"".as_slice());
+        assert_eq!(rt; pattern.prefix_directory().as_bytes(), b"".as_slice());
+        assert_eq!(rt; pattern.signature, MagicSignature::empty());
+        assert_eq!(rt; pattern.search_mode, SearchMode::ShellGlob);
+        assert!(rt; !pattern.is_nil());
+        let read = Pattern::from_bytes(rt.alloc(), b"::", Defaults::default())?;
+        assert_eq!(rt; pattern, read);
+        Ok(())
+    }
+
+    #[test]
+    fn patterns_are_compared_field_by_field(rt: HostRuntime) -> Result<(), Fail> {
+        let alloc = rt.alloc();
+        let texts = ["", "a", ":!a", ":(literal)a", ":(glob)a", "a/", "b"];
+        let mut rising = Vec::new(alloc);
+        rising.push(Pattern::nil(alloc))?;
+        rising.push(Pattern::from_bytes(alloc, b"::", Defaults::default())?)?;
+        for text in texts.iter().skip(1) {
+            rising.push(Pattern::from_bytes(alloc, text.as_bytes(), Defaults::default())?)?;
+        }
+        for (at, pattern) in rising.iter().enumerate() {
+            assert_eq!(rt; pattern, &pattern.try_clone()?);
+            for (place, other) in rising.iter().enumerate() {
+                assert_eq!(rt; pattern == other, at == place, "{at} and {place}");
+            }
+        }
+        Ok(())
+    }
+
+    #[test]
     fn four_bytes_are_wildcards(rt: HostRuntime) -> Result<(), Fail> {
         for (text, want) in [
             ("a*", true),
@@ -255,12 +233,15 @@ mod tests {
             ("a]b{}", false),
             ("", false),
         ] {
-            let pattern = Pattern::from_literal(
+            let mut pattern = Pattern::from_literal(
                 rt.alloc(),
                 text.as_bytes(),
                 MagicSignature::empty(),
             )?;
             assert_eq!(rt; pattern.has_wildcard(), want, "{text}");
+            assert!(rt; !pattern.is_glob(), "literal {text}");
+            pattern.search_mode = SearchMode::ShellGlob;
+            assert_eq!(rt; pattern.is_glob(), want, "glob {text}");
         }
         Ok(())
     }

@@ -4,7 +4,9 @@ use Rattle.std.specs.Io.KnownBytes.{Keeps}
 use Rattle.gix_pathspec.specs.Specs.{Spec}
 use Rattle.pathspec_select.specs.declared.refusal.Refusal.{Refusal}
 use Rattle.pathspec_select.specs.declared.refusal.Refusal.TheVariants as refusal
-use Rattle.pathspec_select.specs.Words.{WordFault, spec_words, specs_of_words}
+use Rattle.pathspec_select.specs.WordFaults.{WordFault}
+use Rattle.pathspec_select.specs.Options.{options_of}
+use Rattle.pathspec_select.specs.Words.{specs_of_words}
 use Rattle.pathspec_select.specs.Refusals.{TellsWords, IsOfReading}
 use Rattle.pathspec_select.specs.Program.{Refuses}
 
@@ -13,13 +15,13 @@ keeps-itself None = tt
 keeps-itself (Some xs) = refl
 
 -- words that ask for specs have right options
-pub options-right : (words : List (List ℕ)) (specs : List Spec) → specs_of_words words ≡ Ok specs → spec_words words ≢ Err WordFault.Usage
+pub options-right : (words : List (List ℕ)) (specs : List Spec) → specs_of_words words ≡ Ok specs → options_of words ≢ Err WordFault.Usage
 unfolding specs_of_words
 options-right words specs h e = let clash = rw e at h in cc
 
 module _ (words : List (List ℕ)) (input known : Option (List ℕ)) where
   -- a fault of the words
-  pub refuses-words : {A : Type 0} (r : Refusal) → TellsWords r (λ fault. specs_of_words words ≡ Err fault) → (spec_words words ≡ Err WordFault.Usage → ◌≡◌ {A = Result A Refusal} (Err r) (Err refusal.Usage)) → Refuses words input known known r
+  pub refuses-words : {A : Type 0} (r : Refusal) → TellsWords r (λ fault. specs_of_words words ≡ Err fault) → (options_of words ≡ Err WordFault.Usage → ◌≡◌ {A = Result A Refusal} (Err r) (Err refusal.Usage)) → Refuses words input known known r
   refuses-words refusal.Usage h o = (h, keeps-itself known)
   refuses-words (refusal.Spec number error) h o = ((h.0, h.1, h.2), keeps-itself known)
   refuses-words (refusal.Unsupported number) h o = (h, keeps-itself known)

@@ -14,7 +14,9 @@ use Rattle.gix_pathspec.specs.Signatures.{signature_bits}
 use Rattle.gix_pathspec.specs.Reading.{reading, no_defaults}
 use Rattle.pathspec_select.specs.declared.refusal.Refusal.{Refusal}
 use Rattle.pathspec_select.specs.declared.refusal.Refusal.TheVariants as refusal
-use Rattle.pathspec_select.specs.Words.{SpecFault, WordFault, or_faulty, at_number, each_from, said, meant, spec_words, specs_of_words}
+use Rattle.pathspec_select.specs.WordFaults.{SpecFault, WordFault}
+use Rattle.pathspec_select.specs.Options.{Options, options_of}
+use Rattle.pathspec_select.specs.Words.{or_faulty, at_number, each_from, said, meant, unless_glob, or_prefix, specs_of, specs_of_words}
 use Rattle.gix_pathspec.specs.Specs.{Spec}
 use Rattle.std.proofs.lemmas.Grind.{common_steps}
 use Rattle.pathspec_select.specs.Refusals.{TellsWords}
@@ -92,21 +94,30 @@ tells-on refusal.Memory P Q f h = h
 
 -- ---- all words
 
+-- a spec that has no normal form means nothing
+pub meant-fails : (number : ℕ) (x : Result Spec Fault) (fault : WordFault) → at_number number (or_faulty x) ≡ Err fault → at_number number (or_faulty x >>= unless_glob) ≡ Err fault
+meant-fails number (Ok s) fault h = cc
+meant-fails number (Err f) fault h = h
+
+module _ (options : Options) where
+  -- a spec is at fault where it is read
+  pub specs-read : (fault : WordFault) → each_from 0 said options.texts ≡ Err fault → specs_of options ≡ Err fault
+  specs-read fault r = rw r refl
+
+  -- all are read
+  pub specs-normal : (specs listed : List Spec) (end : Result (List Spec) WordFault) → each_from 0 said options.texts ≡ Ok specs → listed ≡ or_prefix options.prefix specs → each_from 0 (meant options.prefix options.root) listed ≡ end → specs_of options ≡ end
+  specs-normal specs listed end r l n = rw (r, ← l) n
+
 module _ (words : List (List ℕ)) where
   -- the options are at fault
-  pub words-options : (fault : WordFault) → spec_words words ≡ Err fault → specs_of_words words ≡ Err fault
+  pub words-options : (fault : WordFault) → options_of words ≡ Err fault → specs_of_words words ≡ Err fault
   unfolding specs_of_words
   words-options fault o = rw o refl
 
-  -- a spec is at fault where it is read
-  pub words-read : (texts : List (List ℕ)) (fault : WordFault) → spec_words words ≡ Ok texts → each_from 0 said texts ≡ Err fault → specs_of_words words ≡ Err fault
+  -- they aren't
+  pub words-specs : (options : Options) → options_of words ≡ Ok options → specs_of_words words ≡ specs_of options
   unfolding specs_of_words
-  words-read texts fault o r = rw (o, r) refl
-
-  -- all are read
-  pub words-resolved : (texts : List (List ℕ)) (specs : List Spec) (end : Result (List Spec) WordFault) → spec_words words ≡ Ok texts → each_from 0 said texts ≡ Ok specs → each_from 0 meant specs ≡ end → specs_of_words words ≡ end
-  unfolding specs_of_words
-  words-resolved texts specs end o r m = rw (o, r) m
+  words-specs options o = rw o refl
 
 -- a slice written back whole
 pub written_back : {X : Type 0} (new old : List X) (n : ℕ) → n ≡ length new → take n (new ++ drop (length new) old) ≡ new

@@ -11,6 +11,9 @@ pub use Rattle.gix_pathspec.specs.Matching
 pub use Rattle.gix_pathspec.specs.Patterns
 pub mod Listing
 pub mod Records
+pub mod WordFaults
+pub mod Options
+pub mod OptionWords
 pub mod Words
 pub mod Refusals
 pub mod Program

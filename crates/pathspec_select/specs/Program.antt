@@ -7,7 +7,9 @@ use Rattle.gix_pathspec.specs.Specs.{Spec}
 use Rattle.pathspec_select.specs.declared.refusal.Refusal.{Refusal}
 use Rattle.pathspec_select.specs.declared.refusal.Refusal.TheVariants as told
 use Rattle.pathspec_select.specs.Listing.{records, first_bad, output, table_of}
-use Rattle.pathspec_select.specs.Words.{SpecFault, WordFault, spec_words, specs_of_words}
+use Rattle.pathspec_select.specs.WordFaults.{SpecFault, WordFault}
+use Rattle.pathspec_select.specs.Options.{options_of}
+use Rattle.pathspec_select.specs.Words.{specs_of_words}
 
 -- what ends a record
 abbrev pub line_feed : ℕ
@@ -45,7 +47,7 @@ Refuses words input old new (told.Unsupported number) = HasFault words (WordFaul
 Refuses words input old new told.Read = AsksFor words (λ specs. Keeps old new)
 Refuses words input old new (told.Line number) = AsksFor words (λ specs. IfSome input (λ bytes. HasBadRecord bytes number) × Keeps old new)
 Refuses words input old new told.Write = AsksFor words (λ specs. IfSome input (λ bytes. HasGoodRecords bytes × AppendsFront old new (output_of specs bytes)))
-Refuses words input old new told.Memory = (spec_words words ≢ Err WordFault.Usage) × Keeps old new
+Refuses words input old new told.Memory = (options_of words ≢ Err WordFault.Usage) × Keeps old new
 
 -- What a run ends with, for these words, the bytes that its reader gives, and those that its writer held before and holds after it. Either no fault occurred and exactly the full output was written, or it is refused.
 abbrev pub Ends : {A : Type 0} → List (List ℕ) → Option (List ℕ) → Option (List ℕ) → Option (List ℕ) → Result A Refusal → Type 0

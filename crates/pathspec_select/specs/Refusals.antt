@@ -4,7 +4,7 @@ use Rattle.gix_pathspec.specs.Faults.{Fault}
 use Rattle.gix_pathspec.specs.Errors.{fault_of}
 use Rattle.pathspec_select.specs.declared.refusal.Refusal.{Refusal}
 use Rattle.pathspec_select.specs.declared.refusal.Refusal.TheVariants as told
-use Rattle.pathspec_select.specs.Words.{SpecFault, WordFault}
+use Rattle.pathspec_select.specs.WordFaults.{SpecFault, WordFault}
 
 -- the exit status
 abbrev pub status_of : Refusal → ℕ

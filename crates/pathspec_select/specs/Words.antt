@@ -1,33 +1,15 @@
--- What the words of a command line ask for.
-use Rattle.std.specs.Prelude.{ℕ, ◌+◌, List, [], ◌∷◌, codes, bytes_eq, if◌then◌else◌, Result, Ok, Err}
-use Rattle.pathspec_parts.specs.Bytes.{begins_with}
+-- The specs that the words of a command line ask for.
+use Rattle.std.specs.Prelude.{ℕ, ◌+◌, not, ◌&&◌, List, [], ◌∷◌, if◌then◌else◌, Result, Ok, Err}
+use Rattle.pathspec_parts.specs.Bytes.{is_empty}
 use Rattle.gix_pathspec.specs.Results.{◌>>=◌}
 use Rattle.gix_pathspec.specs.Faults.{Fault}
-use Rattle.gix_pathspec.specs.Specs.{Spec, has_wildcard}
-use Rattle.gix_pathspec.specs.Reading.{reading, no_defaults}
-use Rattle.gix_pathspec.specs.NormalForm.{normal_form, needs_root}
-
--- why a spec asks for nothing that can be done
-pub data SpecFault : Type 0 where
-  -- it is at fault
-  Faulty : (fault : Fault) → SpecFault
-  -- it is of a kind that isn't resolved or matched yet
-  Unsupported : SpecFault
-
--- why words do
-pub data WordFault : Type 0 where
-  -- the options are wrong
-  Usage : WordFault
-  -- the spec with this number, from 0
-  InSpec : (number : ℕ) (fault : SpecFault) → WordFault
-
--- The words behind the options. The one option is `--`, behind which all words are specs; without it they begin with the first word that begins with no `-`.
-abbrev pub spec_words : List (List ℕ) → Result (List (List ℕ)) WordFault
-spec_words [] = Ok []
-spec_words (word ∷ words) =
-    if bytes_eq word (codes "--") then Ok words
-    else if begins_with word (codes "-") then Err Usage
-    else Ok (word ∷ words)
+use Rattle.gix_pathspec.specs.Specs.{Spec, is_glob, must_be_dir}
+use Rattle.gix_pathspec.specs.Reading.{reading, no_defaults, literal_spec}
+use Rattle.gix_pathspec.specs.NormalForm.{normal_form}
+use Rattle.pathspec_select.specs.WordFaults.{SpecFault, WordFault}
+use Rattle.pathspec_select.specs.WordFaults.SpecFault.{Faulty, Unsupported}
+use Rattle.pathspec_select.specs.WordFaults.WordFault.{InSpec}
+use Rattle.pathspec_select.specs.Options.{Options, options_of}
 
 -- a fault as that of a spec
 abbrev pub or_faulty : {A : Type 0} → Result A Fault → Result A SpecFault
@@ -38,13 +20,17 @@ or_faulty (Err fault) = Err (Faulty fault)
 abbrev pub said : List ℕ → Result Spec SpecFault
 said word = or_faulty (reading no_defaults word)
 
--- a spec, unless it has a wildcard: globs aren't matched yet
-abbrev pub unless_wild : Spec → Result Spec SpecFault
-unless_wild s = if has_wildcard s then Err Unsupported else Ok s
+-- a spec, unless it is a glob: globs aren't matched yet
+abbrev pub unless_glob : Spec → Result Spec SpecFault
+unless_glob s = if is_glob s then Err Unsupported else Ok s
 
--- what a spec means from the top; paths that need a root, and globs, aren't resolved yet
-abbrev pub meant : Spec → Result Spec SpecFault
-meant s = if needs_root s.path then Err Unsupported else (or_faulty (normal_form [] [] s) >>= unless_wild)
+-- what a spec means in a prefix, in a repository with this root
+abbrev pub meant : List ℕ → List ℕ → Spec → Result Spec SpecFault
+meant prefix root s = or_faulty (normal_form prefix root s) >>= unless_glob
+
+-- An empty list with a prefix stands for that prefix.
+abbrev pub or_prefix : List ℕ → List Spec → List Spec
+or_prefix prefix specs = if is_empty specs && not (is_empty prefix) then literal_spec must_be_dir [] ∷ [] else specs
 
 -- a fault with the number of its spec
 abbrev pub at_number : {A : Type 0} → ℕ → Result A SpecFault → Result A WordFault
@@ -56,6 +42,10 @@ abbrev pub each_from : {A B : Type 0} → ℕ → (A → Result B SpecFault) →
 each_from n step [] = Ok []
 each_from n step (x ∷ xs) = at_number n (step x) >>= λ y. each_from (n + 1) step xs >>= λ ys. Ok (y ∷ ys)
 
--- The specs that words ask for, or the first fault: every spec is read before the first one is resolved.
+-- The specs that options and the words behind them ask for, or the first fault: every spec is read before the first one is normalised.
+abbrev pub specs_of : Options → Result (List Spec) WordFault
+specs_of options = each_from 0 said options.texts >>= λ specs. each_from 0 (meant options.prefix options.root) (or_prefix options.prefix specs)
+
+-- The specs that words ask for, or the first fault.
 unfoldable pub specs_of_words : List (List ℕ) → Result (List Spec) WordFault
-specs_of_words words = spec_words words >>= λ texts. each_from 0 said texts >>= λ specs. each_from 0 meant specs
+specs_of_words words = options_of words >>= specs_of

@@ -1,8 +1,8 @@
 //! Which records specs choose.
-ghost use Rattle.std.specs.Prelude.{◌≡◌, ◌≢◌, ◌&&◌, [], Bool, All, map, not, IfOk, IsFalse};
+ghost use Rattle.std.specs.Prelude.{◌≡◌, ◌&&◌, [], All, map, IfOk, IsFalse};
 ghost use Rattle.std.specs.List.{list_any};
 ghost use Rattle.bstr.specs.BStr.{bstr_bytes};
-ghost use Rattle.gix_pathspec.specs.Specs.{has_wildcard, is_exclude, is_include};
+ghost use Rattle.gix_pathspec.specs.Specs.{is_glob, is_include};
 ghost use Rattle.gix_pathspec.specs.Matching.{means, chosen};
 ghost use Rattle.gix_pathspec.specs.Patterns.{pattern_spec};
 ghost use Rattle.pathspec_select.specs.Listing.{records, output, table_of, record_path, record_is_dir};
@@ -23,7 +23,7 @@ pub(crate) fn chosen_records(
     listing: &[u8],
     separator: u8,
 ) -> Result<Vec<u8>, AllocError>
-    requires { All (λ p. IsFalse (has_wildcard (pattern_spec p))) patterns.now }
+    requires { All (λ p. IsFalse (is_glob (pattern_spec p))) patterns.now }
     ensures { IfOk result (λ out. out.items ≡ output (table_of []) (map pattern_spec patterns.now) separator (records separator listing.now)) }
 {
     let mut output = Vec::new(alloc);
@@ -38,7 +38,7 @@ pub(crate) fn chosen_records(
 
 /// Whether a record is chosen: it is a directory where it ends with a slash, which is no part of its path.
 fn is_chosen_record(patterns: &[Pattern], text: &[u8]) -> bool
-    requires { All (λ p. IsFalse (has_wildcard (pattern_spec p))) patterns.now }
+    requires { All (λ p. IsFalse (is_glob (pattern_spec p))) patterns.now }
     ensures { result ≡ chosen (table_of []) (map pattern_spec patterns.now) (record_path text.now) (record_is_dir text.now) }
 {
     let (path, is_dir) = path::strip_last_slash(text);
@@ -47,7 +47,7 @@ fn is_chosen_record(patterns: &[Pattern], text: &[u8]) -> bool
 
 /// Whether a path is chosen: no exclude means it, and some include does or there is no include.
 fn is_chosen(patterns: &[Pattern], path: BStr<'_>, is_dir: bool) -> bool
-    requires { All (λ p. IsFalse (has_wildcard (pattern_spec p))) patterns.now }
+    requires { All (λ p. IsFalse (is_glob (pattern_spec p))) patterns.now }
     ensures { result ≡ chosen (table_of []) (map pattern_spec patterns.now) (bstr_bytes path.entry) is_dir }
 {
     let mut included = !has_include(patterns);

@@ -5,6 +5,7 @@ mod devices;
 mod environment;
 mod filter;
 mod listing;
+mod options;
 mod program;
 mod refusal;
 #[cfg(test)]

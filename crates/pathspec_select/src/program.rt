@@ -11,14 +11,16 @@ const LINE_FEED: u8 = b'\n';
 /// Runs `pathspec-select` over a reader and a writer: reads a listing of paths, one a line, and writes the records
 /// that the words' specs choose, in their order, each with a line feed behind it.
 ///
-/// The words are the arguments behind the program's name. The environment isn't read yet.
+/// The words are the arguments behind the program's name: `--prefix P` and `--root R`, and then the specs, which are
+/// read as in the directory P of a repository that lies at R. No specs and a prefix choose what lies in the prefix.
+/// The environment isn't read yet.
 ///
-/// It takes one look at each byte of the listing, one at each byte of each spec for each record, and a few times
-/// as much memory as the listing has bytes.
+/// It looks at each byte of the listing a fixed number of times, and for each record at each byte of each spec, and
+/// takes a few times as much memory as the listing has bytes.
 ///
 /// # Errors
 /// The first fault, in this order: [`Refusal::Usage`]; [`Refusal::Spec`] or [`Refusal::Unsupported`] of the first
-/// spec that can't be read, and then of the first that can't be resolved; [`Refusal::Read`]; [`Refusal::Line`];
+/// spec that can't be read, and then of the first that has no normal form or is a glob; [`Refusal::Read`]; [`Refusal::Line`];
 /// [`Refusal::Write`]. [`Refusal::Memory`] comes at its place among them. Nothing is written before a fault, but
 /// for a write's.
 pub fn run<R: Read, W: Write>(

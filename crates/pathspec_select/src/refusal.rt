@@ -6,13 +6,13 @@ use gix_pathspec::Error;
 /// Why the program ends without having done all. Its text is the line for standard error.
 #[derive(Debug, Drop, PartialEq, Eq, thiserror::Error)]
 pub enum Refusal {
-    /// An option is unknown, or lacks its argument.
+    /// An option is unknown or lacks its argument, or the prefix isn't clean.
     #[error("usage: pathspec-select [-z] [--prefix P] [--root R] [--attr PATH LIST]... [--] [SPEC...]")]
     Usage,
     /// A spec is at fault; specs are numbered from 0.
     #[error("spec {}: {}", .0, .1.kind())]
     Spec(usize, Error),
-    /// A spec is of a kind that isn't read or matched yet; specs are numbered from 0.
+    /// A spec is a glob, which isn't matched yet; specs are numbered from 0.
     #[error("spec {0}: Unsupported")]
     Unsupported(usize),
     /// A read failed.

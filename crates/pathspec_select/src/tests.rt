@@ -92,6 +92,37 @@ fn chosen_records_are_written(rt: HostRuntime) -> Result<(), Fail> {
         (":!(glob)a/x a", "a/x\na/y\n", "a/y\n"),
         (":()a :(,)b", "a\nb\nc\n", "a\nb\n"),
         (":(attr)a", "a\nb\n", "a\n"),
+        (":(literal)a*", "a*\nab\n", "a*\n"),
+        ("a/.. b", "a\nb\n", "a\nb\n"),
+        ("a/../b", "a\nb\n", "b\n"),
+    ];
+    for (words, listing, want) in rows {
+        let end = ended(rt.alloc(), words, listing.as_bytes())?;
+        assert_eq!(rt; end.line.as_str(), "", "{words}");
+        assert_eq!(rt; end.status, 0, "{words}");
+        assert_eq!(rt; end.written.as_slice(), want.as_bytes(), "{words}");
+    }
+    Ok(())
+}
+
+#[test]
+fn specs_are_read_in_a_prefix_and_a_root(rt: HostRuntime) -> Result<(), Fail> {
+    let rows = [
+        ("--prefix a", "a/b\nb\n", "a/b\n"),
+        ("--prefix a :/b c", "b\na/b\na/c\n", "b\na/c\n"),
+        ("--prefix a :(icase)B", "a/b\nA/b\n", "a/b\n"),
+        ("--prefix a ../b", "a/x\nb\n", "b\n"),
+        ("--prefix a/ ../b", "a/x\nb\n", "b\n"),
+        ("--prefix .. --prefix a b", "a/b\nb\n", "a/b\n"),
+        ("--prefix a -- b", "a/b\nb\n", "a/b\n"),
+        ("--prefix a :", "a/x\nb\n", "a/x\nb\n"),
+        ("--prefix a :!x", "a/x\na/y\nb\n", "a/y\nb\n"),
+        ("--prefix a :(icase).", "a/x\nA/x\n", "a/x\nA/x\n"),
+        ("--prefix a :(icase)./", "a/x\nA/x\n", "a/x\n"),
+        ("--prefix a*", "a*/b\nab/b\n", "a*/b\n"),
+        ("--root /r /r/a", "a/x\nb\n", "a/x\n"),
+        ("--root /r --prefix b /r/a", "a/x\nb/a\n", "a/x\n"),
+        ("--root /r /r", "a/x\nb\n", "a/x\nb\n"),
     ];
     for (words, listing, want) in rows {
         let end = ended(rt.alloc(), words, listing.as_bytes())?;
@@ -107,13 +138,19 @@ fn the_first_fault_is_told_and_nothing_is_written(rt: HostRuntime) -> Result<(),
     let rows = [
         ("-", "", 2, USAGE),
         ("-z a", "", 2, USAGE),
-        ("--prefix a", "", 2, USAGE),
+        ("--prefix", "", 2, USAGE),
+        ("--prefix ../a", "", 2, USAGE),
+        ("--prefix a//", "", 2, USAGE),
+        ("--prefix a --root", "", 2, USAGE),
         ("-x :#y", "/\n", 2, USAGE),
         ("a*", "a\n", 3, "spec 0: Unsupported"),
-        ("../a", "a\n", 3, "spec 0: Unsupported"),
-        ("a/..", "a\n", 3, "spec 0: Unsupported"),
-        ("/a", "a\n", 3, "spec 0: Unsupported"),
-        ("a :(literal)x*", "a\n", 3, "spec 1: Unsupported"),
+        ("../a", "a\n", 3, "spec 0: LeavesRepository"),
+        ("../a*", "a\n", 3, "spec 0: LeavesRepository"),
+        ("--prefix a ../../b", "b\n", 3, "spec 0: LeavesRepository"),
+        ("/a", "a\n", 3, "spec 0: OutsideRoot"),
+        ("/a*", "a\n", 3, "spec 0: OutsideRoot"),
+        ("--root /rr a /r/a", "a\n", 3, "spec 1: OutsideRoot"),
+        (":(glob)a :(glob)x*", "a\n", 3, "spec 1: Unsupported"),
         ("a :(foo)x", "a\n", 3, "spec 1: InvalidKeyword"),
         (":(glob,literal)x", "a\n", 3, "spec 0: LiteralWithGlob"),
         (":(attr:a)x", "a\n", 3, "spec 0: InvalidKeyword"),

@@ -1,40 +1,65 @@
-//! The words of the command line: options, and then specs.
-ghost use Rattle.std.specs.Prelude.{◌≡◌, Ok, Err, All, map, IfOk, OnOk, MatchResult, MatchOption, IsFalse, string_bytes};
-ghost use Rattle.gix_pathspec.specs.Specs.{has_wildcard};
+//! The specs that the words of the command line ask for.
+ghost use Rattle.std.specs.Prelude.{◌≡◌, Ok, Err, All, map, IfOk, IfErr, OnOk, MatchResult, MatchOption, IsTrue, IsFalse, string_bytes};
+ghost use Rattle.bstr.specs.BStr.{bstr_bytes};
+ghost use Rattle.pathspec_parts.specs.Paths.{is_clean_prefix};
+ghost use Rattle.gix_pathspec.specs.Specs.{is_glob};
 ghost use Rattle.gix_pathspec.specs.Errors.{fault_of};
 ghost use Rattle.gix_pathspec.specs.Patterns.{pattern_spec};
-ghost use Rattle.pathspec_select.specs.Words.{WordFault, spec_words, said, meant, each_from, specs_of_words, at_number};
+ghost use Rattle.pathspec_select.specs.WordFaults.{WordFault};
+ghost use Rattle.pathspec_select.specs.Options.{options_of};
+ghost use Rattle.pathspec_select.specs.Words.{said, meant, or_prefix, each_from, specs_of, specs_of_words, at_number};
 ghost use Rattle.pathspec_select.specs.Refusals.{TellsWords};
 
 use crate::Refusal;
-use gix_pathspec::{Defaults, Error, Pattern, parse};
+use crate::options::{self, Options};
+use bstr::BStr;
+use gix_pathspec::{Defaults, Error, MagicSignature, Pattern, parse};
 use std::alloc::Global;
 
-/// The specs that the words ask for, resolved. Every spec is read before the first one is resolved.
+/// The specs that the words ask for, normalised. Every spec is read before the first one is normalised.
 ///
 /// # Errors
 /// The first fault: [`Refusal::Usage`], [`Refusal::Spec`], [`Refusal::Unsupported`]; or [`Refusal::Memory`].
 pub(crate) fn specs(alloc: Global, words: &[String]) -> Result<Vec<Pattern>, Refusal>
     ensures cases { MatchResult result (λ ps. specs_of_words (map string_bytes words.now) ≡ Ok (map pattern_spec ps.items)) (λ e. TellsWords e (λ fault. specs_of_words (map string_bytes words.now) ≡ Err fault)) }
     // Wrong options are told before memory is wanted.
-    ensures options { spec_words (map string_bytes words.now) ≡ Err WordFault.Usage → result ≡ Err Refusal.Usage }
-    ensures plain { IfOk result (λ ps. All (λ p. IsFalse (has_wildcard (pattern_spec p))) ps.items) }
+    ensures options { options_of (map string_bytes words.now) ≡ Err WordFault.Usage → result ≡ Err Refusal.Usage }
+    ensures plain { IfOk result (λ ps. All (λ p. IsFalse (is_glob (pattern_spec p))) ps.items) }
 {
-    let mut patterns = read_all(alloc, spec_words(words)?)?;
-    resolve_all(patterns.as_mut_slice())?;
+    specs_of(alloc, &options::read(words)?)
+}
+
+/// The specs that options and the words behind them ask for.
+fn specs_of(alloc: Global, options: &Options<'_>) -> Result<Vec<Pattern>, Refusal>
+    requires { IsTrue (is_clean_prefix options.now.prefix) }
+    ensures cases { MatchResult result (λ ps. specs_of options.now ≡ Ok (map pattern_spec ps.items)) (λ e. TellsWords e (λ fault. specs_of options.now ≡ Err fault)) }
+    ensures plain { IfOk result (λ ps. All (λ p. IsFalse (is_glob (pattern_spec p))) ps.items) }
+{
+    let read = read_all(alloc, options.specs)?;
+    let mut patterns = or_prefix(alloc, read, options.prefix)?;
+    normalize_all(
+        patterns.as_mut_slice(),
+        BStr::new(options.prefix),
+        BStr::new(options.root),
+    )?;
     Ok(patterns)
 }
 
-/// The words behind the options.
-fn spec_words(words: &[String]) -> Result<&[String], Refusal>
-    ensures { MatchResult result (λ texts. spec_words (map string_bytes words.now) ≡ Ok (map string_bytes texts.now)) (λ e. (e ≡ Refusal.Usage) × (spec_words (map string_bytes words.now) ≡ Err WordFault.Usage)) }
+/// The specs, or where there is none the prefix that such a list stands for.
+fn or_prefix(alloc: Global, patterns: Vec<Pattern>, prefix: &[u8]) -> Result<Vec<Pattern>, Refusal>
+    ensures ok { IfOk result (λ ps. map pattern_spec ps.items ≡ or_prefix prefix.now (map pattern_spec patterns.items)) }
+    ensures err { IfErr result (λ e. e ≡ Refusal.Memory) }
 {
-    match words.split_first() {
-        None => Ok(words),
-        Some((first, rest)) if first.as_bytes() == b"--".as_slice() => Ok(rest),
-        Some((first, _)) if first.as_bytes().starts_with(b"-") => Err(Refusal::Usage),
-        Some(_) => Ok(words),
+    let mut patterns = patterns;
+    if patterns.is_empty() && !prefix.is_empty() {
+        let Ok(directory) = Pattern::from_literal(alloc, b"", MagicSignature::MUST_BE_DIR) else {
+            return Err(Refusal::Memory);
+        };
+        if patterns.push(directory).is_err() {
+            return Err(Refusal::Memory);
+        }
     }
+    Ok(patterns)
 }
 
 /// What each word says.
@@ -64,29 +89,33 @@ fn read(alloc: Global, number: usize, text: &String) -> Result<Pattern, Refusal>
     }
 }
 
-/// Resolves each spec.
-fn resolve_all(patterns: &mut [Pattern]) -> Result<(), Refusal>
-    ensures cases { MatchResult result (λ _. each_from 0 meant (map pattern_spec patterns.old) ≡ Ok (map pattern_spec patterns.new)) (λ e. TellsWords e (λ fault. each_from 0 meant (map pattern_spec patterns.old) ≡ Err fault)) }
-    ensures plain { OnOk result (All (λ p. IsFalse (has_wildcard (pattern_spec p))) patterns.new) }
+/// Normalises each spec.
+fn normalize_all(patterns: &mut [Pattern], prefix: BStr<'_>, root: BStr<'_>) -> Result<(), Refusal>
+    requires { IsTrue (is_clean_prefix (bstr_bytes prefix)) }
+    ensures cases { MatchResult result (λ _. each_from 0 (meant (bstr_bytes prefix.entry) (bstr_bytes root.entry)) (map pattern_spec patterns.old) ≡ Ok (map pattern_spec patterns.new)) (λ e. TellsWords e (λ fault. each_from 0 (meant (bstr_bytes prefix.entry) (bstr_bytes root.entry)) (map pattern_spec patterns.old) ≡ Err fault)) }
+    ensures plain { OnOk result (All (λ p. IsFalse (is_glob (pattern_spec p))) patterns.new) }
 {
     for (number, pattern) in patterns.iter_mut().enumerate() {
-        resolve(number, pattern)?;
+        normalize(number, pattern, prefix, root)?;
     }
     Ok(())
 }
 
-/// Resolves one spec.
-fn resolve(number: usize, pattern: &mut Pattern) -> Result<(), Refusal>
-    ensures cases { MatchResult result (λ _. meant (pattern_spec pattern.old) ≡ Ok (pattern_spec pattern.new)) (λ e. TellsWords e (λ fault. at_number number (meant (pattern_spec pattern.old)) ≡ Err fault)) }
-    ensures plain { OnOk result (IsFalse (has_wildcard (pattern_spec pattern.new))) }
+/// Normalises one spec.
+fn normalize(
+    number: usize,
+    pattern: &mut Pattern,
+    prefix: BStr<'_>,
+    root: BStr<'_>,
+) -> Result<(), Refusal>
+    requires { IsTrue (is_clean_prefix (bstr_bytes prefix)) }
+    ensures cases { MatchResult result (λ _. meant (bstr_bytes prefix.entry) (bstr_bytes root.entry) (pattern_spec pattern.old) ≡ Ok (pattern_spec pattern.new)) (λ e. TellsWords e (λ fault. at_number number (meant (bstr_bytes prefix.entry) (bstr_bytes root.entry) (pattern_spec pattern.old)) ≡ Err fault)) }
+    ensures plain { OnOk result (IsFalse (is_glob (pattern_spec pattern.new))) }
 {
-    if pattern.needs_root() {
-        return Err(Refusal::Unsupported(number));
-    }
-    if let Err(error) = pattern.resolve() {
+    if let Err(error) = pattern.resolve(prefix, root) {
         return Err(refused(number, error));
     }
-    if pattern.has_wildcard() {
+    if pattern.is_glob() {
         return Err(Refusal::Unsupported(number));
     }
     Ok(())

@@ -3,11 +3,10 @@ ghost use Rattle.std.specs.Prelude.{◌≡◌, ◌∷◌, drop, Some, None, Ok, 
 ghost use Rattle.std.specs.Option.{option_map};
 ghost use Rattle.std.specs.List.{take_while, prefix_len, list_any};
 ghost use Rattle.pathspec_parts.specs.Bytes.{open_paren, close_paren, first_is};
-ghost use Rattle.gix_pathspec.specs.Faults.Fault.{MissingParen};
 ghost use Rattle.gix_pathspec.specs.Errors.{IsMemoryOr};
 ghost use Rattle.gix_pathspec.specs.Reading.{Cut as Parts, cut_of, behind_mark, is_short, is_unimplemented, is_colon};
 
-use crate::Error;
+use crate::{Error, error};
 use pathspec_parts::split;
 use std::alloc::Global;
 use std::marker::Model;
@@ -52,7 +51,7 @@ pub(super) fn cut_text(alloc: Global, text: &[u8]) -> Result<Cut<'_>, Error>
         });
     };
     if !is_closed(inside) {
-        return Err(missing_paren(alloc, text));
+        return Err(Error::MissingParen(error::copied(alloc, text)?));
     }
     let (long, body) = split::at_first(inside, b')');
     Ok(Cut {
@@ -78,16 +77,6 @@ fn is_closed(inside: &[u8]) -> bool
     ensures { result ≡ list_any (λ b. b == close_paren) inside.now }
 {
     inside.contains(&b')')
-}
-
-/// That long magic doesn't end.
-fn missing_paren(alloc: Global, text: &[u8]) -> Error
-    ensures { IsMemoryOr result (λ fault. fault ≡ MissingParen text.now) }
-{
-    match Vec::from_slice(alloc, text) {
-        Ok(text) => Error::MissingParen(text),
-        Err(_) => Error::Memory,
-    }
 }
 
 /// The byte in front, if git keeps it free for more short magic.

@@ -1,13 +1,12 @@
 //! What long magic asks for (gitglossary, "pathspec").
 ghost use Rattle.std.specs.Prelude.{◌≡◌, [], unwrap_or, Some, None, Ok, Err, MatchResult};
-ghost use Rattle.gix_pathspec.specs.Faults.Fault.{InvalidKeyword, LiteralWithGlob};
 ghost use Rattle.gix_pathspec.specs.Errors.{IsMemoryOr};
 ghost use Rattle.gix_pathspec.specs.Signatures.{signature_bits};
 ghost use Rattle.gix_pathspec.specs.Keywords.{asked_by};
 ghost use Rattle.gix_pathspec.specs.Reading.{Magic as Said, keyword_of, same_mode, picked, after_piece, after_pieces, long_pieces, no_magic};
 
 use super::pieces;
-use crate::{Error, MagicSignature, SearchMode};
+use crate::{Error, MagicSignature, SearchMode, error};
 use bitflags::Flags;
 use std::alloc::Global;
 use std::marker::Model;
@@ -81,7 +80,7 @@ impl Magic {
         ensures { MatchResult result (λ m. picked self piece.now mode ≡ Ok m) (λ e. IsMemoryOr e (λ fault. picked self piece.now mode ≡ Err fault)) }
     {
         if !is_same(self.mode.unwrap_or(mode), mode) {
-            return Err(literal_with_glob(alloc, piece));
+            return Err(Error::LiteralWithGlob(error::copied(alloc, piece)?));
         }
         Ok(Magic {
             mode: Some(mode),
@@ -100,28 +99,8 @@ impl Magic {
             }),
             Keyword::Picks(mode) => self.picking(alloc, piece, mode),
             Keyword::Ignored => Ok(self),
-            Keyword::Unknown => Err(invalid_keyword(alloc, piece)),
+            Keyword::Unknown => Err(Error::InvalidKeyword(error::copied(alloc, piece)?)),
         }
-    }
-}
-
-/// That the piece is no keyword.
-fn invalid_keyword(alloc: Global, piece: &[u8]) -> Error
-    ensures { IsMemoryOr result (λ fault. fault ≡ InvalidKeyword piece.now) }
-{
-    match Vec::from_slice(alloc, piece) {
-        Ok(piece) => Error::InvalidKeyword(piece),
-        Err(_) => Error::Memory,
-    }
-}
-
-/// That the piece picks a mode beside another.
-fn literal_with_glob(alloc: Global, piece: &[u8]) -> Error
-    ensures { IsMemoryOr result (λ fault. fault ≡ LiteralWithGlob piece.now) }
-{
-    match Vec::from_slice(alloc, piece) {
-        Ok(piece) => Error::LiteralWithGlob(piece),
-        Err(_) => Error::Memory,
     }
 }
 

@@ -4,8 +4,8 @@ ghost use Rattle.bstr.specs.BStr.{bstr_bytes};
 ghost use Rattle.pathspec_parts.specs.Bytes.{folded};
 ghost use Rattle.pathspec_parts.specs.Paths.{is_below};
 ghost use Rattle.pathspec_parts.specs.Attributes.{Table};
-ghost use Rattle.gix_pathspec.specs.Specs.{has_wildcard, ignores_case};
-ghost use Rattle.gix_pathspec.specs.Matching.{fit, means, is_verbatim, is_prefixed};
+ghost use Rattle.gix_pathspec.specs.Specs.{is_glob, ignores_case};
+ghost use Rattle.gix_pathspec.specs.Matching.{fit, means, keeps_prefix, is_verbatim, is_prefixed};
 ghost use Rattle.gix_pathspec.specs.Patterns.{pattern_spec};
 
 use crate::search::MatchKind;
@@ -13,15 +13,21 @@ use crate::{MagicSignature, Pattern};
 use bitflags::Flags;
 use bstr::BStr;
 
-/// How a pattern without wildcards means a path that isn't empty and is a directory or a file, if it does:
+/// How a pattern that isn't a glob means a path that isn't empty and is a directory or a file, if it does:
 /// always, or since the path is the pattern's or lies below it.
 ///
-/// It looks at each byte of the pattern's path at most once, and takes no memory.
+/// A pattern without case that has a prefix directory means only what lies below that directory, and the directory
+/// itself, both compared with case.
+///
+/// It looks at each byte of the pattern's path a fixed number of times, and takes no memory.
 pub fn match_kind(pattern: &Pattern, path: BStr<'_>, is_dir: bool) -> Option<MatchKind>
-    requires { IsFalse (has_wildcard (pattern_spec pattern.now)) }
+    requires { IsFalse (is_glob (pattern_spec pattern.now)) }
     ensures kind { result ≡ fit (pattern_spec pattern.now) (bstr_bytes path.entry) is_dir }
     ensures means { (table : Table) → is_some result ≡ means table (pattern_spec pattern.now) (bstr_bytes path.entry) is_dir }
 {
+    if !keeps_prefix(pattern, path, is_dir) {
+        return None;
+    }
     if pattern.always_matches() {
         Some(MatchKind::Always)
     } else if is_verbatim(pattern, path, is_dir) {
@@ -31,6 +37,19 @@ pub fn match_kind(pattern: &Pattern, path: BStr<'_>, is_dir: bool) -> Option<Mat
     } else {
         None
     }
+}
+
+/// Whether the path lies below the prefix directory or is that directory, compared with case; nothing is asked where
+/// case counts throughout or there is no such directory.
+fn keeps_prefix(pattern: &Pattern, path: BStr<'_>, is_dir: bool) -> bool
+    ensures { result ≡ keeps_prefix (pattern_spec pattern.now) (bstr_bytes path.entry) is_dir }
+{
+    let path = path.as_bytes();
+    let prefix = pattern.prefix_directory().as_bytes();
+    !ignores_case(pattern)
+        || prefix.is_empty()
+        || is_below(path, prefix, false)
+        || is_same(path, prefix, false) && is_dir
 }
 
 /// Whether the path is the pattern's, and a directory where the pattern wants one.
@@ -90,7 +109,7 @@ fn is_below(path: &[u8], directory: &[u8], ignore_case: bool) -> bool
 #[cfg(test)]
 mod tests {
     use super::*;
-    use crate::{Defaults, parse};
+    use crate::{Defaults, SearchMode, parse};
     use std::test::Fail;
 
     #[test]
@@ -107,10 +126,13 @@ mod tests {
             (":!a", "a/x", false, Some(MatchKind::Prefix)),
             (":", "q", false, Some(MatchKind::Always)),
             ("::", "q", true, Some(MatchKind::Always)),
+            (":(literal)a*", "a*", false, Some(MatchKind::Verbatim)),
+            (":(literal)a*", "ab", false, None),
+            (":(literal)a*", "a*/x", false, Some(MatchKind::Prefix)),
         ];
         for (text, path, is_dir, want) in rows {
             let pattern = parse::parse(rt.alloc(), text.as_bytes(), Defaults::default())?;
-            assert!(rt; !pattern.has_wildcard(), "{text}");
+            assert!(rt; !pattern.is_glob(), "{text}");
             assert_eq!(rt;
                 match_kind(&pattern, BStr::new(path.as_bytes()), is_dir),
                 want,
@@ -123,7 +145,7 @@ mod tests {
     #[test]
     fn case_may_not_count(rt: HostRuntime) -> Result<(), Fail> {
         let pattern = Pattern::from_literal(rt.alloc(), b"Ab/C", MagicSignature::ICASE)?;
-        assert!(rt; !pattern.has_wildcard());
+        assert!(rt; !pattern.is_glob());
         let rows = [
             ("aB/c", Some(MatchKind::Verbatim)),
             ("AB/c/D", Some(MatchKind::Prefix)),
@@ -139,6 +161,38 @@ mod tests {
         assert!(rt; MatchKind::Always < MatchKind::Prefix);
         assert!(rt; MatchKind::Prefix < MatchKind::WildcardMatch);
         assert!(rt; MatchKind::WildcardMatch < MatchKind::Verbatim);
+        Ok(())
+    }
+
+    #[test]
+    fn case_counts_in_the_prefix_directory(rt: HostRuntime) -> Result<(), Fail> {
+        let rows = [
+            ("a/B", "a/b", false, Some(MatchKind::Verbatim)),
+            ("a/B", "A/b", false, None),
+            ("a/B", "a/b/c", false, Some(MatchKind::Prefix)),
+            ("a/B", "a", false, None),
+            ("a/B", "a", true, None),
+            ("a", "a", true, Some(MatchKind::Verbatim)),
+            ("a", "a", false, None),
+            ("a", "a/x", false, Some(MatchKind::Prefix)),
+            ("a", "A/x", false, None),
+            ("a", "ab", false, None),
+        ];
+        for (text, path, is_dir, want) in rows {
+            let pattern = Pattern {
+                path: Vec::from_slice(rt.alloc(), text.as_bytes())?,
+                signature: MagicSignature::ICASE,
+                search_mode: SearchMode::ShellGlob,
+                nil: false,
+                prefix_length: 1,
+            };
+            assert!(rt; !pattern.is_glob(), "{text}");
+            assert_eq!(rt;
+                match_kind(&pattern, BStr::new(path.as_bytes()), is_dir),
+                want,
+                "{text} on {path}"
+            );
+        }
         Ok(())
     }
 }

@@ -1,0 +1,208 @@
+-- A second normalising without a prefix leaves the path: the components of joined names are those names, and names by themselves all survive.
+use Rattle.std.proofs.Common.{◌≡◌, ℕ, min, zero, suc, ◌-◌, Bool, true, false, not, ◌&&◌, cond, refl, sym, ◌∙◌, ap, subst, List, [], ◌∷◌, ◌++◌, length, drop, arith, ◌==◌, inl, inr, Option, Some, None, Ok}
+use Rattle.std.proofs.lemmas.Bool.{cases_Bool, cond_both, and_parts, or_parts, or_from, not-true, and_left, ne_eqb, eqb-false}
+use Rattle.std.proofs.lemmas.List.{append-nil}
+use Rattle.std.proofs.lemmas.List.Splits.{slice_split_none, slice_split_at}
+use Rattle.std.proofs.lemmas.List.Elements.{All-from_recursion}
+use Rattle.std.specs.Prelude.{codes, filter}
+use Rattle.std.specs.List.{list_any, onto_first, AllByRecursion}
+use Rattle.pathspec_parts.specs.Bytes.{slash}
+use Rattle.pathspec_parts.specs.Paths.{pieces, is_component, is_up, components, joined, is_absolute, after_root, behind_front}
+use Rattle.gix_pathspec.specs.Specs.{Spec, wants_directory}
+use Rattle.gix_pathspec.specs.NormalForm.{new_prefix_length, climb, survivors, walked, resolved, resolve, normal_form, is_joined, stays_empty}
+use Rattle.gix_pathspec.proofs.NormalFormProofs.{climb-name}
+
+-- no byte of the text is a slash
+abbrev pub IsUncut : List ℕ → Type 0
+IsUncut c = list_any (λ b. b == slash) c ≡ false
+
+-- a component without a slash
+abbrev pub IsPart : List ℕ → Type 0
+IsPart c = (is_component c ≡ true) × IsUncut c
+
+-- a name without a slash
+abbrev pub IsWholeName : List ℕ → Type 0
+IsWholeName c = (is_up c ≡ false) × IsPart c
+
+-- ---- lists whose elements all pass
+
+-- two lists one behind the other
+AllByRecursion-append : {X : Type 0} (P : X → Type 0) (xs ys : List X) → AllByRecursion P xs → AllByRecursion P ys → AllByRecursion P (xs ++ ys)
+AllByRecursion-append P [] ys a b = b
+AllByRecursion-append P (x ∷ xs) ys a b = (a.0, AllByRecursion-append P xs ys a.1 b)
+
+-- a list without its front
+AllByRecursion-drop : {X : Type 0} (P : X → Type 0) (n : ℕ) (xs : List X) → AllByRecursion P xs → AllByRecursion P (drop n xs)
+AllByRecursion-drop P zero xs a = a
+AllByRecursion-drop P (suc n) [] a = tt
+AllByRecursion-drop P (suc n) (x ∷ xs) a = AllByRecursion-drop P n xs a.1
+
+-- what a filter keeps passes its test too
+AllByRecursion-filter : {X : Type 0} (P : X → Type 0) (p : X → Bool) (xs : List X) → AllByRecursion P xs → AllByRecursion (λ x. (p x ≡ true) × P x) (filter p xs)
+AllByRecursion-filter P p [] a = tt
+AllByRecursion-filter P p (x ∷ xs) a = elim (cases_Bool (p x)) [
+  | inl y ↦ rw y ((y, a.0), AllByRecursion-filter P p xs a.1)
+  | inr n ↦ rw n (AllByRecursion-filter P p xs a.1)
+]
+
+-- ---- components have no slash
+
+-- one more byte on the first piece
+onto_first-uncut : (b : ℕ) (parts : List (List ℕ)) → (b == slash) ≡ false → AllByRecursion IsUncut parts → AllByRecursion IsUncut (onto_first b parts)
+onto_first-uncut b [] n a = (or_from (b == slash) false n refl, tt)
+onto_first-uncut b (part ∷ parts) n a = (or_from (b == slash) (list_any (λ b. b == slash) part) n a.0, a.1)
+
+-- what stands between slashes has none
+pieces-uncut : (path : List ℕ) → AllByRecursion IsUncut (pieces path)
+pieces-uncut [] = (refl, tt)
+pieces-uncut (b ∷ bs) = elim (cases_Bool (b == slash)) [
+  | inl y ↦ rw y (refl, pieces-uncut bs)
+  | inr n ↦ rw n (onto_first-uncut b (pieces bs) n (pieces-uncut bs))
+]
+
+-- The components of a path are neither empty nor `.`, and have no slash.
+pub components-parts : (path : List ℕ) → AllByRecursion IsPart (components path)
+components-parts path = AllByRecursion-filter IsUncut is_component (pieces path) (pieces-uncut path)
+
+-- the components, where there are any, are all parts
+abbrev AllParts : Option (List (List ℕ)) → Type 0
+AllParts None = Unit {0}
+AllParts (Some cs) = AllByRecursion IsPart cs
+
+-- one of two lists
+AllParts-cond : (b : Bool) (x y : Option (List (List ℕ))) → AllParts x → AllParts y → AllParts (cond b x y)
+AllParts-cond true x y p q = p
+AllParts-cond false x y p q = q
+
+-- what is resolved are components
+walked-parts : (prefix root : List ℕ) (s : Spec) → AllParts (walked prefix root s)
+walked-parts prefix root s =
+    let own = components-parts s.path in
+    AllParts-cond (is_absolute s.path) (after_root root s.path) (cond (is_joined prefix s) (Some (components prefix ++ components s.path)) (Some (components s.path)))
+    (AllParts-cond (is_absolute root && is_absolute s.path) (behind_front (components root) (components s.path)) None (AllParts-cond _ (Some (drop (length (components root)) (components s.path))) None (AllByRecursion-drop IsPart (length (components root)) (components s.path) own) tt) tt)
+    (AllParts-cond (is_joined prefix s) (Some (components prefix ++ components s.path)) (Some (components s.path)) (AllByRecursion-append IsPart (components prefix) (components s.path) (components-parts prefix) own) own)
+
+-- ---- survivors are names
+
+-- a survivor is a component and no `..`
+survivors-whole : (cs : List (List ℕ)) → AllByRecursion IsPart cs → AllByRecursion IsWholeName (survivors cs)
+survivors-whole [] a = tt
+survivors-whole (c ∷ cs) a = elim (cases_Bool (not (is_up c) && climb cs == 0)) [
+  | inl y ↦ rw y ((not-true (is_up c) (and_parts (not (is_up c)) (climb cs == 0) y).0, a.0), survivors-whole cs a.1)
+  | inr n ↦ rw n (survivors-whole cs a.1)
+]
+
+-- names do not climb
+climb-names : (names : List (List ℕ)) → AllByRecursion IsWholeName names → climb names ≡ 0
+unfolding climb
+climb-names [] a = refl
+climb-names (c ∷ cs) a = climb-name c cs a.0.0 ∙ ap (λ k. k - 1) (climb-names cs a.1)
+
+-- names by themselves all survive
+survivors-names : (names : List (List ℕ)) → AllByRecursion IsWholeName names → survivors names ≡ names
+survivors-names [] a = refl
+survivors-names (c ∷ cs) a = rw (a.0.0, climb-names cs a.1) (ap (λ k. c ∷ k) (survivors-names cs a.1))
+
+-- ---- joined names
+
+-- the same of each byte
+uncut-all : (c : List ℕ) → IsUncut c → AllByRecursion (λ b. (b == slash) ≡ false) c
+uncut-all [] h = tt
+uncut-all (b ∷ bs) h = let p = or_parts (b == slash) (list_any (λ b. b == slash) bs) h in (p.0, uncut-all bs p.1)
+
+-- The components of joined names are those names.
+pub components-joined : (names : List (List ℕ)) → AllByRecursion IsWholeName names → components (joined names) ≡ names
+components-joined [] a = refl
+components-joined (x ∷ []) a = rw (slice_split_none (λ b. b == slash) x (All-from_recursion (λ b. (b == slash) ≡ false) x (uncut-all x a.0.1.1)), a.0.1.0) refl
+components-joined (x ∷ y ∷ more) a = rw (slice_split_at (λ b. b == slash) x slash (joined (y ∷ more)) (All-from_recursion (λ b. (b == slash) ≡ false) x (uncut-all x a.0.1.1)) refl, a.0.1.0) (ap (λ k. x ∷ k) (components-joined (y ∷ more) a.1))
+
+-- ---- what a normal form's path is, and that it stays
+
+-- what normal forms are
+data IsSettled (n : Spec) : Type 0 where
+  empty : n.path ≡ [] → IsSettled n
+  here : n.path ≡ codes "." → n.nil ≡ true → IsSettled n
+  named : (name : List ℕ) (more : List (List ℕ)) → AllByRecursion IsWholeName (name ∷ more) → n.path ≡ joined (name ∷ more) → IsSettled n
+
+-- a name does not begin with a slash
+relative_front : (x rest : List ℕ) → IsWholeName x → is_absolute (x ++ rest) ≡ false
+relative_front [] rest a = let no : false ≡ true = a.1.0 in cc
+relative_front (b ∷ x) rest a = let p = or_parts (b == slash) (list_any (λ b. b == slash) x) a.1.1 in and_left (slash == b) true (ne_eqb slash b (λ e. eqb-false b slash p.0 (sym e)))
+
+-- nor do joined names
+is_absolute-joined : (name : List ℕ) (more : List (List ℕ)) → IsWholeName name → is_absolute (joined (name ∷ more)) ≡ false
+is_absolute-joined name [] a = subst (λ t. is_absolute t ≡ false) (append-nil name) (relative_front name [] a)
+is_absolute-joined name (x ∷ more) a = relative_front name (slash ∷ joined (x ∷ more)) a
+
+-- so a normal form is relative
+settled-relative : (n : Spec) → IsSettled n → is_absolute n.path ≡ false
+settled-relative n (empty e) = ap is_absolute e
+settled-relative n (here e nil) = ap is_absolute e
+settled-relative n (named name more a e) = ap is_absolute e ∙ is_absolute-joined name more a.0
+
+-- a relative path is resolved by its own components
+normal_form-relative : (root : List ℕ) (n : Spec) (cs : List (List ℕ)) → is_absolute n.path ≡ false → components n.path ≡ cs → climb cs ≡ 0 → normal_form [] root n ≡ Ok (resolved [] n cs (survivors cs))
+unfolding normal_form
+normal_form-relative root n cs r e c = rw (r, e, c) refl
+
+-- a spec that gets its own path and nil
+with_path : (n : Spec) (path : List ℕ) (nil : Bool) (len : ℕ) → path ≡ n.path → nil ≡ n.nil → len ≡ 0 → record n { path = path; nil = nil; prefix_length = len } ≡ record n { prefix_length = 0 }
+with_path n path nil len e f g = rw (e, f, g) refl
+
+-- without a prefix nothing is kept for one
+no_prefix : (n : Spec) (left : List (List ℕ)) → is_absolute n.path ≡ false → new_prefix_length [] n left ≡ 0
+no_prefix n left r =
+    let none : min 0 (length left - cond (wants_directory n) 0 1) ≡ 0 = omega arith in
+    rw (r, none) (cond_both n.nil 0 0 (λ k. k ≡ 0) (λ e. refl) (λ e. refl))
+
+-- an empty path stays empty
+resolved-empty : (n : Spec) → n.path ≡ [] → resolved [] n [] [] ≡ record n { prefix_length = 0 }
+resolved-empty n e = rw e refl
+
+-- nil stays nil
+resolved-here : (n : Spec) → n.path ≡ codes "." → n.nil ≡ true → resolved [] n [] [] ≡ record n { prefix_length = 0 }
+resolved-here n e nil = rw (e, nil) refl
+
+-- names stay
+resolved-names : (n : Spec) (name : List ℕ) (more : List (List ℕ)) → is_absolute n.path ≡ false → n.path ≡ joined (name ∷ more) → resolved [] n (name ∷ more) (name ∷ more) ≡ record n { prefix_length = 0 }
+resolved-names n name more r e = with_path n (joined (name ∷ more)) n.nil (new_prefix_length [] n (name ∷ more)) (sym e) refl (no_prefix n (name ∷ more) r)
+
+-- what stands in normal form stays
+again : (root : List ℕ) (n : Spec) → IsSettled n → normal_form [] root n ≡ Ok (record n { prefix_length = 0 })
+unfolding climb
+again root n (empty e) = normal_form-relative root n [] (ap is_absolute e) (ap components e) refl ∙ ap Ok (resolved-empty n e)
+again root n (here e nil) = normal_form-relative root n [] (ap is_absolute e) (ap components e) refl ∙ ap Ok (resolved-here n e nil)
+again root n (named name more a e) =
+    let names = name ∷ more in
+    let r = settled-relative n (named name more a e) in
+    normal_form-relative root n names r (ap components e ∙ components-joined names a) (climb-names names a)
+    ∙ ap Ok (ap (λ left. resolved [] n names left) (survivors-names names a) ∙ resolved-names n name more r e)
+
+-- what is resolved stands in normal form
+resolved-settled : (prefix : List ℕ) (s : Spec) (cs left : List (List ℕ)) → AllByRecursion IsWholeName left → IsSettled (resolved prefix s cs left)
+resolved-settled prefix s cs [] a = elim (cases_Bool (stays_empty prefix s cs)) [
+  | inl y ↦ rw y (empty refl)
+  | inr n ↦ rw n (here refl refl)
+]
+resolved-settled prefix s cs (name ∷ more) a = named name more a refl
+
+-- the same where it does not climb out
+resolve-settled : (prefix : List ℕ) (s n : Spec) (found : Option (List (List ℕ))) → AllParts found → resolve prefix s found ≡ Ok n → IsSettled n
+resolve-settled prefix s n None a h = cc
+resolve-settled prefix s n (Some cs) a h = elim (cases_Bool (climb cs == 0)) [
+  | inl y ↦ let e : resolved prefix s cs (survivors cs) ≡ n = (let k = rw y at h in cc) in subst IsSettled e (resolved-settled prefix s cs (survivors cs) (survivors-whole cs a))
+  | inr up ↦ let k = rw up at h in cc
+]
+
+-- the same of the whole call
+settled : (prefix root : List ℕ) (s n : Spec) → normal_form prefix root s ≡ Ok n → IsSettled n
+unfolding normal_form
+settled prefix root s n h = resolve-settled prefix s n (walked prefix root s) (walked-parts prefix root s) h
+
+-- A normal form's path is relative.
+pub normal_form_is_relative : (prefix root : List ℕ) (s n : Spec) → normal_form prefix root s ≡ Ok n → is_absolute n.path ≡ false
+normal_form_is_relative prefix root s n h = settled-relative n (settled prefix root s n h)
+
+-- A second normalising without a prefix, with whatever root, leaves all but the prefix length, which becomes 0.
+pub normal_form_again : (prefix root other : List ℕ) (s n : Spec) → normal_form prefix root s ≡ Ok n → normal_form [] other n ≡ Ok (record n { prefix_length = 0 })
+normal_form_again prefix root other s n h = again other n (settled prefix root s n h)

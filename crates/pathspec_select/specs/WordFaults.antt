@@ -1,0 +1,17 @@
+-- Why words ask for nothing that can be done.
+use Rattle.std.specs.Prelude.{ℕ}
+use Rattle.gix_pathspec.specs.Faults.{Fault}
+
+-- why a spec asks for nothing that can be done
+pub data SpecFault : Type 0 where
+  -- it is at fault
+  Faulty : (fault : Fault) → SpecFault
+  -- it is of a kind that isn't matched yet
+  Unsupported : SpecFault
+
+-- why words do
+pub data WordFault : Type 0 where
+  -- the options are wrong
+  Usage : WordFault
+  -- the spec with this number, from 0
+  InSpec : (number : ℕ) (fault : SpecFault) → WordFault

@@ -1,0 +1,195 @@
+//! The options of the command line, which stand before the specs.
+ghost use Rattle.std.specs.Prelude.{◌≡◌, [], ◌∷◌, Ok, Err, map, IfOk, IsTrue, MatchResult, string_bytes};
+ghost use Rattle.pathspec_parts.specs.Paths.{is_clean_prefix};
+ghost use Rattle.pathspec_select.specs.WordFaults.{WordFault};
+ghost use Rattle.pathspec_select.specs.Options.{Options as Asked, no_options, option_word, options_after, prefix_of, with_clean_prefix, options_of};
+ghost use Rattle.pathspec_select.specs.OptionWords.{as_said};
+
+use crate::Refusal;
+use bstr::BStr;
+use pathspec_parts::path;
+use std::marker::Model;
+
+/// What the options say, and the words behind them.
+#[derive(Drop)]
+pub(crate) struct Options<'w> {
+    pub(crate) prefix: &'w [u8],
+    pub(crate) root: &'w [u8],
+    pub(crate) specs: &'w [String],
+}
+
+impl<'w> Model for Options<'w> {
+    ghost Value = { Asked };
+
+    ghost view = { λ o. record { prefix = o.prefix.now; root = o.root.now; texts = map string_bytes o.specs.now } };
+}
+
+/// What a word says where options are read.
+#[derive(Drop)]
+enum OptionWord {
+    EndsOptions,
+    NamesPrefix,
+    NamesRoot,
+    IsUnknown,
+    BeginsSpecs,
+}
+
+/// What the words ask for. Options are read up to `--`, or up to the first word that begins with no `-`; a prefix
+/// or a root that is given later takes the place of an earlier one. It copies nothing.
+///
+/// # Errors
+/// [`Refusal::Usage`]: an option is unknown or lacks its argument, or the prefix isn't clean.
+pub(crate) fn read(words: &[String]) -> Result<Options<'_>, Refusal>
+    ensures cases { MatchResult result (λ options. options_of (map string_bytes words.now) ≡ Ok options) (λ e. (e ≡ Refusal.Usage) × (options_of (map string_bytes words.now) ≡ Err WordFault.Usage)) }
+    ensures clean { IfOk result (λ options. IsTrue (is_clean_prefix options.prefix)) }
+{
+    with_clean_prefix(read_all(words)?)
+}
+
+/// What the words say, before the prefix is looked at.
+fn read_all(words: &[String]) -> Result<Options<'_>, Refusal>
+    ensures { MatchResult result (λ options. options_after no_options (map string_bytes words.now) ≡ Ok options) (λ e. (e ≡ Refusal.Usage) × (options_after no_options (map string_bytes words.now) ≡ Err WordFault.Usage)) }
+{
+    let mut options = Options {
+        prefix: b"",
+        root: b"",
+        specs: words,
+    };
+    while let Some((word, behind)) = options.specs.split_first() {
+        match said_by(word.as_bytes()) {
+            OptionWord::EndsOptions => {
+                options.specs = behind;
+                return Ok(options);
+            }
+            OptionWord::NamesPrefix => (options.prefix, options.specs) = argument(behind)?,
+            OptionWord::NamesRoot => (options.root, options.specs) = argument(behind)?,
+            OptionWord::IsUnknown => return Err(Refusal::Usage),
+            OptionWord::BeginsSpecs => return Ok(options),
+        }
+    }
+    Ok(options)
+}
+
+/// What a word says where options are read.
+fn said_by(word: &[u8]) -> OptionWord
+    ensures { as_said result ≡ option_word word.now }
+{
+    if word == b"--".as_slice() {
+        OptionWord::EndsOptions
+    } else if word == b"--prefix".as_slice() {
+        OptionWord::NamesPrefix
+    } else if word == b"--root".as_slice() {
+        OptionWord::NamesRoot
+    } else if word.starts_with(b"-") {
+        OptionWord::IsUnknown
+    } else {
+        OptionWord::BeginsSpecs
+    }
+}
+
+/// An option's argument, which is the next word, and the words behind it.
+fn argument(words: &[String]) -> Result<(&[u8], &[String]), Refusal>
+    ensures { MatchResult result (λ found. map string_bytes words.now ≡ found.0.now ∷ map string_bytes found.1.now) (λ e. (e ≡ Refusal.Usage) × (words.now ≡ [])) }
+{
+    match words.split_first() {
+        Some((argument, behind)) => Ok((argument.as_bytes(), behind)),
+        None => Err(Refusal::Usage),
+    }
+}
+
+/// The options with the prefix that their argument names, if it is clean.
+fn with_clean_prefix(options: Options<'_>) -> Result<Options<'_>, Refusal>
+    ensures cases { MatchResult result (λ cleaned. with_clean_prefix options.entry ≡ Ok cleaned) (λ e. (e ≡ Refusal.Usage) × (with_clean_prefix options.entry ≡ Err WordFault.Usage)) }
+    ensures clean { IfOk result (λ cleaned. IsTrue (is_clean_prefix cleaned.prefix)) }
+{
+    let prefix = prefix_of(options.prefix);
+    if !path::is_clean_prefix(BStr::new(prefix)) {
+        return Err(Refusal::Usage);
+    }
+    Ok(Options { prefix, ..options })
+}
+
+/// The prefix that an argument names: where it is longer than one byte, one slash at its end isn't part of it.
+fn prefix_of(argument: &[u8]) -> &[u8]
+    ensures { result.now ≡ prefix_of argument.now }
+{
+    if argument.len() > 1 {
+        path::strip_last_slash(argument).0
+    } else {
+        argument
+    }
+}
+
+#[cfg(test)]
+mod tests {
+    use super::*;
+    use std::alloc::{AllocError, Global};
+    use std::test::Fail;
+
+    /// The words of a line, with a space between each two.
+    fn words_of(alloc: Global, line: &str) -> Result<Vec<String>, AllocError> {
+        let mut words = Vec::new(alloc);
+        for word in line.split(' ') {
+            words.push(String::from_str(alloc, word)?)?;
+        }
+        Ok(words)
+    }
+
+    #[test]
+    fn options_are_read_up_to_the_specs(rt: HostRuntime) -> Result<(), Fail> {
+        let rows = [
+            ("a", "", "", "a"),
+            ("--prefix a b", "a", "", "b"),
+            ("--prefix a/ b", "a", "", "b"),
+            ("--prefix a --prefix b", "b", "", ""),
+            ("--prefix .. --prefix b c", "b", "", "c"),
+            ("--prefix  x", "", "", "x"),
+            ("--prefix -- x", "--", "", "x"),
+            ("--root --prefix x", "", "--prefix", "x"),
+            ("--root /r /r/a", "", "/r", "/r/a"),
+            ("--root /r --prefix a --root /s/", "a", "/s/", ""),
+            ("a -- b", "", "", "a -- b"),
+            ("a --prefix b", "", "", "a --prefix b"),
+            ("-- --prefix a", "", "", "--prefix a"),
+            ("--prefix a -- -x", "a", "", "-x"),
+        ];
+        for (line, prefix, root, specs) in rows {
+            let words = words_of(rt.alloc(), line)?;
+            let Ok(options) = read(words.as_slice()) else {
+                return Err("refused".into());
+            };
+            assert_eq!(rt; options.prefix, prefix.as_bytes(), "{line}");
+            assert_eq!(rt; options.root, root.as_bytes(), "{line}");
+            let mut left = options.specs.iter();
+            for spec in specs.split_whitespace() {
+                let word = left.next().ok_or("too few")?;
+                assert_eq!(rt; word.as_str(), spec, "in {line}");
+            }
+            assert!(rt; left.next().is_none(), "behind {line}");
+        }
+        Ok(())
+    }
+
+    #[test]
+    fn wrong_options_are_refused(rt: HostRuntime) -> Result<(), Fail> {
+        for line in [
+            "--prefix a// b",
+            "--prefix ../a",
+            "--prefix / x",
+            "--prefix /a x",
+            "--prefix",
+            "--prefix a --root",
+            "--root --prefix --prefix",
+            "--prefix=a b",
+            "--roots a",
+            "-z",
+            "-",
+            "--prefix a --prefix .. b",
+        ] {
+            let words = words_of(rt.alloc(), line)?;
+            let refused = matches!(read(words.as_slice()), Err(Refusal::Usage));
+            assert!(rt; refused, "{line}");
+        }
+        Ok(())
+    }
+}
