@@ -12,6 +12,7 @@ use Rattle.gix_pathspec.specs.Faults.{Fault}
 use Rattle.gix_pathspec.specs.AttributeLists.{assignment_of, assignments_of}
 use Rattle.gix_pathspec.specs.Specs.{Spec}
 use Rattle.gix_pathspec.specs.Reading.{no_defaults, reading, cut_of, is_unimplemented, magic_of, spec_of}
+use Rattle.gix_pathspec.specs.LongText.{long_text}
 use Rattle.gix_pathspec.specs.NormalForm.{normal_form, climb}
 use Rattle.gix_pathspec.specs.Matching.{fit, prefix_directory}
 
@@ -30,6 +31,11 @@ assigned name state = record { name = name; state = state }
 unfoldable pub parse : List ℕ → Result Spec Fault
 unfolding reading cut_of is_unimplemented magic_of spec_of assignments_of assignment_of
 parse text = reading no_defaults text
+
+-- the long text of that
+unfoldable pub long : List ℕ → Result (List ℕ) Fault
+unfolding parse long_text
+long text = parse text >>= λ s. Ok (long_text s)
 
 -- path and prefix directory, and whether it is nil, of a text's normal form
 unfoldable pub normal : List ℕ → List ℕ → List ℕ → Result (List ℕ × List ℕ × Bool) Fault

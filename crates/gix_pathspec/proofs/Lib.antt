@@ -5,10 +5,16 @@ pub mod NormalFormProofs
 pub mod HeightProofs
 pub mod StaysProofs
 pub mod StackProofs
+pub mod LongTextProofs
+pub mod AttributeTextProofs
+pub mod RoundTripProofs
+pub mod SaidProofs
+mod RoundTripRows
 pub mod ResolvingProofs
 pub mod ParseProofs
 pub mod CutProofs
 pub mod PiecesProofs
+pub mod ListProofs
 mod Asking
 mod ReadingRows
 mod NormalFormRows

@@ -1,12 +1,13 @@
--- Rows on what texts say.
+-- Rows on what texts say, and on long texts.
 use Rattle.std.proofs.Common.{◌≡◌, true, false, refl, [], ◌∷◌, Ok, Err}
 use Rattle.std.specs.Prelude.{codes}
 use Rattle.gix_pathspec.specs.declared.SearchMode.TheVariants.{ShellGlob, Literal, PathAwareGlob}
 use Rattle.gix_pathspec.specs.AttributeLists.{assignments_of, assignment_of}
-use Rattle.pathspec_parts.specs.Attributes.State.{Set}
-use Rattle.gix_pathspec.specs.Faults.Fault.{Empty, UnimplementedShort, MissingParen, InvalidKeyword, LiteralWithGlob}
+use Rattle.pathspec_parts.specs.Attributes.State.{Set, Unset, Value, Unspecified}
+use Rattle.gix_pathspec.specs.Faults.Fault.{Empty, UnimplementedShort, MissingParen, InvalidKeyword, LiteralWithGlob, SecondAttributes, EmptyAttributes, InvalidName, InvalidValueByte, TrailingEscape}
 use Rattle.gix_pathspec.specs.Reading.{reading, nil_spec, long_pieces}
-use Rattle.gix_pathspec.proofs.Asking.{parse, spec, assigned}
+use Rattle.gix_pathspec.specs.LongText.{long_text}
+use Rattle.gix_pathspec.proofs.Asking.{parse, long, spec, spec_with, assigned}
 
 empty_text : parse [] ≡ Err Empty
 unfolding parse
@@ -16,9 +17,25 @@ colon_is_nil : parse (codes ":") ≡ Ok nil_spec
 unfolding parse
 colon_is_nil = refl
 
+colon_long : long (codes ":") ≡ Ok (codes ":")
+unfolding long
+colon_long = refl
+
 two_colons : parse (codes "::") ≡ Ok (spec [] 0 ShellGlob)
 unfolding parse
 two_colons = refl
+
+two_colons_long : long (codes "::") ≡ Ok (codes ":()")
+unfolding long
+two_colons_long = refl
+
+bang_long : long (codes ":!") ≡ Ok (codes ":(exclude)")
+unfolding long
+bang_long = refl
+
+slash_long : long (codes ":/") ≡ Ok (codes ":(top)")
+unfolding long
+slash_long = refl
 
 comma_behind : parse (codes ":(top,)x") ≡ Ok (spec (codes "x") 1 ShellGlob)
 unfolding parse
@@ -52,21 +69,97 @@ literal_then_glob : parse (codes ":(literal,glob)x") ≡ Err (LiteralWithGlob (c
 unfolding parse
 literal_then_glob = refl
 
-escaped_comma : parse (codes ":(attr:a=x\\,y)p") ≡ Err (InvalidKeyword (codes "attr:a=x\\,y"))
+escaped_comma : parse (codes ":(attr:a=x\\,y)p") ≡ Ok (spec_with (codes "p") 0 ShellGlob (assigned (codes "a") (Value (codes "x,y")) ∷ []))
 unfolding parse
 escaped_comma = refl
 
-escaped_backslash : parse (codes ":(attr:a=x\\\\,y)p") ≡ Err (InvalidKeyword (codes "attr:a=x\\\\"))
+escaped_comma_long : long (codes ":(attr:a=x\\,y)p") ≡ Ok (codes ":(attr:a=x\\,y)p")
+unfolding long
+escaped_comma_long = refl
+
+escaped_backslash : parse (codes ":(attr:a=x\\\\,y)p") ≡ Err (InvalidValueByte 92)
 unfolding parse
 escaped_backslash = refl
+
+body_begins_with_colon : parse (codes ":(attr:a=one b=):path") ≡ Ok (spec_with (codes ":path") 0 ShellGlob (assigned (codes "a") (Value (codes "one")) ∷ assigned (codes "b") (Value []) ∷ []))
+unfolding parse
+body_begins_with_colon = refl
+
+body_begins_with_colon_long : long (codes ":(attr:a=one b=):path") ≡ Ok (codes ":(attr:a=one b=):path")
+unfolding long
+body_begins_with_colon_long = refl
+
+second_list_behind_spaces : long (codes ":(attr: ,attr:a)x") ≡ Ok (codes ":(attr:a)x")
+unfolding long
+second_list_behind_spaces = refl
+
+second_list : parse (codes ":(attr:a,attr:b)x") ≡ Err (SecondAttributes (codes "attr:b"))
+unfolding parse
+second_list = refl
+
+empty_list : parse (codes ":(attr:)x") ≡ Err EmptyAttributes
+unfolding parse
+empty_list = refl
+
+digit_name : parse (codes ":(attr:-1)x") ≡ Ok (spec_with (codes "x") 0 ShellGlob (assigned (codes "1") Unset ∷ []))
+unfolding parse
+digit_name = refl
+
+name_begins_with_dash : parse (codes ":(attr:--1)x") ≡ Err (InvalidName (codes "-1"))
+unfolding parse
+name_begins_with_dash = refl
+
+trailing_escape : parse (codes ":(attr:a=x\\)y") ≡ Err (TrailingEscape (codes "x\\"))
+unfolding parse
+trailing_escape = refl
 
 five_keywords_path : parse (codes ":(top,literal,icase,attr,exclude)some/path") ≡ Ok (spec (codes "some/path") 7 Literal)
 unfolding parse
 five_keywords_path = refl
 
+five_keywords_long : long (codes ":(top,literal,icase,attr,exclude)some/path") ≡ Ok (codes ":(top,exclude,icase,literal)some/path")
+unfolding long
+five_keywords_long = refl
+
 one_slash_is_stripped : parse (codes "a//") ≡ Ok (spec (codes "a/") 8 ShellGlob)
 unfolding parse
 one_slash_is_stripped = refl
+
+one_slash_is_stripped_long : long (codes "a//") ≡ Ok (codes ":()a//")
+unfolding long
+one_slash_is_stripped_long = refl
+
+all_kinds_long : long (codes ":(glob,top,attr:a -b !c d=v)p/") ≡ Ok (codes ":(top,glob,attr:a -b !c d=v)p/")
+unfolding long
+all_kinds_long = refl
+
+all_kinds : parse (codes ":(glob,top,attr:a -b !c d=v)p/") ≡ Ok (spec_with (codes "p") 9 PathAwareGlob (assigned (codes "a") Set ∷ assigned (codes "b") Unset ∷ assigned (codes "c") Unspecified ∷ assigned (codes "d") (Value (codes "v")) ∷ []))
+unfolding parse
+all_kinds = refl
+
+unspecified_with_value : parse (codes ":(attr:!a=b)x") ≡ Err (InvalidName (codes "a=b"))
+unfolding parse
+unspecified_with_value = refl
+
+equals_in_value : parse (codes ":(attr:a=b=c)x") ≡ Err (InvalidValueByte 61)
+unfolding parse
+equals_in_value = refl
+
+unset_name_with_value : parse (codes ":(attr:-x=\\)y") ≡ Err (InvalidName (codes "x=\\"))
+unfolding parse
+unset_name_with_value = refl
+
+empty_name : parse (codes ":(attr:=v)x") ≡ Ok (spec_with (codes "x") 0 ShellGlob (assigned [] (Value (codes "v")) ∷ []))
+unfolding parse
+empty_name = refl
+
+empty_name_long : long (codes ":(attr:=v)x") ≡ Ok (codes ":(attr:=v)x")
+unfolding long
+empty_name_long = refl
+
+value_past_ascii : parse (58 ∷ 40 ∷ 97 ∷ 116 ∷ 116 ∷ 114 ∷ 58 ∷ 97 ∷ 61 ∷ 195 ∷ 169 ∷ 41 ∷ 120 ∷ []) ≡ Err (InvalidValueByte 195)
+unfolding parse
+value_past_ascii = refl
 
 attr_alone : parse (codes ":(attr)x") ≡ Ok (spec (codes "x") 0 ShellGlob)
 unfolding parse
@@ -75,6 +168,10 @@ attr_alone = refl
 attr_list_is_unknown_with_space : parse (codes ":(attr :a)x") ≡ Err (InvalidKeyword (codes "attr :a"))
 unfolding parse
 attr_list_is_unknown_with_space = refl
+
+value_before_name : parse (codes ":(attr:a!=\\)x") ≡ Err (TrailingEscape (codes "\\"))
+unfolding parse
+value_before_name = refl
 
 glob_then_literal : parse (codes ":(glob,literal)x") ≡ Err (LiteralWithGlob (codes "literal"))
 unfolding parse
@@ -134,6 +231,22 @@ defaults_add = refl
 nil_ignores_defaults : reading (record { signature = record { 0 = 2 }; search_mode = PathAwareGlob; literal = false }) (codes ":") ≡ Ok nil_spec
 unfolding parse
 nil_ignores_defaults = refl
+
+unknown_bit_long : long_text (spec (codes "x") 256 ShellGlob) ≡ (codes ":()x")
+unfolding long_text
+unknown_bit_long = refl
+
+space_in_value_long : long_text (spec_with (codes "p") 0 ShellGlob (assigned (codes "a") (Value (codes "x y")) ∷ [])) ≡ (codes ":(attr:a=x y)p")
+unfolding long_text
+space_in_value_long = refl
+
+space_in_value_again : parse (codes ":(attr:a=x y)p") ≡ Ok (spec_with (codes "p") 0 ShellGlob (assigned (codes "a") (Value (codes "x")) ∷ assigned (codes "y") Set ∷ []))
+unfolding parse
+space_in_value_again = refl
+
+literal_slash_long : long_text (spec (codes "a/") 8 Literal) ≡ (codes ":(literal)a//")
+unfolding long_text
+literal_slash_long = refl
 
 empty_parts : assignments_of (codes "  a   b ") ≡ Ok (assigned (codes "a") Set ∷ assigned (codes "b") Set ∷ [])
 unfolding assignments_of assignment_of

@@ -9,4 +9,5 @@ abbrev pub asked_by : Keyword → Asked
 asked_by (told.Adds flag) = Asked.Adds (signature_bits flag)
 asked_by (told.Picks mode) = Asked.Picks mode
 asked_by told.Ignored = Asked.Ignored
+asked_by (told.Lists list) = Asked.Lists list.now
 asked_by told.Unknown = Asked.Unknown

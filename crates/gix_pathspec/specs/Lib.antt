@@ -1,6 +1,10 @@
 pub use Rattle.pathspec_parts.specs.Bytes
 pub use Rattle.pathspec_parts.specs.Paths
 pub use Rattle.pathspec_parts.specs.Attributes
+pub use Rattle.pathspec_parts.specs.AttributeNames
+pub use Rattle.pathspec_parts.specs.AttributeStates
+pub use Rattle.pathspec_parts.specs.Outcomes
+pub use Rattle.pathspec_parts.specs.AttributeRows
 pub use Rattle.pathspec_parts.specs.Tokens
 pub use Rattle.pathspec_parts.specs.GlobRelation
 pub mod Results
@@ -11,6 +15,8 @@ pub mod AttributeLists
 pub mod Signatures
 pub mod Specs
 pub mod Reading
+pub mod LongText
+pub mod RoundTrips
 pub mod NormalForm
 pub mod Matching
 pub mod Patterns

@@ -1,5 +1,6 @@
 -- What a clause reads of a `Pattern`.
-use Rattle.std.specs.Prelude.{[]}
+use Rattle.std.specs.Prelude.{map}
+use Rattle.pathspec_parts.specs.AttributeStates.{attribute_of}
 use Rattle.gix_pathspec.specs.declared.pattern.Pattern.{Pattern}
 use Rattle.gix_pathspec.specs.Signatures.{signature_bits}
 use Rattle.gix_pathspec.specs.Specs.{Spec}
@@ -11,7 +12,7 @@ pattern_spec p =
       path = p.path.items;
       signature = signature_bits p.signature;
       mode = p.search_mode;
-      attributes = [];
+      attributes = map attribute_of p.attributes.items;
       nil = p.nil;
       prefix_length = p.prefix_length;
     }

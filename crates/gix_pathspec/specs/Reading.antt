@@ -4,12 +4,13 @@ use Rattle.std.specs.List.{list_all, list_any, before_first, after_first, take_w
 use Rattle.gix_pathspec.specs.declared.SearchMode.{SearchMode}
 use Rattle.gix_pathspec.specs.declared.SearchMode.TheVariants.{ShellGlob, Literal, PathAwareGlob}
 use Rattle.gix_pathspec.specs.declared.defaults.Defaults.{Defaults}
-use Rattle.pathspec_parts.specs.Bytes.{slash, colon, open_paren, close_paren, comma, backslash, is_one_of, is_empty, first_is}
+use Rattle.pathspec_parts.specs.Bytes.{slash, colon, open_paren, close_paren, comma, backslash, is_one_of, is_empty, first_is, begins_with}
 use Rattle.pathspec_parts.specs.Paths.{ends_with_slash, without_last_slash}
 use Rattle.pathspec_parts.specs.Attributes.{Assignment}
 use Rattle.gix_pathspec.specs.Results.{◌>>=◌}
 use Rattle.gix_pathspec.specs.Faults.{Fault}
-use Rattle.gix_pathspec.specs.Faults.Fault.{Empty, UnimplementedShort, MissingParen, InvalidKeyword, LiteralWithGlob}
+use Rattle.gix_pathspec.specs.Faults.Fault.{Empty, UnimplementedShort, MissingParen, InvalidKeyword, LiteralWithGlob, SecondAttributes}
+use Rattle.gix_pathspec.specs.AttributeLists.{assignments_of}
 use Rattle.gix_pathspec.specs.Signatures.{signature_bits, no_bits}
 use Rattle.gix_pathspec.specs.Specs.{Spec, top, icase, exclude, must_be_dir}
 
@@ -39,9 +40,10 @@ pub data Keyword : Type 0 where
   Adds : (flag : ℕ) → Keyword
   Picks : (mode : SearchMode) → Keyword
   Ignored : Keyword
+  Lists : (list : List ℕ) → Keyword
   Unknown : Keyword
 
--- the table of pieces; a list of attributes isn't read yet
+-- the table of pieces
 abbrev pub keyword_of : List ℕ → Keyword
 keyword_of piece =
     if bytes_eq piece (codes "top") then Adds top
@@ -50,6 +52,7 @@ keyword_of piece =
     else if bytes_eq piece (codes "literal") then Picks Literal
     else if bytes_eq piece (codes "glob") then Picks PathAwareGlob
     else if bytes_eq piece (codes "attr") then Ignored
+    else if begins_with piece (codes "attr:") then Lists (drop 5 piece)
     else Unknown
 
 -- what magic has said so far
@@ -69,11 +72,18 @@ same_mode _ _ = false
 abbrev pub picked : Magic → List ℕ → SearchMode → Result Magic Fault
 picked magic piece mode = if same_mode (unwrap_or magic.mode mode) mode then Ok (record magic { mode = Some mode }) else Err (LiteralWithGlob piece)
 
+-- only one list of attributes may stand, unless the one before was of spaces alone
+abbrev pub listed : Magic → List ℕ → List ℕ → Result Magic Fault
+listed magic piece list =
+    if is_empty magic.attributes then (assignments_of list >>= λ assignments. Ok (record magic { attributes = assignments }))
+    else Err (SecondAttributes piece)
+
 -- what a piece makes of the magic before it, or its fault
 abbrev pub after_piece : Magic → List ℕ → Keyword → Result Magic Fault
 after_piece magic piece (Adds flag) = Ok (record magic { signature = bit_or magic.signature flag })
 after_piece magic piece (Picks mode) = picked magic piece mode
 after_piece magic piece Ignored = Ok magic
+after_piece magic piece (Lists list) = listed magic piece list
 after_piece magic piece Unknown = Err (InvalidKeyword piece)
 
 -- what the pieces make of the magic before them, from left to right, or the fault of the first at fault

@@ -4,6 +4,7 @@
 ghost use Rattle.std.specs.Prelude.{⊤, codes, [], ◌∷◌};
 ghost use Rattle.gix_pathspec.specs.Signatures.{signature_bits};
 
+pub mod attributes;
 pub mod defaults;
 mod error;
 pub mod parse;

@@ -8,20 +8,22 @@ ghost use Rattle.gix_pathspec.specs.Reading.{Reads, IsRefused, reading, magic_sa
 ghost use Rattle.gix_pathspec.specs.Patterns.{pattern_spec};
 
 mod cut;
+mod lists;
 mod magic;
 mod pieces;
 
 use crate::{Defaults, Error, MagicSignature, Pattern};
 use bitflags::Flags;
 use cut::Cut;
+pub use lists::attributes;
 use magic::Magic;
 use pathspec_parts::path;
 use std::alloc::Global;
 
 /// Reads the text of a pathspec: `:` alone, a path, or a path behind `:`, short magic (`/`, `^`, `!`, and a `:` that
-/// may end it) and long magic (`(top,icase,..)`). Long magic may say `top`, `icase`, `exclude`, `literal`, `glob`
-/// and `attr`, the last of which asks for nothing; `attr:LIST` isn't read yet. The defaults say what a text gets that
-/// says nothing of it.
+/// may end it) and long magic (`(top,icase,..)`). Long magic may say `top`, `icase`, `exclude`, `literal`, `glob`,
+/// `attr`, which asks for nothing, and once `attr:` with a list of attributes (see [`attributes`]). The defaults say
+/// what a text gets that says nothing of it.
 ///
 /// It looks at each byte a fixed number of times, and takes as much memory as the path has bytes, or those that an
 /// error carries.
@@ -29,7 +31,8 @@ use std::alloc::Global;
 /// # Errors
 /// [`Error::Empty`] for the empty text, [`Error::UnimplementedShort`] for a byte of short magic that git keeps
 /// free, [`Error::MissingParen`] for `(` without `)`; for the first piece of long magic at fault
-/// [`Error::InvalidKeyword`], or [`Error::LiteralWithGlob`] where it picks a second mode; [`Error::Memory`].
+/// [`Error::InvalidKeyword`], [`Error::LiteralWithGlob`] where it picks a second mode, [`Error::SecondAttributes`]
+/// where it is a second list, or the error of its list; [`Error::Memory`].
 pub fn parse(alloc: Global, input: &[u8], defaults: Defaults) -> Result<Pattern, Error>
     ensures reads { IfOk result (λ p. Reads defaults input.now (pattern_spec p)) }
     ensures refused { IfErr result (λ e. IsMemoryOr e (λ fault. IsRefused defaults input.now fault)) }
@@ -50,7 +53,7 @@ fn read(alloc: Global, input: &[u8], defaults: Defaults) -> Result<Pattern, Erro
         return Pattern::from_literal(alloc, input, defaults.signature);
     }
     if !begins_with_colon(input) {
-        return Pattern::with_body(alloc, defaults, &Magic::none(), input);
+        return Pattern::with_body(alloc, defaults, Magic::none(alloc), input);
     }
     if is_lone_colon(input) {
         return Ok(Pattern::nil(alloc));
@@ -64,7 +67,7 @@ fn read_magic(alloc: Global, text: &[u8], defaults: Defaults) -> Result<Pattern,
 {
     let cut = cut::cut_text(alloc, text)?;
     let said = magic_of(alloc, &cut)?;
-    Pattern::with_body(alloc, defaults, &said, cut.body)
+    Pattern::with_body(alloc, defaults, said, cut.body)
 }
 
 /// What the magic of a cut says.
@@ -75,6 +78,7 @@ fn magic_of(alloc: Global, cut: &Cut<'_>) -> Result<Magic, Error>
     let short = Magic {
         signature: signature_of(cut.short),
         mode: None,
+        attributes: Vec::new(alloc),
     };
     magic::after_long(alloc, short, cut.long.unwrap_or(&[]))
 }
@@ -126,10 +130,10 @@ impl Pattern {
     fn with_body(
         alloc: Global,
         defaults: Defaults,
-        magic: &Magic,
+        magic: Magic,
         body: &[u8],
     ) -> Result<Pattern, Error>
-        ensures ok { IfOk result (λ p. pattern_spec p ≡ spec_of defaults magic.now body.now) }
+        ensures ok { IfOk result (λ p. pattern_spec p ≡ spec_of defaults magic body.now) }
         ensures err { IfErr result IsMemory }
     {
         let (path, wants_directory) = path::strip_last_slash(body);
@@ -138,6 +142,7 @@ impl Pattern {
             path: Vec::from_slice(alloc, path)?,
             signature: defaults.signature.union(magic.signature).union(directory),
             search_mode: magic.mode.unwrap_or(defaults.search_mode),
+            attributes: magic.attributes,
             nil: false,
             prefix_length: 0,
         })
@@ -269,6 +274,20 @@ mod tests {
     }
 
     #[test]
+    fn values_hold_few_bytes(rt: HostRuntime) {
+        let rows = [
+            (":(attr:)x", Error::EmptyAttributes),
+            (":(attr:a=b=c)x", Error::InvalidValueByte(b'=')),
+            (":(attr:a=x\\\\,y)p", Error::InvalidValueByte(b'\\')),
+            (":(attr:a=é)x", Error::InvalidValueByte(195)),
+        ];
+        for (text, want) in rows {
+            let fault = parse(rt.alloc(), text.as_bytes(), Defaults::default()).err();
+            assert!(rt; fault.is_some_and(|error| error == want), "{text}");
+        }
+    }
+
+    #[test]
     #[rattlefmt::skip]
     fn the_first_piece_at_fault_is_told(rt: HostRuntime) -> Result<(), Fail> {
         let rows = [
@@ -276,11 +295,15 @@ mod tests {
             (":!(", "MissingParen", ":!("),
             (":(foo)x", "InvalidKeyword", "foo"),
             (":(foo,attr:)x", "InvalidKeyword", "foo"),
+            (":(attr:a,attr:b)x", "SecondAttributes", "attr:b"),
+            (":(attr:a,attr:)x", "SecondAttributes", "attr:"),
+            (":(attr:--1)x", "InvalidName", "-1"),
+            (":(attr:!a=b)x", "InvalidName", "a=b"),
+            (":(attr:-x=\\)y", "InvalidName", "x=\\"),
+            (":(attr:a=x\\)y", "TrailingEscape", "x\\"),
             (":( top)x", "InvalidKeyword", " top"),
             (":(Top)x", "InvalidKeyword", "Top"),
             (":(attr :a)x", "InvalidKeyword", "attr :a"),
-            (":(attr:a=x\\,y)p", "InvalidKeyword", "attr:a=x\\,y"),
-            (":(attr:a=x\\\\,y)p", "InvalidKeyword", "attr:a=x\\\\"),
             (":(literal,glob)x", "LiteralWithGlob", "glob"),
             (":(glob,literal)x", "LiteralWithGlob", "literal"),
         ];
@@ -290,7 +313,12 @@ mod tests {
             };
             assert_eq!(rt; error.kind(), kind, "{text}");
             match &error {
-                Error::MissingParen(bytes) | Error::InvalidKeyword(bytes) | Error::LiteralWithGlob(bytes) => {
+                Error::MissingParen(bytes)
+                | Error::InvalidKeyword(bytes)
+                | Error::LiteralWithGlob(bytes)
+                | Error::SecondAttributes(bytes)
+                | Error::InvalidName(bytes)
+                | Error::TrailingEscape(bytes) => {
                     assert_eq!(rt; bytes.as_slice(), told.as_bytes(), "{text}");
                 }
                 _ => return Err("another error".into()),

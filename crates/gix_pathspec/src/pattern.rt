@@ -1,24 +1,27 @@
 //! A pathspec as it is read from a text, and its normal form.
-ghost use Rattle.std.specs.Prelude.{◌≡◌, Ok, Err, IfOk, IfErr, MatchResult};
+ghost use Rattle.std.specs.Prelude.{◌≡◌, map, Ok, Err, IfOk, IfErr, MatchResult};
 ghost use Rattle.std.specs.List.{list_any};
 ghost use Rattle.bstr.specs.BStr.{bstr_bytes};
+ghost use Rattle.pathspec_parts.specs.AttributeStates.{attribute_of};
 ghost use Rattle.gix_pathspec.specs.Errors.{IsMemory, IsMemoryOr};
 ghost use Rattle.gix_pathspec.specs.Signatures.{signature_bits};
 ghost use Rattle.gix_pathspec.specs.Specs.{is_exclude, always_matches, has_wildcard, is_wildcard, is_glob};
 ghost use Rattle.gix_pathspec.specs.Reading.{empty_spec, nil_spec, literal_spec, Reads, IsRefused, reading};
 ghost use Rattle.gix_pathspec.specs.Matching.{prefix_directory};
 
+mod long_text;
 mod normalize;
 
 use crate::{Defaults, Error, MagicSignature, SearchMode, parse};
 use bitflags::Flags;
 use bstr::BStr;
-use std::alloc::Global;
+use pathspec_parts::attributes::Assignment;
+use std::alloc::{AllocError, Global};
 
 /// A pathspec: a path, and how it is to be compared with paths.
 ///
-/// Patterns are compared by their path, signature, search mode, whether they are nil, and how long their prefix
-/// directory is, in this order.
+/// Patterns are compared by their path, signature, search mode, attributes, whether they are nil, and how long their
+/// prefix directory is, in this order.
 #[derive(Debug, Drop, PartialEq, Eq, PartialOrd, Ord, Hash)]
 pub struct Pattern {
     pub(crate) path: Vec<u8>,
@@ -26,6 +29,8 @@ pub struct Pattern {
     pub signature: MagicSignature,
     /// How its path is compared with paths.
     pub search_mode: SearchMode,
+    /// The attributes that a path must have, and what they must be.
+    pub attributes: Vec<Assignment>,
     pub(crate) nil: bool,
     /// How many bytes of the path are the prefix directory.
     pub(crate) prefix_length: usize,
@@ -42,6 +47,7 @@ impl Pattern {
             path: Vec::new(alloc),
             signature: MagicSignature::empty(),
             search_mode: SearchMode::ShellGlob,
+            attributes: Vec::new(alloc),
             nil: false,
             prefix_length: 0,
         }
@@ -75,6 +81,7 @@ impl Pattern {
             path: Vec::from_slice(alloc, path)?,
             signature,
             search_mode: SearchMode::Literal,
+            attributes: Vec::new(alloc),
             nil: false,
             prefix_length: 0,
         })
@@ -102,6 +109,7 @@ impl Pattern {
             path: self.path.clone()?,
             signature: self.signature,
             search_mode: self.search_mode,
+            attributes: cloned(*self.path.allocator(), self.attributes.as_slice())?,
             nil: self.nil,
             prefix_length: self.prefix_length,
         })
@@ -160,6 +168,17 @@ impl Pattern {
     }
 }
 
+/// The same assignments.
+fn cloned(alloc: Global, assignments: &[Assignment]) -> Result<Vec<Assignment>, AllocError>
+    ensures { IfOk result (λ copy. map attribute_of copy.items ≡ map attribute_of assignments.now) }
+{
+    let mut copy = Vec::new(alloc);
+    for assignment in assignments {
+        copy.push(assignment.try_clone()?)?;
+    }
+    Ok(copy)
+}
+
 /// Whether some byte of the path is a wildcard.
 fn holds_wildcard(path: &[u8]) -> bool
     ensures { result ≡ list_any is_wildcard path.now }
@@ -205,19 +224,19 @@ mod tests {
     }
 
     #[test]
+    #[rattlefmt::skip]
     fn patterns_are_compared_field_by_field(rt: HostRuntime) -> Result<(), Fail> {
         let alloc = rt.alloc();
-        let texts = ["", "a", ":!a", ":(literal)a", ":(glob)a", "a/", "b"];
+        let texts = ["::", ":", "a", ":(attr:a)a", ":(attr:b)a", ":(literal)a", ":(glob)a", ":!a", "a/", "b"];
         let mut rising = Vec::new(alloc);
-        rising.push(Pattern::nil(alloc))?;
-        rising.push(Pattern::from_bytes(alloc, b"::", Defaults::default())?)?;
-        for text in texts.iter().skip(1) {
+        for text in texts {
             rising.push(Pattern::from_bytes(alloc, text.as_bytes(), Defaults::default())?)?;
         }
         for (at, pattern) in rising.iter().enumerate() {
             assert_eq!(rt; pattern, &pattern.try_clone()?);
             for (place, other) in rising.iter().enumerate() {
                 assert_eq!(rt; pattern == other, at == place, "{at} and {place}");
+                assert_eq!(rt; pattern < other, at < place, "{at} and {place}");
             }
         }
         Ok(())

@@ -1,4 +1,5 @@
 pub mod ComponentProofs
+pub mod OutcomeProofs
 mod Asking
 mod GlobRows
 mod PathRows

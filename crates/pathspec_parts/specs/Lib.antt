@@ -2,6 +2,10 @@ pub mod Bytes
 pub mod Paths
 pub mod Components
 pub mod Attributes
+pub mod AttributeNames
+pub mod AttributeStates
+pub mod Outcomes
+pub mod AttributeRows
 pub mod Tokens
 pub mod GlobRelation
 pub mod Stacks

@@ -1,17 +1,25 @@
 -- Whether a path is chosen by a list of patterns, and what is written record by record.
 use Rattle.std.proofs.Common.{◌≡◌, ℕ, Bool, true, false, not, ◌&&◌, ◌||◌, refl, sym, ◌∙◌, ap, List, [], ◌∷◌, ◌++◌, map, append_assoc}
+use Rattle.std.proofs.lemmas.Bool.{and_parts, not-true}
 use Rattle.std.proofs.lemmas.List.{append-nil}
 use Rattle.std.specs.List.{list_any}
+use Rattle.pathspec_parts.specs.Bytes.{is_empty}
 use Rattle.pathspec_parts.specs.Attributes.{Table}
 use Rattle.gix_pathspec.specs.declared.pattern.Pattern.{Pattern}
-use Rattle.gix_pathspec.specs.Specs.{Spec, is_exclude, is_include}
+use Rattle.gix_pathspec.specs.Specs.{Spec, is_glob, is_exclude, is_include}
 use Rattle.gix_pathspec.specs.Matching.{means, chosen}
 use Rattle.gix_pathspec.specs.Patterns.{pattern_spec}
+use Rattle.pathspec_select.specs.Words.{is_supported}
 use Rattle.pathspec_select.specs.Listing.{output, record_path, record_is_dir}
 
 list_any-map : {X Y : Type 0} (view : X → Y) (test : Y → Bool) (xs : List X) → list_any test (map view xs) ≡ list_any (λ x. test (view x)) xs
 list_any-map view test [] = refl
 list_any-map view test (x ∷ xs) = ap (λ b. test (view x) || b) (list_any-map view test xs)
+
+-- a supported spec is no glob, and lists no attributes
+pub supported-parts : (s : Spec) → is_supported s ≡ true → (is_glob s ≡ false) × (is_empty s.attributes ≡ true)
+unfolding is_supported
+supported-parts s h = let p = and_parts (not (is_glob s)) (is_empty s.attributes) h in (not-true (is_glob s) p.0, p.1)
 
 module _ (table : Table) (path : List ℕ) (is_dir : Bool) where
   -- some exclude of these means the path

@@ -16,7 +16,7 @@ use Rattle.pathspec_select.specs.declared.refusal.Refusal.{Refusal}
 use Rattle.pathspec_select.specs.declared.refusal.Refusal.TheVariants as refusal
 use Rattle.pathspec_select.specs.WordFaults.{SpecFault, WordFault}
 use Rattle.pathspec_select.specs.Options.{Options, options_of}
-use Rattle.pathspec_select.specs.Words.{or_faulty, at_number, each_from, said, meant, unless_glob, or_prefix, specs_of, specs_of_words}
+use Rattle.pathspec_select.specs.Words.{or_faulty, at_number, each_from, said, meant, if_supported, or_prefix, specs_of, specs_of_words}
 use Rattle.gix_pathspec.specs.Specs.{Spec}
 use Rattle.std.proofs.lemmas.Grind.{common_steps}
 use Rattle.pathspec_select.specs.Refusals.{TellsWords}
@@ -95,7 +95,7 @@ tells-on refusal.Memory P Q f h = h
 -- ---- all words
 
 -- a spec that has no normal form means nothing
-pub meant-fails : (number : ℕ) (x : Result Spec Fault) (fault : WordFault) → at_number number (or_faulty x) ≡ Err fault → at_number number (or_faulty x >>= unless_glob) ≡ Err fault
+pub meant-fails : (number : ℕ) (x : Result Spec Fault) (fault : WordFault) → at_number number (or_faulty x) ≡ Err fault → at_number number (or_faulty x >>= if_supported) ≡ Err fault
 meant-fails number (Ok s) fault h = cc
 meant-fails number (Err f) fault h = h
 

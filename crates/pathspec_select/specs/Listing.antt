@@ -1,10 +1,10 @@
 -- Listings of paths, and what the program writes.
-use Rattle.std.specs.Prelude.{ℕ, Bool, true, false, ◌&&◌, ◌||◌, List, [], ◌∷◌, ◌++◌, map, filter, flat_map, bytes_eq, ◌==◌, if◌then◌else◌, Option}
+use Rattle.std.specs.Prelude.{ℕ, Bool, false, ◌&&◌, ◌||◌, List, [], ◌∷◌, ◌++◌, filter, flat_map, ◌==◌, if◌then◌else◌, Option}
 use Rattle.std.specs.List.{slice_split, position_from}
 use Rattle.pathspec_parts.specs.Bytes.{slash, is_empty, first_is, begins_with}
 use Rattle.pathspec_parts.specs.Paths.{is_slash, ends_with_slash, without_last_slash}
-use Rattle.pathspec_parts.specs.Attributes.{State, Assignment, Table}
-use Rattle.pathspec_parts.specs.Attributes.State.{Unspecified}
+use Rattle.pathspec_parts.specs.Attributes.{Table}
+use Rattle.pathspec_parts.specs.AttributeRows.{Row, rows_reply}
 use Rattle.gix_pathspec.specs.Specs.{Spec}
 use Rattle.gix_pathspec.specs.Matching.{chosen}
 
@@ -49,16 +49,6 @@ output table specs separator rs = flat_map (λ r. r ++ separator ∷ []) (filter
 
 -- ---- the look-up of rows
 
--- attributes that are set for a path
-pub record Row : Type 0 where
-  pub path : List ℕ
-  pub assignments : List Assignment
-
--- the state of a name after assignments in their order, from this one on
-abbrev pub state_after : State → List Assignment → List ℕ → State
-state_after state [] name = state
-state_after state (a ∷ rest) name = state_after (if bytes_eq a.name name then a.state else state) rest name
-
 -- Each row whose path is the question's sets its assignments, in order; the answer is always found.
 abbrev pub table_of : List Row → Table
-table_of rows q = record { found = true; states = map (state_after Unspecified (flat_map (λ row. row.assignments) (filter (λ row. bytes_eq row.path q.path) rows))) q.names }
+table_of rows q = rows_reply rows q

@@ -1,5 +1,5 @@
 -- The specs that the words of a command line ask for.
-use Rattle.std.specs.Prelude.{ℕ, ◌+◌, not, ◌&&◌, List, [], ◌∷◌, if◌then◌else◌, Result, Ok, Err}
+use Rattle.std.specs.Prelude.{ℕ, ◌+◌, Bool, not, ◌&&◌, List, [], ◌∷◌, if◌then◌else◌, Result, Ok, Err}
 use Rattle.pathspec_parts.specs.Bytes.{is_empty}
 use Rattle.gix_pathspec.specs.Results.{◌>>=◌}
 use Rattle.gix_pathspec.specs.Faults.{Fault}
@@ -20,13 +20,17 @@ or_faulty (Err fault) = Err (Faulty fault)
 abbrev pub said : List ℕ → Result Spec SpecFault
 said word = or_faulty (reading no_defaults word)
 
--- a spec, unless it is a glob: globs aren't matched yet
-abbrev pub unless_glob : Spec → Result Spec SpecFault
-unless_glob s = if is_glob s then Err Unsupported else Ok s
+-- a spec that can be asked about paths: globs aren't matched yet, and nobody is asked for attributes
+unfoldable pub is_supported : Spec → Bool
+is_supported s = not (is_glob s) && is_empty s.attributes
+
+-- a spec, if it is supported
+abbrev pub if_supported : Spec → Result Spec SpecFault
+if_supported s = if is_supported s then Ok s else Err Unsupported
 
 -- what a spec means in a prefix, in a repository with this root
 abbrev pub meant : List ℕ → List ℕ → Spec → Result Spec SpecFault
-meant prefix root s = or_faulty (normal_form prefix root s) >>= unless_glob
+meant prefix root s = or_faulty (normal_form prefix root s) >>= if_supported
 
 -- An empty list with a prefix stands for that prefix.
 abbrev pub or_prefix : List ℕ → List Spec → List Spec

@@ -1,10 +1,11 @@
 //! Which records specs choose.
-ghost use Rattle.std.specs.Prelude.{◌≡◌, ◌&&◌, [], All, map, IfOk, IsFalse};
+ghost use Rattle.std.specs.Prelude.{◌≡◌, ◌&&◌, [], All, map, IfOk, IsTrue};
 ghost use Rattle.std.specs.List.{list_any};
 ghost use Rattle.bstr.specs.BStr.{bstr_bytes};
-ghost use Rattle.gix_pathspec.specs.Specs.{is_glob, is_include};
+ghost use Rattle.gix_pathspec.specs.Specs.{is_include};
 ghost use Rattle.gix_pathspec.specs.Matching.{means, chosen};
 ghost use Rattle.gix_pathspec.specs.Patterns.{pattern_spec};
+ghost use Rattle.pathspec_select.specs.Words.{is_supported};
 ghost use Rattle.pathspec_select.specs.Listing.{records, output, table_of, record_path, record_is_dir};
 
 use crate::listing;
@@ -23,7 +24,7 @@ pub(crate) fn chosen_records(
     listing: &[u8],
     separator: u8,
 ) -> Result<Vec<u8>, AllocError>
-    requires { All (λ p. IsFalse (is_glob (pattern_spec p))) patterns.now }
+    requires { All (λ p. IsTrue (is_supported (pattern_spec p))) patterns.now }
     ensures { IfOk result (λ out. out.items ≡ output (table_of []) (map pattern_spec patterns.now) separator (records separator listing.now)) }
 {
     let mut output = Vec::new(alloc);
@@ -38,7 +39,7 @@ pub(crate) fn chosen_records(
 
 /// Whether a record is chosen: it is a directory where it ends with a slash, which is no part of its path.
 fn is_chosen_record(patterns: &[Pattern], text: &[u8]) -> bool
-    requires { All (λ p. IsFalse (is_glob (pattern_spec p))) patterns.now }
+    requires { All (λ p. IsTrue (is_supported (pattern_spec p))) patterns.now }
     ensures { result ≡ chosen (table_of []) (map pattern_spec patterns.now) (record_path text.now) (record_is_dir text.now) }
 {
     let (path, is_dir) = path::strip_last_slash(text);
@@ -47,14 +48,14 @@ fn is_chosen_record(patterns: &[Pattern], text: &[u8]) -> bool
 
 /// Whether a path is chosen: no exclude means it, and some include does or there is no include.
 fn is_chosen(patterns: &[Pattern], path: BStr<'_>, is_dir: bool) -> bool
-    requires { All (λ p. IsFalse (is_glob (pattern_spec p))) patterns.now }
+    requires { All (λ p. IsTrue (is_supported (pattern_spec p))) patterns.now }
     ensures { result ≡ chosen (table_of []) (map pattern_spec patterns.now) (bstr_bytes path.entry) is_dir }
 {
     let mut included = !has_include(patterns);
     for pattern in patterns {
         let excludes = pattern.is_excluded();
         // Where an include means the path already, further ones change nothing.
-        if (excludes || !included) && matching::match_kind(pattern, path, is_dir).is_some() {
+        if (excludes || !included) && is_meant(pattern, path, is_dir) {
             if excludes {
                 return false;
             }
@@ -62,6 +63,14 @@ fn is_chosen(patterns: &[Pattern], path: BStr<'_>, is_dir: bool) -> bool
         }
     }
     included
+}
+
+/// Whether a spec means a path.
+fn is_meant(pattern: &Pattern, path: BStr<'_>, is_dir: bool) -> bool
+    requires { IsTrue (is_supported (pattern_spec pattern.now)) }
+    ensures { result ≡ means (table_of []) (pattern_spec pattern.now) (bstr_bytes path.entry) is_dir }
+{
+    matching::match_kind(pattern, path, is_dir).is_some()
 }
 
 /// Whether some spec is an include.

@@ -12,7 +12,7 @@ pub enum Refusal {
     /// A spec is at fault; specs are numbered from 0.
     #[error("spec {}: {}", .0, .1.kind())]
     Spec(usize, Error),
-    /// A spec is a glob, which isn't matched yet; specs are numbered from 0.
+    /// A spec is a glob or lists attributes, of which neither is matched yet; specs are numbered from 0.
     #[error("spec {0}: Unsupported")]
     Unsupported(usize),
     /// A read failed.

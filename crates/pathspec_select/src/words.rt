@@ -1,13 +1,12 @@
 //! The specs that the words of the command line ask for.
-ghost use Rattle.std.specs.Prelude.{◌≡◌, Ok, Err, All, map, IfOk, IfErr, OnOk, MatchResult, MatchOption, IsTrue, IsFalse, string_bytes};
+ghost use Rattle.std.specs.Prelude.{◌≡◌, Ok, Err, All, map, IfOk, IfErr, OnOk, MatchResult, MatchOption, IsTrue, string_bytes};
 ghost use Rattle.bstr.specs.BStr.{bstr_bytes};
 ghost use Rattle.pathspec_parts.specs.Paths.{is_clean_prefix};
-ghost use Rattle.gix_pathspec.specs.Specs.{is_glob};
 ghost use Rattle.gix_pathspec.specs.Errors.{fault_of};
 ghost use Rattle.gix_pathspec.specs.Patterns.{pattern_spec};
 ghost use Rattle.pathspec_select.specs.WordFaults.{WordFault};
 ghost use Rattle.pathspec_select.specs.Options.{options_of};
-ghost use Rattle.pathspec_select.specs.Words.{said, meant, or_prefix, each_from, specs_of, specs_of_words, at_number};
+ghost use Rattle.pathspec_select.specs.Words.{said, is_supported, meant, or_prefix, each_from, specs_of, specs_of_words, at_number};
 ghost use Rattle.pathspec_select.specs.Refusals.{TellsWords};
 
 use crate::Refusal;
@@ -24,7 +23,7 @@ pub(crate) fn specs(alloc: Global, words: &[String]) -> Result<Vec<Pattern>, Ref
     ensures cases { MatchResult result (λ ps. specs_of_words (map string_bytes words.now) ≡ Ok (map pattern_spec ps.items)) (λ e. TellsWords e (λ fault. specs_of_words (map string_bytes words.now) ≡ Err fault)) }
     // Wrong options are told before memory is wanted.
     ensures options { options_of (map string_bytes words.now) ≡ Err WordFault.Usage → result ≡ Err Refusal.Usage }
-    ensures plain { IfOk result (λ ps. All (λ p. IsFalse (is_glob (pattern_spec p))) ps.items) }
+    ensures plain { IfOk result (λ ps. All (λ p. IsTrue (is_supported (pattern_spec p))) ps.items) }
 {
     specs_of(alloc, &options::read(words)?)
 }
@@ -33,7 +32,7 @@ pub(crate) fn specs(alloc: Global, words: &[String]) -> Result<Vec<Pattern>, Ref
 fn specs_of(alloc: Global, options: &Options<'_>) -> Result<Vec<Pattern>, Refusal>
     requires { IsTrue (is_clean_prefix options.now.prefix) }
     ensures cases { MatchResult result (λ ps. specs_of options.now ≡ Ok (map pattern_spec ps.items)) (λ e. TellsWords e (λ fault. specs_of options.now ≡ Err fault)) }
-    ensures plain { IfOk result (λ ps. All (λ p. IsFalse (is_glob (pattern_spec p))) ps.items) }
+    ensures plain { IfOk result (λ ps. All (λ p. IsTrue (is_supported (pattern_spec p))) ps.items) }
 {
     let read = read_all(alloc, options.specs)?;
     let mut patterns = or_prefix(alloc, read, options.prefix)?;
@@ -93,7 +92,7 @@ fn read(alloc: Global, number: usize, text: &String) -> Result<Pattern, Refusal>
 fn normalize_all(patterns: &mut [Pattern], prefix: BStr<'_>, root: BStr<'_>) -> Result<(), Refusal>
     requires { IsTrue (is_clean_prefix (bstr_bytes prefix)) }
     ensures cases { MatchResult result (λ _. each_from 0 (meant (bstr_bytes prefix.entry) (bstr_bytes root.entry)) (map pattern_spec patterns.old) ≡ Ok (map pattern_spec patterns.new)) (λ e. TellsWords e (λ fault. each_from 0 (meant (bstr_bytes prefix.entry) (bstr_bytes root.entry)) (map pattern_spec patterns.old) ≡ Err fault)) }
-    ensures plain { OnOk result (All (λ p. IsFalse (is_glob (pattern_spec p))) patterns.new) }
+    ensures plain { OnOk result (All (λ p. IsTrue (is_supported (pattern_spec p))) patterns.new) }
 {
     for (number, pattern) in patterns.iter_mut().enumerate() {
         normalize(number, pattern, prefix, root)?;
@@ -110,15 +109,23 @@ fn normalize(
 ) -> Result<(), Refusal>
     requires { IsTrue (is_clean_prefix (bstr_bytes prefix)) }
     ensures cases { MatchResult result (λ _. meant (bstr_bytes prefix.entry) (bstr_bytes root.entry) (pattern_spec pattern.old) ≡ Ok (pattern_spec pattern.new)) (λ e. TellsWords e (λ fault. at_number number (meant (bstr_bytes prefix.entry) (bstr_bytes root.entry) (pattern_spec pattern.old)) ≡ Err fault)) }
-    ensures plain { OnOk result (IsFalse (is_glob (pattern_spec pattern.new))) }
+    ensures plain { OnOk result (IsTrue (is_supported (pattern_spec pattern.new))) }
 {
     if let Err(error) = pattern.resolve(prefix, root) {
         return Err(refused(number, error));
     }
-    if pattern.is_glob() {
+    if !is_supported(pattern) {
         return Err(Refusal::Unsupported(number));
     }
     Ok(())
+}
+
+/// Whether a spec can be asked about paths: it is no glob, and lists no attributes.
+#[tactic(auto, unfolding(crate::specs::Words::is_supported))]
+fn is_supported(pattern: &Pattern) -> bool
+    ensures { result ≡ is_supported (pattern_spec pattern.now) }
+{
+    !pattern.is_glob() && pattern.attributes.is_empty()
 }
 
 /// The refusal for the error of a spec.

@@ -1,13 +1,15 @@
 //! What long magic asks for (gitglossary, "pathspec").
-ghost use Rattle.std.specs.Prelude.{◌≡◌, [], unwrap_or, Some, None, Ok, Err, MatchResult};
+ghost use Rattle.std.specs.Prelude.{◌≡◌, map, unwrap_or, Some, None, Ok, Err, MatchResult};
+ghost use Rattle.pathspec_parts.specs.AttributeStates.{attribute_of};
 ghost use Rattle.gix_pathspec.specs.Errors.{IsMemoryOr};
 ghost use Rattle.gix_pathspec.specs.Signatures.{signature_bits};
 ghost use Rattle.gix_pathspec.specs.Keywords.{asked_by};
-ghost use Rattle.gix_pathspec.specs.Reading.{Magic as Said, keyword_of, same_mode, picked, after_piece, after_pieces, long_pieces, no_magic};
+ghost use Rattle.gix_pathspec.specs.Reading.{Magic as Said, keyword_of, same_mode, picked, listed, after_piece, after_pieces, long_pieces, no_magic};
 
-use super::pieces;
+use super::{lists, pieces};
 use crate::{Error, MagicSignature, SearchMode, error};
 use bitflags::Flags;
+use pathspec_parts::attributes::Assignment;
 use std::alloc::Global;
 use std::marker::Model;
 
@@ -16,28 +18,31 @@ use std::marker::Model;
 pub(super) struct Magic {
     pub(super) signature: MagicSignature,
     pub(super) mode: Option<SearchMode>,
+    pub(super) attributes: Vec<Assignment>,
 }
 
 impl Model for Magic {
     ghost Value = { Said };
 
-    ghost view = { λ m. record { signature = signature_bits m.signature; mode = m.mode; attributes = [] } };
+    ghost view = { λ m. record { signature = signature_bits m.signature; mode = m.mode; attributes = map attribute_of m.attributes.items } };
 }
 
 /// What a piece of long magic asks for.
-enum Keyword {
+enum Keyword<'p> {
     /// A bit of the signature.
     Adds(MagicSignature),
     /// A mode.
     Picks(SearchMode),
     /// Nothing.
     Ignored,
+    /// The attributes of a list.
+    Lists(&'p [u8]),
     /// There is no such piece.
     Unknown,
 }
 
 /// What a piece asks for, by the table of pieces.
-fn keyword_of(piece: &[u8]) -> Keyword
+fn keyword_of(piece: &[u8]) -> Keyword<'_>
     ensures { asked_by result ≡ keyword_of piece.now }
 {
     if piece == b"top".as_slice() {
@@ -52,6 +57,8 @@ fn keyword_of(piece: &[u8]) -> Keyword
         Keyword::Picks(SearchMode::PathAwareGlob)
     } else if piece == b"attr".as_slice() {
         Keyword::Ignored
+    } else if let Some(list) = piece.strip_prefix(b"attr:") {
+        Keyword::Lists(list)
     } else {
         Keyword::Unknown
     }
@@ -66,12 +73,13 @@ fn is_same(mode: SearchMode, other: SearchMode) -> bool
 
 impl Magic {
     /// Magic that says nothing.
-    pub(super) fn none() -> Magic
+    pub(super) fn none(alloc: Global) -> Magic
         ensures { result ≡ no_magic }
     {
         Magic {
             signature: MagicSignature::empty(),
             mode: None,
+            attributes: Vec::new(alloc),
         }
     }
 
@@ -88,6 +96,19 @@ impl Magic {
         })
     }
 
+    /// With the attributes that a piece lists; only one list may stand, unless the one before was of spaces alone.
+    fn listing(self, alloc: Global, piece: &[u8], list: &[u8]) -> Result<Magic, Error>
+        ensures { MatchResult result (λ m. listed self piece.now list.now ≡ Ok m) (λ e. IsMemoryOr e (λ fault. listed self piece.now list.now ≡ Err fault)) }
+    {
+        if !self.attributes.is_empty() {
+            return Err(Error::SecondAttributes(error::copied(alloc, piece)?));
+        }
+        Ok(Magic {
+            attributes: lists::attributes(alloc, list)?,
+            ..self
+        })
+    }
+
     /// With what a piece asks for.
     fn with_piece(self, alloc: Global, piece: &[u8]) -> Result<Magic, Error>
         ensures { MatchResult result (λ m. after_piece self piece.now (keyword_of piece.now) ≡ Ok m) (λ e. IsMemoryOr e (λ fault. after_piece self piece.now (keyword_of piece.now) ≡ Err fault)) }
@@ -99,6 +120,7 @@ impl Magic {
             }),
             Keyword::Picks(mode) => self.picking(alloc, piece, mode),
             Keyword::Ignored => Ok(self),
+            Keyword::Lists(list) => self.listing(alloc, piece, list),
             Keyword::Unknown => Err(Error::InvalidKeyword(error::copied(alloc, piece)?)),
         }
     }

@@ -25,7 +25,7 @@ fn is_cut(byte: u8, is_escaped: bool) -> bool
 }
 
 /// Whether the byte is a backslash that nothing escapes.
-fn is_escape(byte: u8, is_escaped: bool) -> bool
+pub(super) fn is_escape(byte: u8, is_escaped: bool) -> bool
     ensures { result ≡ (byte == backslash && not is_escaped) }
 {
     byte == b'\\' && !is_escaped

@@ -1,7 +1,7 @@
 //! Whether a spec means a path, and how (gitglossary, "pathspec").
-ghost use Rattle.std.specs.Prelude.{◌≡◌, IsFalse, is_some, bytes_eq};
+ghost use Rattle.std.specs.Prelude.{◌≡◌, IsTrue, IsFalse, is_some, bytes_eq};
 ghost use Rattle.bstr.specs.BStr.{bstr_bytes};
-ghost use Rattle.pathspec_parts.specs.Bytes.{folded};
+ghost use Rattle.pathspec_parts.specs.Bytes.{folded, is_empty};
 ghost use Rattle.pathspec_parts.specs.Paths.{is_below};
 ghost use Rattle.pathspec_parts.specs.Attributes.{Table};
 ghost use Rattle.gix_pathspec.specs.Specs.{is_glob, ignores_case};
@@ -23,7 +23,7 @@ use bstr::BStr;
 pub fn match_kind(pattern: &Pattern, path: BStr<'_>, is_dir: bool) -> Option<MatchKind>
     requires { IsFalse (is_glob (pattern_spec pattern.now)) }
     ensures kind { result ≡ fit (pattern_spec pattern.now) (bstr_bytes path.entry) is_dir }
-    ensures means { (table : Table) → is_some result ≡ means table (pattern_spec pattern.now) (bstr_bytes path.entry) is_dir }
+    ensures means { IsTrue (is_empty (pattern_spec pattern.now).attributes) → (table : Table) → is_some result ≡ means table (pattern_spec pattern.now) (bstr_bytes path.entry) is_dir }
 {
     if !keeps_prefix(pattern, path, is_dir) {
         return None;
@@ -183,6 +183,7 @@ mod tests {
                 path: Vec::from_slice(rt.alloc(), text.as_bytes())?,
                 signature: MagicSignature::ICASE,
                 search_mode: SearchMode::ShellGlob,
+                attributes: Vec::new(rt.alloc()),
                 nil: false,
                 prefix_length: 1,
             };

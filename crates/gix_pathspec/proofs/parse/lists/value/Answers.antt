@@ -1,0 +1,27 @@
+-- Each byte is skipped, taken or refused.
+use Rattle.std.proofs.Common.{◌≡◌, ◌++◌, ◌∷◌, [], get_or, sym, ◌∙◌, arith}
+use Rattle.std.proofs.lemmas.Result.{err_from_is_err_and}
+use Rattle.gix_pathspec.proofs.ListProofs.{pushed, value-skips, value-takes, value-refuses, value-trailing, value-all}
+use Rattle.gix_pathspec.proofs.parse.lists.value.Goals.{then-not-escaped+in_ok-value_byte+in_ok-map_err, else-not-escaped}
+use Rattle.gix_pathspec.proofs.parse.lists.value.Goals as goal
+
+pub returns-in_err-value_byte : goal.returns-in_err-value_byte
+returns-in_err-value_byte c =
+    let p = err_from_is_err_and c.from_residual.result c.from_residual.ensures.1 in
+    rw (p.1, p.2, c.in_err-value_byte.ensures.0) (value-refuses c.args.written.now c.loop-byte.value.items c.loop-byte.byte-index c.loop-byte.escaped c.loop-byte-test.true c.loop-byte.invariant (sym c.is_escape-escaped.ensures ∙ c.if-not-escaped.true) c.in_err-value_byte.ensures.1)
+
+pub loop-byte-preserved : goal.loop-byte-preserved
+loop-byte-preserved c = elim c.if-not-escaped.branch [
+  | then-not-escaped+in_ok-value_byte+in_ok-map_err w ↦
+      let taken = value-takes c.args.written.now c.loop-byte.value.items c.loop-byte.byte-index c.loop-byte.escaped c.loop-byte-test.true c.loop-byte.invariant (sym c.is_escape-escaped.ensures ∙ w.if-not-escaped.true) w.in_ok-value_byte.ensures.1 in
+      let items : w.push.new.self.items ≡ c.loop-byte.value.items ++ get_or c.args.written.now c.loop-byte.byte-index 0 ∷ [] = pushed _ _ _ _ _ w.push.ensures.items w.in_ok-map_err.ensures.variant w.in_ok-value_byte.ensures.0 in
+      rw (w.value-is, items, w.if-not-escaped.true) taken
+  | else-not-escaped w ↦
+      rw (w.value-is, w.if-not-escaped.false) (value-skips c.args.written.now c.loop-byte.value.items c.loop-byte.byte-index c.loop-byte.escaped c.loop-byte-test.true c.loop-byte.invariant (sym c.is_escape-escaped.ensures ∙ w.if-not-escaped.false))
+]
+
+pub returns-then-escaped : goal.returns-then-escaped
+returns-then-escaped c = rw c.in_ok-copied.ensures.ok (value-trailing c.args.written.now c.loop-byte.value.items c.loop-byte.byte-index c.loop-byte.escaped (omega (arith, c.loop-byte-test.false, c.loop-byte.auto.byte-index-end)) c.loop-byte.invariant c.if-escaped.true)
+
+pub returns : goal.returns
+returns c = value-all c.args.written.now c.loop-byte.value.items c.loop-byte.byte-index c.loop-byte.escaped (omega (arith, c.loop-byte-test.false, c.loop-byte.auto.byte-index-end)) c.loop-byte.invariant c.if-escaped.false

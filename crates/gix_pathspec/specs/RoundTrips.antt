@@ -1,0 +1,55 @@
+-- Which specs their long texts say.
+use Rattle.std.specs.Prelude.{◌≡◌, ℕ, ◌<◌, Bool, true, false, not, ◌&&◌, ◌⊎◌, ◌↔◌, List, Ok, IsTrue, IsFalse}
+use Rattle.std.specs.List.{list_all}
+use Rattle.gix_pathspec.specs.declared.defaults.Defaults.{Defaults}
+use Rattle.pathspec_parts.specs.Bytes.{is_empty}
+use Rattle.pathspec_parts.specs.Paths.{ends_with_slash}
+use Rattle.pathspec_parts.specs.Attributes.{State, Assignment, is_attribute_name}
+use Rattle.pathspec_parts.specs.Attributes.State.{Set, Value}
+use Rattle.gix_pathspec.specs.AttributeLists.{is_value_byte}
+use Rattle.gix_pathspec.specs.Signatures.{signature_bits}
+use Rattle.gix_pathspec.specs.Specs.{Spec, wants_directory}
+use Rattle.gix_pathspec.specs.Reading.{reading, nil_spec, no_defaults}
+use Rattle.gix_pathspec.specs.LongText.{long_text}
+
+-- a state that a list can hold
+abbrev pub is_written_state : State → Bool
+is_written_state (Value v) = list_all is_value_byte v
+is_written_state _ = true
+
+-- a name that stands alone
+abbrev pub is_set : State → Bool
+is_set Set = true
+is_set _ = false
+
+-- an assignment that a list can say: the names of states other than set may be empty
+abbrev pub is_sayable_assignment : Assignment → Bool
+is_sayable_assignment a = is_attribute_name a.name && is_written_state a.state && not (is_set a.state && is_empty a.name)
+
+-- A spec that a text can say: only known bits, no prefix directory, assignments that lists can say, no last slash in the path unless a directory is wanted, and where it is nil, nothing else.
+pub record IsSayable (s : Spec) : Type 0 where
+  pub bits : s.signature < 16
+  pub prefix : s.prefix_length ≡ 0
+  pub assignments : IsTrue (list_all is_sayable_assignment s.attributes)
+  pub path : IsTrue (wants_directory s) ⊎ IsFalse (ends_with_slash s.path)
+  pub nil : IsTrue s.nil → s ≡ nil_spec
+
+-- The long text of a sayable spec reads as the spec.
+abbrev pub RoundTrip : Type 0
+RoundTrip = (s : Spec) → IsSayable s → reading no_defaults (long_text s) ≡ Ok s
+
+-- Two sayable specs are equal exactly where their long texts are.
+abbrev pub LongTextsTell : Type 0
+LongTextsTell = (s t : Spec) → IsSayable s → IsSayable t → (s ≡ t) ↔ (long_text s ≡ long_text t)
+
+-- Just the sayable specs come back from their long text.
+abbrev pub RoundTripIsExact : Type 0
+RoundTripIsExact = (s : Spec) → (reading no_defaults (long_text s) ≡ Ok s) ↔ IsSayable s
+
+-- What a text says is sayable, under any defaults of known bits that do not ask for literal specs.
+abbrev pub SaidIsSayable : Type 0
+SaidIsSayable = (d : Defaults) (text : List ℕ) (s : Spec) → IsFalse d.literal → signature_bits d.signature < 16 → reading d text ≡ Ok s → IsSayable s
+
+-- So what a text says comes back from its long text.
+abbrev pub SaidComesBack : Type 0
+SaidComesBack = (d : Defaults) (text : List ℕ) (s : Spec) → IsFalse d.literal → signature_bits d.signature < 16 → reading d text ≡ Ok s → reading no_defaults (long_text s) ≡ Ok s

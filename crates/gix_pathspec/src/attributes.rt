@@ -1,0 +1,3 @@
+//! Attributes of paths: the types of `pathspec_parts::attributes`.
+
+pub use pathspec_parts::attributes::{Assignment, Case, LookUp, Name, Outcome, State, StateRef};

@@ -1,0 +1,217 @@
+//! Lists of attributes, as `attr:` takes them (gitglossary, "pathspec").
+ghost use Rattle.std.specs.Prelude.{◌≡◌, map, ◌==◌, ◌&&◌, not, Some, Ok, Err, drop, IsTrue, IsFalse, MatchOption, MatchResult};
+ghost use Rattle.std.specs.List.{list_any};
+ghost use Rattle.pathspec_parts.specs.Bytes.{backslash, equals_sign, first_is};
+ghost use Rattle.pathspec_parts.specs.AttributeNames.{name_bytes};
+ghost use Rattle.pathspec_parts.specs.AttributeStates.{state_of, attribute_of};
+ghost use Rattle.gix_pathspec.specs.Faults.Fault.{InvalidValueByte};
+ghost use Rattle.gix_pathspec.specs.Errors.{fault_of, IsMemoryOr};
+ghost use Rattle.gix_pathspec.specs.AttributeLists.{name_of, is_value_byte, value_of, named, valued, assignment_of, assignments_of};
+
+use super::pieces::is_escape;
+use crate::{Error, error};
+use pathspec_parts::attributes::{Assignment, Name, State};
+use pathspec_parts::split;
+use std::alloc::{AllocError, Global};
+
+/// Reads a list of attributes, as `attr:` takes it (gitglossary, "pathspec"): parts between spaces, of which empty ones
+/// don't count. `name` sets an attribute, `-name` unsets it and `!name` leaves it unspecified. `name=value`, cut at its
+/// first `=`, gives it a value of ASCII letters, digits, `,`, `-` and `_`, in which a backslash stands for the byte
+/// behind it.
+///
+/// It looks at each byte a fixed number of times, and takes memory for the assignments with their names and values, or
+/// for the bytes that an error carries.
+///
+/// # Errors
+/// [`Error::EmptyAttributes`] for the empty list; for the first part at fault [`Error::InvalidValueByte`] or
+/// [`Error::TrailingEscape`], which tell of its value, and only then [`Error::InvalidName`]; [`Error::Memory`].
+pub fn attributes(alloc: Global, list: &[u8]) -> Result<Vec<Assignment>, Error>
+    ensures { MatchResult result (λ assignments. assignments_of list.now ≡ Ok (map attribute_of assignments.items)) (λ e. IsMemoryOr e (λ fault. assignments_of list.now ≡ Err fault)) }
+{
+    if list.is_empty() {
+        return Err(Error::EmptyAttributes);
+    }
+    let mut assignments = Vec::new(alloc);
+    let mut rest = list;
+    while !rest.is_empty() {
+        let (part, behind) = split::at_first(rest, b' ');
+        if !part.is_empty() {
+            assignments
+                .push(assignment(alloc, part)?)
+                .map_err(AllocError::from)?;
+        }
+        rest = behind;
+    }
+    Ok(assignments)
+}
+
+/// The assignment that a part of a list says.
+#[tactic(auto, unfolding(crate::specs::AttributeLists::assignment_of))]
+fn assignment(alloc: Global, part: &[u8]) -> Result<Assignment, Error>
+    ensures { MatchResult result (λ a. assignment_of part.now ≡ Ok (attribute_of a)) (λ e. IsMemoryOr e (λ fault. assignment_of part.now ≡ Err fault)) }
+{
+    if let Some(name) = behind_mark(part, b'!') {
+        return named(alloc, State::Unspecified, name);
+    }
+    if let Some(name) = behind_mark(part, b'-') {
+        return named(alloc, State::Unset, name);
+    }
+    if !holds_equals_sign(part) {
+        return named(alloc, State::Set, part);
+    }
+    let (name, written) = split::at_first(part, b'=');
+    valued(alloc, name, written)
+}
+
+/// What stands behind the mark, if it stands in front.
+fn behind_mark(part: &[u8], mark: u8) -> Option<&[u8]>
+    ensures { MatchOption result (IsFalse (first_is (λ b. b == mark) part.now)) (λ behind. IsTrue (first_is (λ b. b == mark) part.now) × (behind.now ≡ drop 1 part.now)) }
+{
+    match part {
+        [byte, behind @ ..] if *byte == mark => Some(behind),
+        _ => None,
+    }
+}
+
+/// Whether a `=` stands in it.
+fn holds_equals_sign(part: &[u8]) -> bool
+    ensures { result ≡ list_any (λ b. b == equals_sign) part.now }
+{
+    part.contains(&b'=')
+}
+
+/// What `name=value` says. The value is read before the name.
+fn valued(alloc: Global, name: &[u8], written: &[u8]) -> Result<Assignment, Error>
+    ensures { MatchResult result (λ a. valued name.now written.now ≡ Ok (attribute_of a)) (λ e. IsMemoryOr e (λ fault. valued name.now written.now ≡ Err fault)) }
+{
+    let value = value(alloc, written)?;
+    named(alloc, State::Value(value), name)
+}
+
+/// The assignment of a state to a name.
+fn named(alloc: Global, state: State, bytes: &[u8]) -> Result<Assignment, Error>
+    ensures { MatchResult result (λ a. named (state_of state) bytes.now ≡ Ok (attribute_of a)) (λ e. IsMemoryOr e (λ fault. named (state_of state) bytes.now ≡ Err fault)) }
+{
+    Ok(Assignment {
+        name: name(alloc, bytes)?,
+        state,
+    })
+}
+
+/// The name of these bytes.
+fn name(alloc: Global, bytes: &[u8]) -> Result<Name, Error>
+    ensures { MatchResult result (λ n. name_of bytes.now ≡ Ok (name_bytes n)) (λ e. IsMemoryOr e (λ fault. name_of bytes.now ≡ Err fault)) }
+{
+    match Name::from_bytes(alloc, bytes)? {
+        Some(name) => Ok(name),
+        None => Err(Error::InvalidName(error::copied(alloc, bytes)?)),
+    }
+}
+
+/// The value that these bytes write.
+fn value(alloc: Global, written: &[u8]) -> Result<Vec<u8>, Error>
+    ensures { MatchResult result (λ value. value_of written.now ≡ Ok value.items) (λ e. IsMemoryOr e (λ fault. value_of written.now ≡ Err fault)) }
+{
+    let mut value = Vec::new(alloc);
+    let mut escaped = false;
+    for byte in written {
+        escaped = is_escape(*byte, escaped);
+        if !escaped {
+            value.push(value_byte(*byte)?).map_err(AllocError::from)?;
+        }
+    }
+    if escaped {
+        return Err(Error::TrailingEscape(error::copied(alloc, written)?));
+    }
+    Ok(value)
+}
+
+/// The byte, if a value may hold it.
+fn value_byte(byte: u8) -> Result<u8, Error>
+    ensures { MatchResult result (λ b. (b ≡ byte) × IsTrue (is_value_byte byte)) (λ e. (fault_of e ≡ Some (InvalidValueByte byte)) × IsFalse (is_value_byte byte)) }
+{
+    if is_value_byte(byte) {
+        Ok(byte)
+    } else {
+        Err(Error::InvalidValueByte(byte))
+    }
+}
+
+/// Whether a value may hold the byte.
+fn is_value_byte(byte: u8) -> bool
+    ensures { result ≡ is_value_byte byte }
+{
+    byte.is_ascii_alphanumeric() || matches!(byte, b',' | b'-' | b'_')
+}
+
+#[cfg(test)]
+mod tests {
+    use super::*;
+    use pathspec_parts::attributes::StateRef;
+    use std::test::Fail;
+
+    #[test]
+    #[rattlefmt::skip]
+    fn parts_of_a_list_say_assignments(rt: HostRuntime) -> Result<(), Fail> {
+        let rows = [
+            ("a -b !c d=v", "a is set; b is unset; c is unspecified; d is v; "),
+            (" ", ""),
+            ("  ", ""),
+            (" a  b ", "a is set; b is set; "),
+            ("a=x\\,y", "a is x,y; "),
+            ("a=\\x\\-\\_\\9", "a is x-_9; "),
+            ("a=one b=", "a is one; b is ; "),
+            ("=v", " is v; "),
+            ("=", " is ; "),
+            ("!", " is unspecified; "),
+            ("-", " is unset; "),
+            ("-1", "1 is unset; "),
+            ("a a", "a is set; a is set; "),
+            ("A.b-c_9", "A.b-c_9 is set; "),
+        ];
+        for (list, want) in rows {
+            let mut said = Vec::new(rt.alloc());
+            for assignment in &attributes(rt.alloc(), list.as_bytes())? {
+                said.extend_from_slice(assignment.name.as_bytes().as_bytes())?;
+                said.extend_from_slice(b" is ")?;
+                said.extend_from_slice(match assignment.state.as_ref() {
+                    StateRef::Set => b"set",
+                    StateRef::Unset => b"unset",
+                    StateRef::Value(value) => value,
+                    StateRef::Unspecified => b"unspecified",
+                })?;
+                said.extend_from_slice(b"; ")?;
+            }
+            assert_eq!(rt; said.as_slice(), want.as_bytes(), "{list}");
+        }
+        Ok(())
+    }
+
+    #[test]
+    #[rattlefmt::skip]
+    fn the_first_part_at_fault_is_told(rt: HostRuntime) -> Result<(), Fail> {
+        let alloc = rt.alloc();
+        let rows = [
+            ("", Error::EmptyAttributes),
+            ("--1", Error::InvalidName(Vec::from_slice(alloc, b"-1")?)),
+            ("!a=b", Error::InvalidName(Vec::from_slice(alloc, b"a=b")?)),
+            ("!-a", Error::InvalidName(Vec::from_slice(alloc, b"-a")?)),
+            ("-x=\\", Error::InvalidName(Vec::from_slice(alloc, b"x=\\")?)),
+            ("b!=v", Error::InvalidName(Vec::from_slice(alloc, b"b!")?)),
+            ("a\tb", Error::InvalidName(Vec::from_slice(alloc, b"a\tb")?)),
+            ("a=b=c", Error::InvalidValueByte(b'=')),
+            ("a=x\\\\", Error::InvalidValueByte(b'\\')),
+            ("a=é", Error::InvalidValueByte(195)),
+            ("a=. -", Error::InvalidValueByte(b'.')),
+            ("b!=.", Error::InvalidValueByte(b'.')),
+            ("a=x\\", Error::TrailingEscape(Vec::from_slice(alloc, b"x\\")?)),
+            ("a=x\\ b=.", Error::TrailingEscape(Vec::from_slice(alloc, b"x\\")?)),
+            ("a b! c=.", Error::InvalidName(Vec::from_slice(alloc, b"b!")?)),
+        ];
+        for (list, want) in &rows {
+            let fault = attributes(alloc, list.as_bytes()).err();
+            assert!(rt; fault.is_some_and(|error| error == *want), "{list}");
+        }
+        Ok(())
+    }
+}

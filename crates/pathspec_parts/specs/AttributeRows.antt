@@ -1,0 +1,21 @@
+-- Rows of a path and what is assigned there, as the table of a look-up.
+use Rattle.std.specs.Prelude.{ℕ, List, true, fold, bytes_eq, if◌then◌else◌}
+use Rattle.pathspec_parts.specs.Attributes.{Assignment, Question, Reply}
+use Rattle.pathspec_parts.specs.Outcomes.{Listed, assigned, states_of, unspecified}
+
+-- a path, and what is assigned there
+pub record Row : Type 0 where
+  pub path : List ℕ
+  pub assignments : List Assignment
+
+-- a row counts where the path is its own
+abbrev pub after_row : List ℕ → List Listed → Row → List Listed
+after_row path places row = if bytes_eq row.path path then assigned places row.assignments else places
+
+-- the rows one after another
+abbrev pub after_rows : List ℕ → List Listed → List Row → List Listed
+after_rows path places rows = fold (after_row path) places rows
+
+-- rows have an answer to every question
+abbrev pub rows_reply : List Row → Question → Reply
+rows_reply rows q = record { found = true; states = states_of (after_rows q.path (unspecified q.names) rows) }

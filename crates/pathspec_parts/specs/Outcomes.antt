@@ -1,0 +1,50 @@
+-- Outcomes of look-ups: a list of names, each with its state.
+use Rattle.std.specs.Prelude.{ℕ, Bool, List, map, fold, bytes_eq, if◌then◌else◌}
+use Rattle.std.specs.List.{list_any}
+use Rattle.pathspec_parts.specs.declared.attributes.Case.{Case}
+use Rattle.pathspec_parts.specs.Attributes.{State, Assignment, Question, Reply}
+use Rattle.pathspec_parts.specs.Attributes.State.{Unspecified}
+
+-- what stands at one place: a name and its state
+abbrev pub Listed : Type 0
+Listed = Assignment
+
+-- the names, each at its place
+abbrev pub names_of : List Listed → List (List ℕ)
+names_of places = map (λ p. p.name) places
+
+-- the states, each at its place
+abbrev pub states_of : List Listed → List State
+states_of places = map (λ p. p.state) places
+
+-- the same names, of which nothing is said
+abbrev pub cleared : List Listed → List Listed
+cleared places = map (λ p. record { name = p.name; state = Unspecified }) places
+
+-- whether a place has this name
+abbrev pub has_name : List Listed → List ℕ → Bool
+has_name places name = list_any (λ p. bytes_eq p.name name) places
+
+-- a place once this name has this state
+abbrev pub set_at : List ℕ → State → Listed → Listed
+set_at name state p = if bytes_eq p.name name then record { name = p.name; state = state } else p
+
+-- each place with this name has this state, and the others are as before
+abbrev pub set_in : List Listed → List ℕ → State → List Listed
+set_in places name state = map (set_at name state) places
+
+-- these names, of which nothing is said
+abbrev pub unspecified : List (List ℕ) → List Listed
+unspecified names = map (λ n. record { name = n; state = Unspecified }) names
+
+-- each assignment set, one after another
+abbrev pub assigned : List Listed → List Assignment → List Listed
+assigned places assignments = fold (λ ps a. set_in ps a.name a.state) places assignments
+
+-- the question that a look-up is asked by what it is called with
+abbrev pub asked : List ℕ → Case → Bool → List Listed → Question
+asked path case is_dir places = record { path = path; case = case; is_dir = is_dir; names = names_of places }
+
+-- the reply that an answer and the states that it leaves are
+abbrev pub answered : Bool → List Listed → Reply
+answered found places = record { found = found; states = states_of places }

@@ -1,0 +1,90 @@
+//! Names of attributes.
+ghost use Rattle.std.specs.Prelude.{◌≡◌, Some, None, ◌||◌, ◌==◌, codes, IfOk, OnErr, IsTrue, if◌then◌else◌};
+ghost use Rattle.std.specs.List.{list_all};
+ghost use Rattle.std.specs.Option.{option_map};
+ghost use Rattle.std.specs.Char.{is_ascii_alphanumeric};
+ghost use Rattle.bstr.specs.BStr.{bstr_bytes};
+ghost use Rattle.pathspec_parts.specs.Bytes.{dash, first_is, is_one_of};
+ghost use Rattle.pathspec_parts.specs.Attributes.{is_attribute_name};
+
+use bstr::BStr;
+use std::alloc::{AllocError, Global};
+
+/// The name of an attribute: ASCII letters, digits, `-`, `.` and `_`, the first of them no `-` (gitattributes).
+///
+/// The empty name is one. Names are compared by their bytes.
+#[derive(Debug, Drop, PartialEq, Eq, PartialOrd, Ord, Hash)]
+pub struct Name {
+    bytes: Vec<u8>,
+    ghost is_name: { IsTrue (is_attribute_name bytes.items) },
+}
+
+impl Name {
+    ghost use Rattle.pathspec_parts.specs.AttributeNames.{name_bytes};
+
+    /// The name of these bytes, or None where they are none.
+    ///
+    /// It looks at each byte at most twice, and copies them.
+    ///
+    /// # Errors
+    /// Want of memory, which bytes that are no name never ask for.
+    pub fn from_bytes(alloc: Global, bytes: &[u8]) -> Result<Option<Name>, AllocError>
+        ensures name { IfOk result (λ name. option_map name_bytes name ≡ (if is_attribute_name bytes.now then Some bytes.now else None)) }
+        ensures refused { OnErr result (IsTrue (is_attribute_name bytes.now)) }
+    {
+        if !is_name(bytes) {
+            return Ok(None);
+        }
+        Ok(Some(Name {
+            bytes: Vec::from_slice(alloc, bytes)?,
+        }))
+    }
+
+    /// Its bytes.
+    pub fn as_bytes(&self) -> BStr<'_>
+        ensures bytes { bstr_bytes result ≡ name_bytes self.now }
+        ensures name { IsTrue (is_attribute_name (name_bytes self.now)) }
+    {
+        BStr::new(self.bytes.as_slice())
+    }
+
+    /// A name equal to this one.
+    ///
+    /// # Errors
+    /// Want of memory.
+    pub fn try_clone(&self) -> Result<Name, AllocError>
+        ensures { IfOk result (λ name. name_bytes name ≡ name_bytes self.now) }
+    {
+        Ok(Name {
+            bytes: self.bytes.clone()?,
+        })
+    }
+}
+
+/// Whether the bytes are the name of an attribute.
+fn is_name(bytes: &[u8]) -> bool
+    ensures { result ≡ is_attribute_name bytes.now }
+{
+    holds_name_bytes(bytes) && !begins_with_dash(bytes)
+}
+
+/// Whether a name may hold each of the bytes.
+fn holds_name_bytes(bytes: &[u8]) -> bool
+    ensures { result ≡ list_all (λ b. is_ascii_alphanumeric b || is_one_of (codes "-._") b) bytes.now }
+{
+    bytes.iter().all(|byte| is_name_byte(*byte))
+}
+
+/// Whether the first byte is `-`.
+fn begins_with_dash(bytes: &[u8]) -> bool
+    ensures { result ≡ first_is (λ b. b == dash) bytes.now }
+{
+    matches!(bytes, [b'-', ..])
+}
+
+/// Whether a name may hold the byte.
+fn is_name_byte(byte: u8) -> bool
+    ensures { result ≡ (is_ascii_alphanumeric byte || is_one_of (codes "-._") byte) }
+{
+    byte.is_ascii_alphanumeric() || b"-._".contains(&byte)
+}

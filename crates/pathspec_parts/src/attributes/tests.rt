@@ -1,0 +1,288 @@
+//! Names, states and outcomes by tables, and three look-ups.
+ghost use Rattle.std.specs.Prelude.{◌≡◌, true, map, OnOk};
+ghost use Rattle.pathspec_parts.specs.AttributeStates.{attribute_of};
+ghost use Rattle.pathspec_parts.specs.Outcomes.{names_of, states_of, unspecified, assigned};
+ghost use Rattle.pathspec_parts.specs.AttributeRows.{after_rows, rows_reply};
+
+use super::*;
+use std::alloc::{AllocError, Global};
+use std::test::Fail;
+
+/// Answers, and says nothing of any name.
+#[derive(Drop)]
+struct Bare;
+
+impl LookUp for Bare {
+    type Fault = AllocError;
+
+    ghost table = { λ _ q. record { found = true; states = states_of (unspecified q.names) } };
+
+    ghost failures = { λ _. 0 };
+
+    fn look_up(
+        &mut self,
+        _path: BStr<'_>,
+        _case: Case,
+        _is_dir: bool,
+        _out: &mut Outcome,
+    ) -> Result<bool, AllocError> {
+        Ok(true)
+    }
+}
+
+/// A question that failed.
+#[derive(Debug, Drop)]
+struct Failed;
+
+/// Answers so many questions, and then fails.
+#[derive(Drop)]
+struct FailsAt {
+    left: u64,
+    failed: u64,
+}
+
+impl LookUp for FailsAt {
+    type Fault = Failed;
+
+    ghost table = { λ _ q. record { found = true; states = states_of (unspecified q.names) } };
+
+    ghost failures = { λ it. it.failed };
+
+    fn look_up(
+        &mut self,
+        _path: BStr<'_>,
+        _case: Case,
+        _is_dir: bool,
+        _out: &mut Outcome,
+    ) -> Result<bool, Failed> {
+        if self.left == 0 {
+            self.failed = self.failed.saturating_add(1);
+            return Err(Failed);
+        }
+        self.left -= 1;
+        Ok(true)
+    }
+}
+
+/// Rows of a path and its assignments, which count in their order.
+#[derive(Drop)]
+struct Rows {
+    rows: Vec<(Vec<u8>, Vec<Assignment>)>,
+    failed: u64,
+}
+
+impl LookUp for Rows {
+    type Fault = AllocError;
+
+    ghost table = { λ it. rows_reply (map (λ row. record { path = row.0.items; assignments = map attribute_of row.1.items }) it.rows.items) };
+
+    ghost failures = { λ it. it.failed };
+
+    fn look_up(
+        &mut self,
+        path: BStr<'_>,
+        _case: Case,
+        _is_dir: bool,
+        out: &mut Outcome,
+    ) -> Result<bool, AllocError> {
+        match apply_rows(&self.rows, path.as_bytes(), out) {
+            Ok(()) => Ok(true),
+            Err(refused) => {
+                self.failed = self.failed.saturating_add(1);
+                Err(refused)
+            }
+        }
+    }
+}
+
+/// Applies each row of this path.
+fn apply_rows(
+    rows: &[(Vec<u8>, Vec<Assignment>)],
+    path: &[u8],
+    out: &mut Outcome,
+) -> Result<(), AllocError>
+    ensures ok { OnOk result (out.new ≡ after_rows path.now out.old (map (λ row. record { path = row.0.items; assignments = map attribute_of row.1.items }) rows.now)) }
+    ensures names { names_of out.new ≡ names_of out.old }
+{
+    for row in rows {
+        if row.0.as_slice() == path {
+            apply(&row.1, out)?;
+        }
+    }
+    Ok(())
+}
+
+/// Sets each assignment.
+fn apply(assignments: &[Assignment], out: &mut Outcome) -> Result<(), AllocError>
+    ensures ok { OnOk result (out.new ≡ assigned out.old (map attribute_of assignments.now)) }
+    ensures names { names_of out.new ≡ names_of out.old }
+{
+    for assignment in assignments {
+        out.set(
+            assignment.name.as_bytes().as_bytes(),
+            assignment.state.as_ref(),
+        )?;
+    }
+    Ok(())
+}
+
+/// Asks a look-up through its bound.
+fn ask<L: LookUp>(look_up: &mut L, path: &str, out: &mut Outcome) -> Result<bool, L::Fault> {
+    out.reset();
+    look_up.look_up(BStr::new(path.as_bytes()), Case::Sensitive, false, out)
+}
+
+fn name(alloc: Global, text: &str) -> Result<Name, Fail> {
+    Ok(Name::from_bytes(alloc, text.as_bytes())?.ok_or("no name")?)
+}
+
+fn assignment(alloc: Global, text: &str, state: StateRef<'_>) -> Result<Assignment, Fail> {
+    Ok(Assignment {
+        name: name(alloc, text)?,
+        state: state.to_state(alloc)?,
+    })
+}
+
+/// An outcome for `a`, `b` and `a`.
+fn outcome(alloc: Global) -> Result<Outcome, Fail> {
+    let mut listed = Vec::new(alloc);
+    for text in ["a", "b", "a"] {
+        listed.push(assignment(alloc, text, StateRef::Set)?)?;
+    }
+    Ok(Outcome::for_assignments(alloc, &listed)?)
+}
+
+#[test]
+fn names_are_letters_digits_and_three_marks(rt: HostRuntime) -> Result<(), Fail> {
+    let rows = [
+        ("a", true),
+        ("", true),
+        ("a-b", true),
+        (".x", true),
+        ("_1", true),
+        ("-a", false),
+        ("a b", false),
+        ("a=b", false),
+        ("é", false),
+        ("a!", false),
+    ];
+    for (text, want) in rows {
+        let found = Name::from_bytes(rt.alloc(), text.as_bytes())?;
+        assert_eq!(rt; found.is_some(), want, "{text}");
+        if let Some(found) = found {
+            assert_eq!(rt; found.as_bytes().as_bytes(), text.as_bytes());
+            assert_eq!(rt; found, found.try_clone()?);
+        }
+    }
+    Ok(())
+}
+
+#[test]
+fn states_and_assignments_are_ordered(rt: HostRuntime) -> Result<(), Fail> {
+    let rising = [
+        ("a", StateRef::Set),
+        ("a", StateRef::Unset),
+        ("a", StateRef::Value(b"")),
+        ("a", StateRef::Value(b"x")),
+        ("a", StateRef::Unspecified),
+        ("b", StateRef::Set),
+    ];
+    for pair in rising.windows(2) {
+        if let [low, high] = pair {
+            let low = assignment(rt.alloc(), low.0, low.1)?;
+            let high = assignment(rt.alloc(), high.0, high.1)?;
+            assert!(rt; low < high);
+            assert_eq!(rt; low, low.try_clone()?);
+            assert_eq!(rt; high.state, high.state.try_clone()?);
+        }
+    }
+    Ok(())
+}
+
+/// Whether the outcome has these states.
+fn holds(found: &Outcome, want: [StateRef<'_>; 3]) -> bool {
+    if found.len() != want.len() {
+        return false;
+    }
+    for (place, state) in want.iter().enumerate() {
+        if found.state(place) != *state {
+            return false;
+        }
+    }
+    true
+}
+
+#[test]
+fn a_name_is_set_at_each_of_its_places(rt: HostRuntime) -> Result<(), Fail> {
+    let (none, x) = (StateRef::Unspecified, StateRef::Value(b"x"));
+    let mut found = outcome(rt.alloc())?;
+    assert!(rt; holds(&found, [none, none, none]));
+    assert!(rt; !found.is_empty());
+    for (text, state, want) in [
+        ("a", x, [x, none, x]),
+        ("c", StateRef::Set, [x, none, x]),
+        ("b", StateRef::Unset, [x, StateRef::Unset, x]),
+        (
+            "a",
+            StateRef::Set,
+            [StateRef::Set, StateRef::Unset, StateRef::Set],
+        ),
+    ] {
+        found.set(text.as_bytes(), state)?;
+        assert!(rt; holds(&found, want), "{text}");
+    }
+    found.reset();
+    assert!(rt; holds(&found, [none, none, none]));
+    for (place, text) in ["a", "b", "a"].into_iter().enumerate() {
+        if place < found.len() {
+            assert_eq!(rt; found.name(place).as_bytes(), text.as_bytes());
+        }
+    }
+    Ok(())
+}
+
+#[test]
+fn look_ups_are_asked_through_their_trait(rt: HostRuntime) -> Result<(), Fail> {
+    let none = StateRef::Unspecified;
+    let mut found = outcome(rt.alloc())?;
+    found.set(b"a", StateRef::Set)?;
+    assert!(rt; ask(&mut Bare, "x", &mut found)?);
+    assert!(rt; holds(&found, [none, none, none]));
+    let mut failing = FailsAt { left: 1, failed: 0 };
+    assert!(rt; ask(&mut failing, "x", &mut found).is_ok());
+    assert!(rt; ask(&mut failing, "x", &mut found).is_err());
+    assert_eq!(rt; failing.failed, 1);
+    Ok(())
+}
+
+#[test]
+fn rows_set_what_their_path_assigns(rt: HostRuntime) -> Result<(), Fail> {
+    let alloc = rt.alloc();
+    let (none, unset) = (StateRef::Unspecified, StateRef::Unset);
+    let mut found = outcome(alloc)?;
+    let mut rows = Rows {
+        rows: Vec::new(alloc),
+        failed: 0,
+    };
+    for (path, text, state) in [
+        ("x", "a", StateRef::Set),
+        ("y", "b", unset),
+        ("x", "a", unset),
+        ("x", "c", StateRef::Set),
+    ] {
+        let mut assignments = Vec::new(alloc);
+        assignments.push(assignment(alloc, text, state)?)?;
+        rows.rows
+            .push((Vec::from_slice(alloc, path.as_bytes())?, assignments))?;
+    }
+    for (path, want) in [
+        ("x", [unset, none, unset]),
+        ("y", [none, unset, none]),
+        ("z", [none, none, none]),
+    ] {
+        assert!(rt; ask(&mut rows, path, &mut found)?, "{path}");
+        assert!(rt; holds(&found, want), "{path}");
+    }
+    assert_eq!(rt; rows.failed, 0);
+    Ok(())
+}
