@@ -1,13 +1,11 @@
 -- What climbs, in the words of heights: the kept count is the least height, and a name survives where no longer front is lower.
-use Rattle.std.proofs.Common.{◌≡◌, ℕ, zero, suc, ◌+◌, ◌-◌, ◌≤◌, ◌==◌, min, true, false, not, ◌||◌, cond, take, refl, ◌∙◌, ap, List, [], ◌∷◌, ◌++◌, length, map, arith, length-append, inl, inr}
-use Rattle.std.proofs.lemmas.Bool.{cases_Bool, cases_lt, ne_eqb, eq-eqb, and_parts, or_parts, not-true, cond-true, cond-false}
+use Rattle.std.proofs.Common.{◌≡◌, ℕ, ◌+◌, ◌-◌, ◌≤◌, min, true, false, not, refl, ◌∙◌, ap, List, [], ◌∷◌, ◌++◌, length, map, arith, length-append, inl, inr}
+use Rattle.std.proofs.lemmas.Bool.{cases_Bool, and_parts, not-true}
 use Rattle.std.proofs.lemmas.List.Elements.{All-from_recursion, recursion_from_All, filter-append}
 use Rattle.std.specs.Prelude.{fold, ◌↔◌, filter, All}
 use Rattle.std.specs.List.{AllByRecursion, list_all}
-use Rattle.pathspec_parts.specs.Bytes.{is_empty}
-use Rattle.pathspec_parts.specs.Paths.{is_up, is_name, is_component, components, is_absolute, pieces, is_clean_prefix}
-use Rattle.gix_pathspec.specs.Specs.{Spec, top, has, wants_directory}
-use Rattle.gix_pathspec.specs.NormalForm.{is_joined, directory, kept, fronts, ups, names, greatest, climb, survivors}
+use Rattle.pathspec_parts.specs.Paths.{is_up, is_name, is_component, components, pieces, is_clean_prefix}
+use Rattle.gix_pathspec.specs.NormalForm.{fronts, ups, names, greatest, climb}
 use Rattle.gix_pathspec.specs.Heights.{height, KeptIsLeastHeight, SurvivorsByHeight, ClimbByHeight}
 use Rattle.gix_pathspec.proofs.NormalFormProofs.{climb-name, climb-up}
 
@@ -109,32 +107,6 @@ no_up-parts c cs n = elim (cases_Bool (is_up c)) [
   | inr m ↦ (m, rw m at n)
 ]
 
--- names in front take up what is climbed behind them
-pub climb-append_names : (prefix own : List (List ℕ)) → ups prefix ≡ 0 → climb (prefix ++ own) ≡ climb own - length prefix
-climb-append_names [] own n = omega arith
-climb-append_names (c ∷ prefix) own n =
-    let q = no_up-parts c prefix n in
-    let ih = climb-append_names prefix own q.1 in
-    climb-name c (prefix ++ own) q.0 ∙ omega (arith, ih)
-
--- The survivors of a prefix of names and of what follows it are what is kept of the prefix, and then the survivors of what follows it.
-pub survivors-append_names : (prefix own : List (List ℕ)) → ups prefix ≡ 0 → survivors (prefix ++ own) ≡ take (length prefix - climb own) prefix ++ survivors own
-survivors-append_names [] own n = let z : 0 - climb own ≡ 0 = omega arith in rw z refl
-survivors-append_names (c ∷ prefix) own n =
-    let q = no_up-parts c prefix n in
-    let ih = survivors-append_names prefix own q.1 in
-    elim (cases_lt (length prefix) (climb own)) [
-      | inl l ↦
-          let test : (climb own - length prefix == 0) ≡ false = ne_eqb (climb own - length prefix) 0 (λ e. omega arith) in
-          let none : length prefix - climb own ≡ 0 = omega arith in
-          let none_with : suc (length prefix) - climb own ≡ 0 = omega arith in
-          rw (q.0, climb-append_names prefix own q.1, test, none_with, ih, none) refl
-      | inr g ↦
-          let test : (climb own - length prefix == 0) ≡ true = eq-eqb (climb own - length prefix) 0 (omega arith) in
-          let more : suc (length prefix) - climb own ≡ suc (length prefix - climb own) = omega arith in
-          rw (q.0, climb-append_names prefix own q.1, test, more, ih) refl
-    ]
-
 -- names have no `..` among their components
 ups-filter_names : (ps : List (List ℕ)) → list_all is_name ps ≡ true → ups (filter is_component ps) ≡ 0
 ups-filter_names [] a = refl
@@ -147,30 +119,3 @@ ups-filter_names (c ∷ cs) a =
 pub ups-clean : (prefix : List ℕ) → is_clean_prefix prefix ≡ true → ups (components prefix) ≡ 0
 ups-clean [] h = refl
 ups-clean (b ∷ bs) h = ups-filter_names (pieces (b ∷ bs)) h
-
--- the first of a list's front are the first of the list
-take-front : (j k : ℕ) (xs ys : List (List ℕ)) → j ≤ k → k ≤ length xs → take j (take k xs ++ ys) ≡ take j xs
-take-front zero k xs ys g h = refl
-take-front (suc j) zero xs ys g h = absurd (omega (arith, g))
-take-front (suc j) (suc k) [] ys g h = absurd (omega (arith, h))
-take-front (suc j) (suc k) (x ∷ xs) ys g h = ap (λ t. x ∷ t) (take-front j k xs ys (omega (arith, g)) (omega (arith, h)))
-
--- of a joined prefix, what the path never climbs above
-kept-joined : (prefix : List ℕ) (s : Spec) (left : List (List ℕ)) → is_joined prefix s ≡ true → kept prefix s left ≡ length (components prefix) - climb (components s.path)
-kept-joined prefix s left j =
-    let p = or_parts (is_empty prefix || is_absolute s.path) (has top s.signature) (not-true (is_empty prefix || is_absolute s.path || has top s.signature) j) in
-    let q = or_parts (is_empty prefix) (is_absolute s.path) p.0 in
-    cond-false (is_absolute s.path) (length left) (cond (is_joined prefix s) (length (components prefix) - climb (components s.path)) 0) q.1 ∙ cond-true (is_joined prefix s) (length (components prefix) - climb (components s.path)) 0 j
-
--- The prefix directory of a joined spec is made of the first names of a clean prefix.
-pub directory-joined : (prefix : List ℕ) (s : Spec) → is_clean_prefix prefix ≡ true → is_joined prefix s ≡ true → (n : ℕ) × (directory prefix s (survivors (components prefix ++ components s.path)) ≡ take n (components prefix))
-directory-joined prefix s c j =
-    let own = components s.path in
-    let first = components prefix in
-    let left = survivors (first ++ own) in
-    let rest = length left - cond (wants_directory s) 0 1 in
-    let count = length first - climb own in (
-      min count rest,
-      ap (λ k. take (min k rest) left) (kept-joined prefix s left j)
-          ∙ (ap (take (min count rest)) (survivors-append_names first own (ups-clean prefix c)) ∙ take-front (min count rest) count first (survivors own) (omega arith) (omega arith)),
-    )

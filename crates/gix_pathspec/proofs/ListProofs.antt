@@ -1,6 +1,6 @@
 -- The value that bytes write, byte after byte, and the assignments of a list, part after part.
 use Rattle.std.proofs.Common.{◌≡◌, ℕ, ◌+◌, ◌<◌, Bool, true, false, not, ◌&&◌, cond, inl, inr, refl, sym, ◌∙◌, ap, List, [], ◌∷◌, ◌++◌, drop, length, map, filter, ◌==◌, get_or, Result, Ok, Err, append_assoc, arith}
-use Rattle.std.proofs.lemmas.Bool.{cases_Bool, cond-true, and_parts, ne_eqb, false≢true}
+use Rattle.std.proofs.lemmas.Bool.{cases_Bool, and_parts, ne_eqb, false≢true}
 use Rattle.std.proofs.Math.Seq.{drop-cons, drop-length}
 use Rattle.std.proofs.Math.Numerals.{one-add, add-one}
 use Rattle.std.proofs.lemmas.List.{append-nil}
@@ -23,10 +23,6 @@ module _ {A E : Type 0} where
 
   pub front-all : (made : List A) → in_front {E = E} made (Ok []) ≡ Ok made
   front-all made = ap Ok (append-nil made)
-
--- one more value, where there was memory for it
-pub pushed : {A : Type 0} (ok : Bool) (items made : List A) (item x : A) → items ≡ cond ok (made ++ item ∷ []) made → true ≡ ok → item ≡ x → items ≡ made ++ x ∷ []
-pushed ok items made item x are there is = are ∙ cond-true ok (made ++ item ∷ []) made (sym there) ∙ ap (λ y. made ++ y ∷ []) is
 
 -- ---- a value
 

@@ -1,6 +1,7 @@
 -- What a text says, by the tests that its reader makes.
 use Rattle.std.proofs.Common.{◌≡◌, ◌≢◌, ℕ, true, false, refl, sym, ◌∙◌, ap, List, [], ◌∷◌, length, arith, ◌==◌, Some, None, Option, Ok, Err, Result, IfOk, IfErr, IfSome, MatchResult}
 use Rattle.std.proofs.lemmas.Bool.{eqb-true}
+use Rattle.std.proofs.lemmas.Option.{IfSome_then}
 use Rattle.std.specs.Prelude.{bytes_eq}
 use Rattle.pathspec_parts.specs.Bytes.{colon, first_is}
 use Rattle.gix_pathspec.specs.declared.defaults.Defaults.{Defaults}
@@ -17,15 +18,15 @@ use Rattle.gix_pathspec.proofs.ReadingProofs.{reading_is_exact, reading_at, plai
 
 -- ---- errors
 
-memory_or : (o : Option Fault) (P : Fault → Type 0) → IfSome o (λ f. ⊥) → IfSome o P
-memory_or None P h = tt
-memory_or (Some f) P h = absurd h
+-- want of memory, whatever is said of faults
+pub memory-or_any : (e : Error) (P : Fault → Type 0) → IsMemory e → IsMemoryOr e P
+memory-or_any e P m = IfSome_then (fault_of e) m (λ fault none. absurd none)
 
 -- a reader that gives the spec of a reading, or wants memory
 pub exact-from : (d : Defaults) (text : List ℕ) (s : Spec) (r : Result Pattern Error) → reading d text ≡ Ok s → IfOk r (λ p. pattern_spec p ≡ s) → IfErr r IsMemory
     → MatchResult r (λ p. reading d text ≡ Ok (pattern_spec p)) (λ e. IsMemoryOr e (λ fault. reading d text ≡ Err fault))
 exact-from d text s (Ok p) h ok err = h ∙ ap Ok (sym ok)
-exact-from d text s (Err e) h ok err = memory_or (fault_of e) (λ fault. reading d text ≡ Err fault) err
+exact-from d text s (Err e) h ok err = memory-or_any e (λ fault. reading d text ≡ Err fault) err
 
 -- the relation, from the function
 pub reads-from : (d : Defaults) (text : List ℕ) (r : Result Pattern Error) → MatchResult r (λ p. reading d text ≡ Ok (pattern_spec p)) (λ e. IsMemoryOr e (λ fault. reading d text ≡ Err fault)) → IfOk r (λ p. Reads d text (pattern_spec p))

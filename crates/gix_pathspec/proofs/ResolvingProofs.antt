@@ -1,13 +1,11 @@
 -- The normal form by the components of what is joined in front and by a path's own.
-use Rattle.std.proofs.Common.{◌≡◌, ℕ, ◌-◌, true, false, ◌==◌, cond, refl, sym, ◌∙◌, ap, List, [], ◌∷◌, ◌++◌, length, arith, inl, inr, Option, Some, None, Ok, Err, IfSome}
+use Rattle.std.proofs.Common.{◌≡◌, ℕ, ◌-◌, true, false, ◌==◌, cond, refl, sym, ◌∙◌, ap, List, [], ◌∷◌, ◌++◌, length, arith, inl, inr, Some, None, Ok, Err}
 use Rattle.std.proofs.lemmas.Bool.{cases_Bool, eq-eqb, cond-true, cond-false}
 use Rattle.std.proofs.Math.Bool.{or-true}
 use Rattle.pathspec_parts.specs.Bytes.{is_empty}
 use Rattle.pathspec_parts.specs.Paths.{components, is_absolute, is_clean_prefix, after_root}
-use Rattle.gix_pathspec.specs.declared.error.Error.{Error}
 use Rattle.gix_pathspec.specs.Faults.{Fault}
 use Rattle.gix_pathspec.specs.Faults.Fault.{OutsideRoot, LeavesRepository}
-use Rattle.gix_pathspec.specs.Errors.{fault_of, IsMemory, IsMemoryOr}
 use Rattle.gix_pathspec.specs.Specs.{Spec}
 use Rattle.gix_pathspec.specs.NormalForm.{climb, survivors, ups, walked, kept, is_joined, resolved, normal_form}
 use Rattle.gix_pathspec.specs.Resolving.{kept_on}
@@ -79,11 +77,3 @@ module _ (prefix root : List ℕ) (s : Spec) where
         | inr n ↦ rw (n, r) (let none = rw (first-none n) at l in omega (arith, none))
       ]
     ]
-
-memory_or : (o : Option Fault) (P : Fault → Type 0) → IfSome o (λ fault. ⊥) → IfSome o P
-memory_or None P h = tt
-memory_or (Some fault) P h = absurd h
-
--- want of memory, whatever is said of faults
-pub memory-or_any : (e : Error) (P : Fault → Type 0) → IsMemory e → IsMemoryOr e P
-memory-or_any e P = memory_or (fault_of e) P

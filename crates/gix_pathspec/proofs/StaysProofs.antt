@@ -199,10 +199,6 @@ settled : (prefix root : List ℕ) (s n : Spec) → normal_form prefix root s �
 unfolding normal_form
 settled prefix root s n h = resolve-settled prefix s n (walked prefix root s) (walked-parts prefix root s) h
 
--- A normal form's path is relative.
-pub normal_form_is_relative : (prefix root : List ℕ) (s n : Spec) → normal_form prefix root s ≡ Ok n → is_absolute n.path ≡ false
-normal_form_is_relative prefix root s n h = settled-relative n (settled prefix root s n h)
-
 -- A second normalising without a prefix, with whatever root, leaves all but the prefix length, which becomes 0.
 pub normal_form_again : (prefix root other : List ℕ) (s n : Spec) → normal_form prefix root s ≡ Ok n → normal_form [] other n ≡ Ok (record n { prefix_length = 0 })
 normal_form_again prefix root other s n h = again other n (settled prefix root s n h)

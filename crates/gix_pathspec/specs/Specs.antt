@@ -1,9 +1,9 @@
 -- A spec: what a pathspec says, read and perhaps normalised.
-use Rattle.std.specs.Prelude.{ℕ, Bool, true, false, not, ◌&&◌, ◌||◌, List, ◌==◌, codes, bit_and}
+use Rattle.std.specs.Prelude.{ℕ, Bool, true, false, not, ◌&&◌, ◌||◌, List, ◌==◌, bit_and}
 use Rattle.std.specs.List.{list_any}
 use Rattle.gix_pathspec.specs.declared.SearchMode.{SearchMode}
 use Rattle.gix_pathspec.specs.declared.SearchMode.TheVariants.{Literal}
-use Rattle.pathspec_parts.specs.Bytes.{is_empty, is_one_of}
+use Rattle.pathspec_parts.specs.Bytes.{is_empty, is_wildcard}
 use Rattle.pathspec_parts.specs.Attributes.{Assignment}
 
 -- a spec by its parts
@@ -55,10 +55,6 @@ wants_directory s = has must_be_dir s.signature
 -- A spec always matches where it is nil or its path is empty.
 abbrev pub always_matches : Spec → Bool
 always_matches s = s.nil || is_empty s.path
-
--- `*`, `?`, `[` and `\`
-abbrev pub is_wildcard : ℕ → Bool
-is_wildcard b = is_one_of (codes "*?[\\") b
 
 -- A spec has a wildcard where it is not nil and its path holds one.
 abbrev pub has_wildcard : Spec → Bool

@@ -218,7 +218,7 @@ mod tests {
         ];
         for (text, want) in rows {
             let fault = parse(rt.alloc(), text.as_bytes(), Defaults::default()).err();
-            assert!(rt; fault.is_some_and(|error| error == want), "{text}");
+            assert_eq!(rt; fault, Some(want), "{text}");
         }
     }
 
@@ -283,7 +283,7 @@ mod tests {
         ];
         for (text, want) in rows {
             let fault = parse(rt.alloc(), text.as_bytes(), Defaults::default()).err();
-            assert!(rt; fault.is_some_and(|error| error == want), "{text}");
+            assert_eq!(rt; fault, Some(want), "{text}");
         }
     }
 

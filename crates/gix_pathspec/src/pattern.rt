@@ -1,11 +1,10 @@
 //! A pathspec as it is read from a text, and its normal form.
 ghost use Rattle.std.specs.Prelude.{◌≡◌, map, Ok, Err, IfOk, IfErr, MatchResult};
-ghost use Rattle.std.specs.List.{list_any};
 ghost use Rattle.bstr.specs.BStr.{bstr_bytes};
 ghost use Rattle.pathspec_parts.specs.AttributeStates.{attribute_of};
 ghost use Rattle.gix_pathspec.specs.Errors.{IsMemory, IsMemoryOr};
 ghost use Rattle.gix_pathspec.specs.Signatures.{signature_bits};
-ghost use Rattle.gix_pathspec.specs.Specs.{is_exclude, always_matches, has_wildcard, is_wildcard, is_glob};
+ghost use Rattle.gix_pathspec.specs.Specs.{is_exclude, always_matches, has_wildcard, is_glob};
 ghost use Rattle.gix_pathspec.specs.Reading.{empty_spec, nil_spec, literal_spec, Reads, IsRefused, reading};
 ghost use Rattle.gix_pathspec.specs.Matching.{prefix_directory};
 
@@ -16,6 +15,7 @@ use crate::{Defaults, Error, MagicSignature, SearchMode, parse};
 use bitflags::Flags;
 use bstr::BStr;
 use pathspec_parts::attributes::Assignment;
+use pathspec_parts::glob::first_wildcard;
 use std::alloc::{AllocError, Global};
 
 /// A pathspec: a path, and how it is to be compared with paths.
@@ -156,7 +156,7 @@ impl Pattern {
     pub(crate) fn has_wildcard(&self) -> bool
         ensures { result ≡ has_wildcard (pattern_spec self.now) }
     {
-        !self.nil && holds_wildcard(self.path.as_slice())
+        !self.nil && first_wildcard(self.path.as_slice()).is_some()
     }
 
     /// Whether the path is compared as a glob: the spec has a wildcard, and its mode isn't [`SearchMode::Literal`].
@@ -177,20 +177,6 @@ fn cloned(alloc: Global, assignments: &[Assignment]) -> Result<Vec<Assignment>, 
         copy.push(assignment.try_clone()?)?;
     }
     Ok(copy)
-}
-
-/// Whether some byte of the path is a wildcard.
-fn holds_wildcard(path: &[u8]) -> bool
-    ensures { result ≡ list_any is_wildcard path.now }
-{
-    path.iter().any(|byte| is_wildcard(*byte))
-}
-
-/// Whether the byte is `*`, `?`, `[` or `\`.
-fn is_wildcard(byte: u8) -> bool
-    ensures { result ≡ is_wildcard byte }
-{
-    matches!(byte, b'*' | b'?' | b'[' | b'\\')
 }
 
 #[cfg(test)]

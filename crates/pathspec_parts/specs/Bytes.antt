@@ -1,5 +1,5 @@
 -- The bytes that specs are written with, and the tests on texts that the other modules share.
-use Rattle.std.specs.Prelude.{ℕ, ◌<◌, Bool, List, [], ◌∷◌, All, nat_eq, if◌then◌else◌, true, false}
+use Rattle.std.specs.Prelude.{ℕ, ◌<◌, Bool, List, [], ◌∷◌, All, codes, nat_eq, if◌then◌else◌, true, false}
 use Rattle.std.specs.List.{starts_with, list_any}
 use Rattle.std.specs.Str.{str_to_ascii_lowercase}
 
@@ -71,3 +71,7 @@ begins_with text front = starts_with nat_eq text front
 -- the text, or its ASCII lower form where case does not count
 abbrev pub folded : Bool → List ℕ → List ℕ
 folded ignore_case text = if ignore_case then str_to_ascii_lowercase text else text
+
+-- `*`, `?`, `[` and `\`
+abbrev pub is_wildcard : ℕ → Bool
+is_wildcard b = is_one_of (codes "*?[\\") b

@@ -8,4 +8,8 @@ pub mod Outcomes
 pub mod AttributeRows
 pub mod Tokens
 pub mod GlobRelation
+pub mod GlobForms
+pub mod GlobSteps
+pub mod GlobPlaces
+pub mod Globs
 pub mod Stacks

@@ -12,7 +12,7 @@ use super::pieces::is_escape;
 use crate::{Error, error};
 use pathspec_parts::attributes::{Assignment, Name, State};
 use pathspec_parts::split;
-use std::alloc::{AllocError, Global};
+use std::alloc::Global;
 
 /// Reads a list of attributes, as `attr:` takes it (gitglossary, "pathspec"): parts between spaces, of which empty ones
 /// don't count. `name` sets an attribute, `-name` unsets it and `!name` leaves it unspecified. `name=value`, cut at its
@@ -36,9 +36,7 @@ pub fn attributes(alloc: Global, list: &[u8]) -> Result<Vec<Assignment>, Error>
     while !rest.is_empty() {
         let (part, behind) = split::at_first(rest, b' ');
         if !part.is_empty() {
-            assignments
-                .push(assignment(alloc, part)?)
-                .map_err(AllocError::from)?;
+            assignments.push(assignment(alloc, part)?)?;
         }
         rest = behind;
     }
@@ -117,7 +115,7 @@ fn value(alloc: Global, written: &[u8]) -> Result<Vec<u8>, Error>
     for byte in written {
         escaped = is_escape(*byte, escaped);
         if !escaped {
-            value.push(value_byte(*byte)?).map_err(AllocError::from)?;
+            value.push(value_byte(*byte)?)?;
         }
     }
     if escaped {
@@ -208,9 +206,9 @@ mod tests {
             ("a=x\\ b=.", Error::TrailingEscape(Vec::from_slice(alloc, b"x\\")?)),
             ("a b! c=.", Error::InvalidName(Vec::from_slice(alloc, b"b!")?)),
         ];
-        for (list, want) in &rows {
+        for (list, want) in rows {
             let fault = attributes(alloc, list.as_bytes()).err();
-            assert!(rt; fault.is_some_and(|error| error == *want), "{list}");
+            assert_eq!(rt; fault, Some(want), "{list}");
         }
         Ok(())
     }

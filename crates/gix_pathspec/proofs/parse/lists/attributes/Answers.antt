@@ -1,11 +1,11 @@
 -- Each part is skipped, taken or refused.
-use Rattle.std.proofs.Common.{◌≡◌, ◌++◌, ◌∷◌, [], refl, sym, ◌∙◌}
+use Rattle.std.proofs.Common.{◌≡◌, ◌++◌, ◌∷◌, [], sym, ◌∙◌}
 use Rattle.std.proofs.lemmas.List.{map-append}
 use Rattle.std.proofs.lemmas.Option.{IfSome_then}
 use Rattle.std.proofs.lemmas.Result.{err_from_is_err_and}
 use Rattle.pathspec_parts.specs.AttributeStates.{attribute_of}
 use Rattle.gix_pathspec.specs.Errors.{fault_of}
-use Rattle.gix_pathspec.proofs.ListProofs.{pushed, list-empty, list-filled, list-skips, list-takes, list-refuses, list-all}
+use Rattle.gix_pathspec.proofs.ListProofs.{list-empty, list-filled, list-skips, list-takes, list-refuses, list-all}
 use Rattle.gix_pathspec.proofs.parse.lists.attributes.Goals as goal
 
 pub returns-then-is_empty : goal.returns-then-is_empty
@@ -18,9 +18,9 @@ returns-in_err-assignment c =
     let refused = list-refuses c.args.list.now c.loop-rest.rest.now _ _ _ c.loop-rest.invariant c.at_first.ensures.before c.at_first.ensures.behind in
     rw (p.1, p.2) (IfSome_then (fault_of c.in_err-assignment.field-0.0) c.in_err-assignment.ensures (λ fault said. filled ∙ refused fault (sym c.is_empty-in-loop-rest-2.ensures ∙ c.if-not-is_empty.true) said))
 
-pub loop-rest-preserved-in_ok-map_err : goal.loop-rest-preserved-in_ok-map_err
-loop-rest-preserved-in_ok-map_err c =
-    let items : c.push.new.self.items ≡ c.loop-rest.assignments.items ++ c.in_ok-assignment.field-0 ∷ [] = pushed _ _ _ _ _ c.push.ensures.items c.in_ok-map_err.ensures.variant refl in
+pub loop-rest-preserved-in_ok-push : goal.loop-rest-preserved-in_ok-push
+loop-rest-preserved-in_ok-push c =
+    let items : c.push.new.self.items ≡ c.loop-rest.assignments.items ++ c.in_ok-assignment.field-0 ∷ [] = c.in_ok-push.ensures.items in
     let taken = list-takes c.args.list.now c.loop-rest.rest.now _ _ _ c.loop-rest.invariant c.at_first.ensures.before c.at_first.ensures.behind (attribute_of c.in_ok-assignment.field-0) (sym c.is_empty-in-loop-rest-2.ensures ∙ c.if-not-is_empty.true) c.in_ok-assignment.ensures in
     rw (items, map-append) taken
 

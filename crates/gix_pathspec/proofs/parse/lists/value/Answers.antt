@@ -1,8 +1,8 @@
 -- Each byte is skipped, taken or refused.
-use Rattle.std.proofs.Common.{◌≡◌, ◌++◌, ◌∷◌, [], get_or, sym, ◌∙◌, arith}
+use Rattle.std.proofs.Common.{◌≡◌, ◌++◌, ◌∷◌, [], get_or, sym, ◌∙◌, ap, arith}
 use Rattle.std.proofs.lemmas.Result.{err_from_is_err_and}
-use Rattle.gix_pathspec.proofs.ListProofs.{pushed, value-skips, value-takes, value-refuses, value-trailing, value-all}
-use Rattle.gix_pathspec.proofs.parse.lists.value.Goals.{then-not-escaped+in_ok-value_byte+in_ok-map_err, else-not-escaped}
+use Rattle.gix_pathspec.proofs.ListProofs.{value-skips, value-takes, value-refuses, value-trailing, value-all}
+use Rattle.gix_pathspec.proofs.parse.lists.value.Goals.{then-not-escaped+in_ok-value_byte+in_ok-push, else-not-escaped}
 use Rattle.gix_pathspec.proofs.parse.lists.value.Goals as goal
 
 pub returns-in_err-value_byte : goal.returns-in_err-value_byte
@@ -12,9 +12,9 @@ returns-in_err-value_byte c =
 
 pub loop-byte-preserved : goal.loop-byte-preserved
 loop-byte-preserved c = elim c.if-not-escaped.branch [
-  | then-not-escaped+in_ok-value_byte+in_ok-map_err w ↦
+  | then-not-escaped+in_ok-value_byte+in_ok-push w ↦
       let taken = value-takes c.args.written.now c.loop-byte.value.items c.loop-byte.byte-index c.loop-byte.escaped c.loop-byte-test.true c.loop-byte.invariant (sym c.is_escape-escaped.ensures ∙ w.if-not-escaped.true) w.in_ok-value_byte.ensures.1 in
-      let items : w.push.new.self.items ≡ c.loop-byte.value.items ++ get_or c.args.written.now c.loop-byte.byte-index 0 ∷ [] = pushed _ _ _ _ _ w.push.ensures.items w.in_ok-map_err.ensures.variant w.in_ok-value_byte.ensures.0 in
+      let items : w.push.new.self.items ≡ c.loop-byte.value.items ++ get_or c.args.written.now c.loop-byte.byte-index 0 ∷ [] = w.in_ok-push.ensures.items ∙ ap (λ y. c.loop-byte.value.items ++ y ∷ []) w.in_ok-value_byte.ensures.0 in
       rw (w.value-is, items, w.if-not-escaped.true) taken
   | else-not-escaped w ↦
       rw (w.value-is, w.if-not-escaped.false) (value-skips c.args.written.now c.loop-byte.value.items c.loop-byte.byte-index c.loop-byte.escaped c.loop-byte-test.true c.loop-byte.invariant (sym c.is_escape-escaped.ensures ∙ w.if-not-escaped.false))

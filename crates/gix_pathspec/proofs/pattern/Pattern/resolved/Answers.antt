@@ -6,7 +6,8 @@ use Rattle.bstr.specs.BStr.{bstr_bytes}
 use Rattle.pathspec_parts.specs.Paths.{components}
 use Rattle.gix_pathspec.specs.Patterns.{pattern_spec}
 use Rattle.gix_pathspec.specs.Resolving.{resolved_spec}
-use Rattle.gix_pathspec.proofs.ResolvingProofs.{form-outside, form-leaves, form-stays, first-names, memory-or_any}
+use Rattle.gix_pathspec.proofs.ParseProofs.{memory-or_any}
+use Rattle.gix_pathspec.proofs.ResolvingProofs.{form-outside, form-leaves, form-stays, first-names, kept-is}
 use Rattle.gix_pathspec.proofs.pattern.Pattern.resolved.Goals as goal
 
 pub returns-in_default : goal.returns-in_default
@@ -28,3 +29,8 @@ returns c =
     MatchResult-from_both c.with_components.result _ _
     (IfOk-weaker c.with_components.result _ _ (λ r h. form-stays (bstr_bytes c.args.prefix) (bstr_bytes c.args.root) (pattern_spec c.args.self.now) _ _ c.in-Some.ensures first c.in_ok-stack.stack.names (resolved_spec (pattern_spec c.args.self.now) r) stack.0 stack.1 h) c.with_components.ensures.ok)
     (IfErr-weaker c.with_components.result _ _ (λ e m. memory-or_any e _ m) c.with_components.ensures.err)
+
+pub with_components-requires-clause-kept : goal.with_components-requires-clause-kept
+with_components-requires-clause-kept c =
+    let first = c.components.ensures ∙ ap components c.joined_prefix-front.ensures in
+    kept-is (bstr_bytes c.args.prefix) (bstr_bytes c.args.root) (pattern_spec c.args.self.now) _ _ c.in-Some.ensures first c.in_ok-stack.stack.names c.in_ok-stack.stack.least c.in_ok-stack.ensures.2
