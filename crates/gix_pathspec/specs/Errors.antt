@@ -1,5 +1,5 @@
 -- What a clause reads of an `Error`.
-use Rattle.std.specs.Prelude.{ℕ, List, codes, Option, Some, None, IfSome}
+use Rattle.std.specs.Prelude.{◌≡◌, ℕ, List, codes, Option, Some, None, IfSome, Result, Ok, Err, MatchResult}
 use Rattle.gix_pathspec.specs.declared.error.Error.{Error}
 use Rattle.gix_pathspec.specs.declared.error.Error.TheVariants as told
 use Rattle.gix_pathspec.specs.Faults.{Fault}
@@ -29,6 +29,10 @@ IsMemoryOr e P = IfSome (fault_of e) P
 -- the error is want of memory
 abbrev pub IsMemory : Error → Type 0
 IsMemory e = IsMemoryOr e (λ fault. ⊥)
+
+-- The call answers what is computed: its value, as the view shows it, or its fault; or memory ran out.
+abbrev pub Computes : {A B : Type 0} → (A → B) → Result B Fault → Result A Error → Type 0
+Computes view computed result = MatchResult result (λ x. computed ≡ Ok (view x)) (λ e. IsMemoryOr e (λ fault. computed ≡ Err fault))
 
 -- the name of the variant
 abbrev pub kind_of : Error → List ℕ

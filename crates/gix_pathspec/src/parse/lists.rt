@@ -5,7 +5,7 @@ ghost use Rattle.pathspec_parts.specs.Bytes.{backslash, equals_sign, first_is};
 ghost use Rattle.pathspec_parts.specs.AttributeNames.{name_bytes};
 ghost use Rattle.pathspec_parts.specs.AttributeStates.{state_of, attribute_of};
 ghost use Rattle.gix_pathspec.specs.Faults.Fault.{InvalidValueByte};
-ghost use Rattle.gix_pathspec.specs.Errors.{fault_of, IsMemoryOr};
+ghost use Rattle.gix_pathspec.specs.Errors.{fault_of, Computes, IsMemoryOr};
 ghost use Rattle.gix_pathspec.specs.AttributeLists.{name_of, is_value_byte, value_of, named, valued, assignment_of, assignments_of};
 
 use super::pieces::is_escape;
@@ -46,7 +46,7 @@ pub fn attributes(alloc: Global, list: &[u8]) -> Result<Vec<Assignment>, Error>
 /// The assignment that a part of a list says.
 #[tactic(auto, unfolding(crate::specs::AttributeLists::assignment_of))]
 fn assignment(alloc: Global, part: &[u8]) -> Result<Assignment, Error>
-    ensures { MatchResult result (λ a. assignment_of part.now ≡ Ok (attribute_of a)) (λ e. IsMemoryOr e (λ fault. assignment_of part.now ≡ Err fault)) }
+    ensures { Computes attribute_of (assignment_of part.now) result }
 {
     if let Some(name) = behind_mark(part, b'!') {
         return named(alloc, State::Unspecified, name);
