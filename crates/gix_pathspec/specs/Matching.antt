@@ -5,9 +5,9 @@ use Rattle.gix_pathspec.specs.declared.SearchMode.{SearchMode}
 use Rattle.gix_pathspec.specs.declared.SearchMode.TheVariants.{ShellGlob, Literal, PathAwareGlob}
 use Rattle.gix_pathspec.specs.declared.search.MatchKind.{MatchKind}
 use Rattle.gix_pathspec.specs.declared.search.MatchKind.TheVariants.{Always, Prefix, WildcardMatch, Verbatim}
-use Rattle.pathspec_parts.specs.declared.glob.Mode.TheVariants.{Shell, PathAware}
-use Rattle.pathspec_parts.specs.declared.attributes.Case.{Case}
-use Rattle.pathspec_parts.specs.declared.attributes.Case.TheVariants.{Sensitive, Fold}
+use Rattle.pathspec_glob.specs.declared.Mode.TheVariants.{Shell, PathAware}
+use Rattle.pathspec_glob.specs.declared.Case.{Case}
+use Rattle.pathspec_glob.specs.declared.Case.TheVariants.{Sensitive, Fold}
 use Rattle.pathspec_parts.specs.Bytes.{is_empty, folded}
 use Rattle.pathspec_parts.specs.Paths.{is_below}
 use Rattle.pathspec_parts.specs.Attributes.{State, Assignment, Question, Table}

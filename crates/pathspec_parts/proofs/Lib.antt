@@ -1,13 +1,3 @@
 pub mod ComponentProofs
 pub mod OutcomeProofs
-pub mod BracketProofs
-pub mod TokenProofs
-pub mod GlobProofs
-pub mod TailProofs
-pub mod PlaceProofs
-pub mod LeadsProofs
-pub mod WindowProofs
-pub mod AnswerProofs
-mod Asking
-mod GlobRows
 mod PathRows

@@ -2,8 +2,8 @@
 use Rattle.std.specs.Prelude.{ℕ, Bool, not, ◌&&◌, ◌||◌, List, codes, ◌==◌}
 use Rattle.std.specs.List.{list_all}
 use Rattle.std.specs.Char.{is_ascii_alphanumeric}
-use Rattle.pathspec_parts.specs.declared.attributes.Case.{Case}
-use Rattle.pathspec_parts.specs.Bytes.{dash, is_one_of, first_is}
+use Rattle.pathspec_glob.specs.declared.Case.{Case}
+use Rattle.pathspec_glob.specs.Bytes.{dash, is_one_of, first_is}
 
 -- what an attribute may be
 pub data State : Type 0 where

@@ -1,4 +1,6 @@
-pub mod Bytes
+pub use Rattle.pathspec_glob.specs.Bytes
+pub use Rattle.pathspec_glob.specs.Tokens
+pub use Rattle.pathspec_glob.specs.GlobRelation
 pub mod Paths
 pub mod Components
 pub mod Attributes
@@ -6,10 +8,4 @@ pub mod AttributeNames
 pub mod AttributeStates
 pub mod Outcomes
 pub mod AttributeRows
-pub mod Tokens
-pub mod GlobRelation
-pub mod GlobForms
-pub mod GlobSteps
-pub mod GlobPlaces
-pub mod Globs
 pub mod Stacks

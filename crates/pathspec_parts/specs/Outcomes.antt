@@ -1,7 +1,7 @@
 -- Outcomes of look-ups: a list of names, each with its state.
 use Rattle.std.specs.Prelude.{ℕ, Bool, List, map, fold, bytes_eq, if◌then◌else◌}
 use Rattle.std.specs.List.{list_any}
-use Rattle.pathspec_parts.specs.declared.attributes.Case.{Case}
+use Rattle.pathspec_glob.specs.declared.Case.{Case}
 use Rattle.pathspec_parts.specs.Attributes.{State, Assignment, Question, Reply}
 use Rattle.pathspec_parts.specs.Attributes.State.{Unspecified}
 

@@ -11,17 +11,9 @@ mod state;
 use bstr::BStr;
 pub use name::Name;
 pub use outcome::Outcome;
+pub use pathspec_glob::Case;
 pub use state::{Assignment, State, StateRef};
 use std::fmt::Debug;
-
-/// Whether ASCII case counts in a comparison.
-#[derive(Clone, Copy, Debug, PartialEq, Eq)]
-pub enum Case {
-    /// `a` and `A` are two.
-    Sensitive,
-    /// `a` and `A` are one.
-    Fold,
-}
 
 /// Who is asked for the attributes of paths.
 pub trait LookUp {

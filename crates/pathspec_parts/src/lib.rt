@@ -2,6 +2,7 @@
 #![tactic(auto)]
 
 pub mod attributes;
-pub mod glob;
 pub mod path;
 pub mod split;
+
+pub use pathspec_glob as glob;

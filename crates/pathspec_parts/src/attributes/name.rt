@@ -4,7 +4,7 @@ ghost use Rattle.std.specs.List.{list_all};
 ghost use Rattle.std.specs.Option.{option_map};
 ghost use Rattle.std.specs.Char.{is_ascii_alphanumeric};
 ghost use Rattle.bstr.specs.BStr.{bstr_bytes};
-ghost use Rattle.pathspec_parts.specs.Bytes.{dash, first_is, is_one_of};
+ghost use Rattle.pathspec_glob.specs.Bytes.{dash, first_is, is_one_of};
 ghost use Rattle.pathspec_parts.specs.Attributes.{is_attribute_name};
 
 use bstr::BStr;

@@ -1,0 +1,10 @@
+pub mod BracketProofs
+pub mod TokenProofs
+pub mod GlobProofs
+pub mod TailProofs
+pub mod PlaceProofs
+pub mod LeadsProofs
+pub mod WindowProofs
+pub mod AnswerProofs
+mod Asking
+mod GlobRows

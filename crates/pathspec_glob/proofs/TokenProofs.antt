@@ -1,0 +1,163 @@
+-- Patterns as tokens: how many bytes a token takes, what follows it, and that there are few.
+use Rattle.std.proofs.Common.{◌≡◌, ℕ, zero, suc, ◌+◌, ◌-◌, ◌<◌, ◌≤◌, ◌==◌, Bool, true, false, inl, inr, refl, ap, subst, sym, ◌∙◌, List, [], ◌∷◌, ◌++◌, length, get_or, drop, codes, Option, Some, None, if◌then◌else◌, arith, append_assoc, append-nil}
+use Rattle.std.specs.List.{prefix_len}
+use Rattle.std.proofs.lemmas.Bool.{cases_Bool}
+use Rattle.std.proofs.lemmas.List.Sums.{prefix_len-le-length}
+use Rattle.std.proofs.Math.Numerals.{one-add, add-one}
+use Rattle.pathspec_glob.specs.declared.Mode.{Mode}
+use Rattle.pathspec_glob.specs.Bytes.{slash, star, question_mark, open_bracket, backslash, is_one_of, first_is}
+use Rattle.pathspec_glob.specs.Tokens.{Items, Front, Token, Piece, front_of, single_of, bytes_of, items_with, items_from, escaped_piece, bracket_with, bracket_piece, run_token, run_piece, piece_of, token_before, tokens_from}
+use Rattle.pathspec_glob.specs.Tokens.Front.{Listed, Closed, Broken}
+use Rattle.pathspec_glob.specs.Tokens.Single.{Byte, Quoted, Any, Bracket, Dead}
+use Rattle.pathspec_glob.specs.Tokens.Token.{One, Star, Deep}
+use Rattle.pathspec_glob.specs.Globs.{FewTokens}
+
+-- a bracket's items end before the bytes do
+items_with-shorter : (front : Front) (bs : List ℕ) (others : Option Items) (read : Items) → ((o : Items) → others ≡ Some o → length o.rest < length bs) → items_with front bs others ≡ Some read → length read.rest < suc (length bs)
+items_with-shorter (Listed item size) bs None read below e = absurd (let no : ⊥ = cc in no)
+items_with-shorter (Listed item size) bs (Some o) read below e =
+    let whole : Items = record { items = item ∷ o.items; rest = o.rest } in
+    let same : whole ≡ read = cc in
+    let len : length o.rest ≡ length read.rest = ap (λ r. length r.rest) same in
+    let less : length o.rest < length bs = below o refl in
+    omega arith
+items_with-shorter Closed bs others read below e =
+    let whole : Items = record { items = []; rest = bs } in
+    let same : whole ≡ read = cc in
+    let len : length bs ≡ length read.rest = ap (λ r. length r.rest) same in
+    omega arith
+items_with-shorter Broken bs others read below e = absurd (let no : ⊥ = cc in no)
+
+pub items-shorter : (skip : ℕ) (first : Bool) (last : Option ℕ) (text : List ℕ) (read : Items) → items_from skip first last text ≡ Some read → length read.rest < length text
+items-shorter skip first last [] read e = absurd (let no : ⊥ = cc in no)
+items-shorter (suc skip) first last (b ∷ bs) read e =
+    let less : length read.rest < length bs = items-shorter skip first last bs read e in
+    omega arith
+items-shorter zero first last (b ∷ bs) read e =
+    let front : Front = front_of first last (b ∷ bs) in
+    items_with-shorter front bs (items_from (bytes_of front - 1) false (single_of front) bs) read (λ o is. items-shorter (bytes_of front - 1) false (single_of front) bs o is) e
+
+-- a piece takes a byte at least, and at most those that are there, where so many follow the first
+pub record Within (piece : Piece) (more : ℕ) : Type 0 where
+  pub some : 1 ≤ piece.size
+  pub all : piece.size ≤ more + 1
+
+escaped-within : (rest : List ℕ) → Within (escaped_piece rest) (length rest)
+escaped-within [] = record { some = omega arith; all = omega arith }
+escaped-within (x ∷ rest) = record { some = omega arith; all = omega arith }
+
+bracket_with-within : (negated : Bool) (len : ℕ) (found : Option Items) → ((read : Items) → found ≡ Some read → length read.rest ≤ len) → Within (bracket_with negated len found) len
+bracket_with-within negated len None below = record { some = omega arith; all = omega arith }
+bracket_with-within negated len (Some read) below =
+    let left : length read.rest ≤ len = below read refl in
+    record { some = omega arith; all = omega arith }
+
+-- the rest behind a negation is no longer than with it
+listed-within : (negated : Bool) (rest : List ℕ) (read : Items) → items_from 0 true None (if negated then drop 1 rest else rest) ≡ Some read → length read.rest ≤ length rest
+listed-within true [] read e = absurd (let no : ⊥ = cc in no)
+listed-within true (b ∷ rest) read e =
+    let less : length read.rest < length rest = items-shorter 0 true None rest read e in
+    omega arith
+listed-within false rest read e =
+    let less : length read.rest < length rest = items-shorter 0 true None rest read e in
+    omega arith
+
+bracket-within : (rest : List ℕ) → Within (bracket_piece rest) (length rest)
+bracket-within rest =
+    let negated : Bool = first_is (is_one_of (codes "!^")) rest in
+    bracket_with-within negated (length rest) (items_from 0 true None (if negated then drop 1 rest else rest)) (listed-within negated rest)
+
+run-within : (mode : Mode) (behind : Bool) (b : ℕ) (rest : List ℕ) → b == star ≡ true → Within (run_piece mode behind (prefix_len (λ c. c == star) (b ∷ rest)) (b ∷ rest)) (length rest)
+run-within mode behind b rest is =
+    let stars : ℕ → Bool = λ c. c == star in
+    let least : prefix_len stars rest ≤ length rest = prefix_len-le-length stars rest in
+    let size : prefix_len stars (b ∷ rest) ≡ 1 + prefix_len stars rest = rw is refl in
+    record { some = omega arith; all = omega arith }
+
+pub piece-within : (mode : Mode) (behind : Bool) (b : ℕ) (rest : List ℕ) → Within (piece_of mode behind b rest) (length rest)
+piece-within mode behind b rest = elim (cases_Bool (b == backslash)) [
+  | inl h ↦ rw h (escaped-within rest)
+  | inr h ↦ rw h (elim (cases_Bool (b == question_mark)) [
+    | inl i ↦ rw i (record { some = omega arith; all = omega arith })
+    | inr i ↦ rw i (elim (cases_Bool (b == open_bracket)) [
+      | inl j ↦ rw j (bracket-within rest)
+      | inr j ↦ rw j (elim (cases_Bool (b == star)) [
+        | inl k ↦ rw k (rw k at (run-within mode behind b rest k))
+        | inr k ↦ rw k (record { some = omega arith; all = omega arith })
+      ])
+    ])
+  ])
+]
+
+-- a run of stars, read behind its first
+pub run-read : (mode : Mode) (behind : Bool) (rest : List ℕ) (more : ℕ) (token : Token) → more ≡ prefix_len (λ c. c == star) rest → token ≡ run_token mode behind (more + 1) (drop more rest)
+    → record { token = token; size = more + 1 } ≡ run_piece mode behind (prefix_len (λ c. c == star) (star ∷ rest)) (star ∷ rest)
+run-read mode behind rest more token count is = rw (← count, one-add, is, add-one) refl
+
+-- what follows bytes that belong to a token
+skipped : (mode : Mode) (k b : ℕ) (bs : List ℕ) → tokens_from mode k (b == slash) bs ≡ tokens_from mode 0 (get_or (b ∷ bs) k 0 == slash) (drop k bs)
+unfolding tokens_from
+skipped mode zero b bs = refl
+skipped mode (suc k) b [] = refl
+skipped mode (suc k) b (c ∷ cs) = skipped mode k c cs
+
+-- a token and what follows it
+pub tokens-next : (mode : Mode) (behind : Bool) (b : ℕ) (bs : List ℕ) (size : ℕ) (token : Token) → record { token = token; size = size } ≡ piece_of mode behind b bs
+    → tokens_from mode 0 behind (b ∷ bs) ≡ token_before token (tokens_from mode 0 (get_or (b ∷ bs) (size - 1) 0 == slash) (drop size (b ∷ bs)))
+unfolding tokens_from
+tokens-next mode behind b bs zero token is =
+    let within = subst (λ p. Within p (length bs)) (sym is) (piece-within mode behind b bs) in
+    let some : 1 ≤ zero = within.some in
+    absurd (omega arith)
+tokens-next mode behind b bs (suc k) token is =
+    let less : suc k - 1 ≡ k = omega arith in
+    ap (λ p. token_before p.token (tokens_from mode (p.size - 1) (b == slash) bs)) (sym is) ∙ rw less (ap (token_before token) (skipped mode k b bs))
+
+-- the front of a text that isn't empty is read: its token and what follows it
+pub tokens-read : (mode : Mode) (behind : Bool) (text : List ℕ) (size : ℕ) (token : Token) → 1 ≤ length text → record { token = token; size = size } ≡ piece_of mode behind (get_or text 0 0) (drop 1 text)
+    → tokens_from mode 0 behind text ≡ token_before token (tokens_from mode 0 (get_or text (size - 1) 0 == slash) (drop size text))
+tokens-read mode behind [] size token some is = absurd (omega arith)
+tokens-read mode behind (b ∷ bs) size token some is = tokens-next mode behind b bs size token is
+
+-- a dead token is the last
+pub tokens-last : (mode : Mode) (behind : Bool) (all whole : List Token) (text : List ℕ) (size : ℕ) (token : Token) → all ++ tokens_from mode 0 behind text ≡ whole → 1 ≤ length text
+    → record { token = token; size = size } ≡ piece_of mode behind (get_or text 0 0) (drop 1 text) → ((others : List Token) → token_before token others ≡ token ∷ []) → all ++ token ∷ [] ≡ whole
+tokens-last mode behind all whole text size token so_far some is last =
+    ap (λ ts. all ++ ts) (sym (tokens-read mode behind text size token some is ∙ last _)) ∙ so_far
+
+-- another is not
+pub tokens-more : (mode : Mode) (behind : Bool) (all whole : List Token) (text : List ℕ) (size : ℕ) (token : Token) → all ++ tokens_from mode 0 behind text ≡ whole → 1 ≤ length text
+    → record { token = token; size = size } ≡ piece_of mode behind (get_or text 0 0) (drop 1 text) → ((others : List Token) → token_before token others ≡ token ∷ others)
+    → (all ++ token ∷ []) ++ tokens_from mode 0 (get_or text (size - 1) 0 == slash) (drop size text) ≡ whole
+tokens-more mode behind all whole text size token so_far some is more =
+    append_assoc all (token ∷ []) _ ∙ ap (λ ts. all ++ ts) (sym (tokens-read mode behind text size token some is ∙ more _)) ∙ so_far
+
+-- behind the last byte there are none
+pub tokens-all : (mode : Mode) (behind : Bool) (all whole : List Token) (text : List ℕ) → all ++ tokens_from mode 0 behind text ≡ whole → length text < 1 → all ≡ whole
+unfolding tokens_from
+tokens-all mode behind all whole [] so_far none = sym (append-nil all) ∙ so_far
+tokens-all mode behind all whole (b ∷ bs) so_far none = absurd (omega arith)
+
+-- at most a token for each byte
+token_before-few : (token : Token) (others : List Token) (len : ℕ) → length others ≤ len → length (token_before token others) ≤ suc len
+token_before-few (One Dead) others len few = omega arith
+token_before-few (One (Byte b)) others len few = omega arith
+token_before-few (One (Quoted b)) others len few = omega arith
+token_before-few (One Any) others len few = omega arith
+token_before-few (One (Bracket negated items)) others len few = omega arith
+token_before-few Star others len few = omega arith
+token_before-few Deep others len few = omega arith
+
+few_from : (mode : Mode) (skip : ℕ) (behind : Bool) (text : List ℕ) → length (tokens_from mode skip behind text) ≤ length text
+unfolding tokens_from
+few_from mode skip behind [] = omega arith
+few_from mode (suc skip) behind (b ∷ bs) =
+    let few : length (tokens_from mode skip (b == slash) bs) ≤ length bs = few_from mode skip (b == slash) bs in
+    omega arith
+few_from mode zero behind (b ∷ bs) =
+    let piece : Piece = piece_of mode behind b bs in
+    token_before-few piece.token (tokens_from mode (piece.size - 1) (b == slash) bs) (length bs) (few_from mode (piece.size - 1) (b == slash) bs)
+
+-- A pattern has at most as many tokens as bytes.
+pub few_tokens : FewTokens
+few_tokens mode pattern = few_from mode 0 true pattern

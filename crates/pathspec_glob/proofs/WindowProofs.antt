@@ -1,0 +1,186 @@
+-- Places that are held within a window lead to what all places lead to.
+use Rattle.std.proofs.Common.{◌≡◌, ℕ, zero, suc, ◌+◌, ◌<◌, ◌≤◌, Bool, true, false, ◌&&◌, ◌||◌, inl, inr, refl, sym, ◌∙◌, ap, arith, List, [], ◌∷◌, ◌++◌, replicate, length, set, drop, ◌==◌}
+use Rattle.std.specs.Prelude.{◌⊎◌}
+use Rattle.std.proofs.lemmas.Bool.{cases_Bool, cases_lt, lt-ltb, le-ltb, or_parts, eqb-true}
+use Rattle.std.proofs.Math.Bool.{or-false, and-false}
+use Rattle.std.proofs.lemmas.List.{get_or-set_same, get_or-set_other, drop-set-lt, get_or-drop, length-drop}
+use Rattle.pathspec_glob.specs.declared.Mode.{Mode}
+use Rattle.pathspec_glob.specs.declared.Case.{Case}
+use Rattle.pathspec_glob.specs.Tokens.{Token}
+use Rattle.pathspec_glob.specs.GlobRelation.{matches}
+use Rattle.pathspec_glob.specs.GlobSteps.{is_wide_at, may_pass_over_at}
+use Rattle.pathspec_glob.specs.GlobPlaces.{holds, leads, leads_before, is_inside, raised, closed, HoldsWithin, first_behind, end_behind, end_after}
+use Rattle.pathspec_glob.proofs.LeadsProofs.{goes_on, holds-raised, leads-split, leads-from, leads-behind, matches-behind, leads_before-same, leads-end_come}
+
+-- a place that is raised changes none behind it
+raised-before : (more : Bool) (place other : ℕ) (row : List Bool) → place < other → holds (raised more place row) other ≡ holds row other
+raised-before true place other row below = get_or-set_other row place other true false (λ e. omega arith)
+raised-before false place other row below = refl
+
+-- where the end is once a place is closed
+pub end-least : (held : Bool) (place end : ℕ) → end ≤ end_after held place end
+end-least false place end = omega arith
+end-least true place end = elim (cases_lt end (place + 3)) [
+  | inl l ↦ rw (lt-ltb end (place + 3) l) (omega arith)
+  | inr g ↦ rw (le-ltb end (place + 3) g) (omega arith)
+]
+
+end-held : (place end : ℕ) → place + 3 ≤ end_after true place end
+end-held place end = elim (cases_lt end (place + 3)) [
+  | inl l ↦ rw (lt-ltb end (place + 3) l) (omega arith)
+  | inr g ↦ rw (le-ltb end (place + 3) g) (omega arith)
+]
+
+-- a place that is closed comes to none from the end on
+closed-none : (mode : Mode) (ts : List Token) (place : ℕ) (E S : List Bool) → is_inside E S place ≡ false → closed mode ts place E S ≡ E
+closed-none mode ts place E S off = let parts = or_parts (holds E place) (holds S place) off in rw (parts.0, parts.1) refl
+
+pub closed-behind : (mode : Mode) (ts : List Token) (place end i : ℕ) (E S : List Bool) → end_after (is_inside E S place) place end ≤ i → holds (closed mode ts place E S) i ≡ holds E i
+closed-behind mode ts place end i E S h = elim (cases_Bool (is_inside E S place)) [
+  | inl t ↦
+      let far : place + 3 ≤ i = let least = end-held place end in let k = rw t at h in omega arith in
+      let once = raised (is_inside E S place && is_wide_at (drop place ts)) (place + 1) E in
+      raised-before (holds E place && may_pass_over_at mode (drop place ts)) (place + 2) i once (omega arith)
+      ∙ raised-before (is_inside E S place && is_wide_at (drop place ts)) (place + 1) i E (omega arith)
+  | inr f ↦ ap (λ row. holds row i) (closed-none mode ts place E S f)
+]
+
+-- rows that have been left hold no place
+left-row : (n i : ℕ) (row : List Bool) → i < n → holds (replicate n false ++ row) i ≡ false
+left-row zero i row h = absurd (let no : ⊥ = omega arith in no)
+left-row (suc n) zero row h = refl
+left-row (suc n) (suc i) row h = left-row n i row (omega arith)
+
+-- where the first place alone is come to, all that are held are that one
+pub begin-window : (n : ℕ) (R Q : List Bool) → HoldsWithin n 0 1 (set (replicate (n + 1) false ++ R) 0 true) (replicate n false ++ Q)
+begin-window n R Q = record {
+  within = omega arith;
+  before_entered = λ i h. absurd (let no : ⊥ = omega arith in no);
+  before_staying = λ i h. absurd (let no : ⊥ = omega arith in no);
+  behind_entered = λ i g h. get_or-set_other (replicate (n + 1) false ++ R) 0 i true false (λ e. omega arith) ∙ left-row (n + 1) i R (omega arith);
+  behind_staying = λ i g h. left-row n i Q h;
+}
+
+-- a place that is visited changes none before it, and none from the end on
+pub comes-before : (mode : Mode) (ts : List Token) (place i : ℕ) (E S : List Bool) (arrives : Bool) → i < place → holds (set (closed mode ts place E S) place arrives) i ≡ holds E i
+comes-before mode ts place i E S arrives h =
+    let once = raised (is_inside E S place && is_wide_at (drop place ts)) (place + 1) E in
+    get_or-set_other (closed mode ts place E S) place i arrives false (λ e. omega arith)
+    ∙ holds-raised (holds E place && may_pass_over_at mode (drop place ts)) (place + 2) i once (omega arith)
+    ∙ holds-raised (is_inside E S place && is_wide_at (drop place ts)) (place + 1) i E (omega arith)
+
+pub comes-behind : (mode : Mode) (ts : List Token) (place end i : ℕ) (E S : List Bool) (arrives : Bool) → place < i → end_after (is_inside E S place) place end ≤ i
+    → holds (set (closed mode ts place E S) place arrives) i ≡ holds E i
+comes-behind mode ts place end i E S arrives h far = get_or-set_other (closed mode ts place E S) place i arrives false (λ e. omega arith) ∙ closed-behind mode ts place end i E S far
+
+module _ (mode : Mode) (case : Case) where
+  -- places that are not held lead to nothing
+  pub before-none : (n : ℕ) (ts : List Token) (E S : List Bool) (text : List ℕ) → ((i : ℕ) → i < n → holds E i ≡ false) → ((i : ℕ) → i < n → holds S i ≡ false)
+      → leads_before mode case n ts E S text ≡ false
+  before-none zero ts E S text e s = refl
+  before-none (suc n) ts E S text e s =
+      rw (before-none n ts E S text (λ i h. e i (omega arith)) (λ i h. s i (omega arith)), e n (omega arith), s n (omega arith)) refl
+
+  unheld : (ts : List Token) (E S : List Bool) (text : List ℕ) → ((i : ℕ) → i ≤ length ts → holds E i ≡ false) → ((i : ℕ) → i < length ts → holds S i ≡ false)
+      → leads mode case ts E S text ≡ false
+  unheld [] E S text e s = rw (e 0 (omega arith)) refl
+  unheld (t ∷ ts) E S text e s =
+      let ih = unheld ts (drop 1 E) (drop 1 S) text (λ i h. get_or-drop 1 E i false ∙ e (1 + i) (omega arith)) (λ i h. get_or-drop 1 S i false ∙ s (1 + i) (omega arith)) in
+      rw (e 0 (omega arith), s 0 (omega arith), ih) refl
+
+  pub behind-none : (n : ℕ) (ts : List Token) (E S : List Bool) (text : List ℕ) → n ≤ length ts
+      → ((i : ℕ) → n ≤ i → i ≤ length ts → holds E i ≡ false) → ((i : ℕ) → n ≤ i → i < length ts → holds S i ≡ false)
+      → leads mode case (drop n ts) (drop n E) (drop n S) text ≡ false
+  behind-none n ts E S text h e s =
+      let len = length-drop n ts in
+      unheld (drop n ts) (drop n E) (drop n S) text
+      (λ i k. get_or-drop n E i false ∙ e (n + i) (omega arith) (omega (arith, len, k)))
+      (λ i k. get_or-drop n S i false ∙ s (n + i) (omega arith) (omega (arith, len, k)))
+
+  -- what all lead to, those from the first that is held on lead to
+  pub window-leads : (first : ℕ) (ts : List Token) (E S : List Bool) (text : List ℕ) → first ≤ length ts
+      → ((i : ℕ) → i < first → holds E i ≡ false) → ((i : ℕ) → i < first → holds S i ≡ false)
+      → leads mode case (drop first ts) (drop first E) (drop first S) text ≡ leads mode case ts E S text
+  window-leads first ts E S text h e s = sym (leads-split mode case first ts E S text h ∙ rw (before-none first ts E S text e s) refl)
+
+  -- Where no place behind one is held, all lead to what those before it do, and that one where it is come to.
+  pub settled-come : (n : ℕ) (ts : List Token) (E S : List Bool) (arrives : Bool) (text : List ℕ) → n ≤ length ts → length ts < length E
+      → ((i : ℕ) → n < i → i ≤ length ts → holds E i ≡ false) → ((i : ℕ) → n ≤ i → i < length ts → holds S i ≡ false)
+      → leads mode case ts (set E n arrives) S text ≡ (leads_before mode case n ts E S text || (arrives && matches mode case (drop n ts) text))
+  settled-come n ts E S arrives text h g e s = elim (cases_lt n (length ts)) [
+    | inr k ↦
+        let all : n ≡ length ts = omega arith in
+        rw (all, matches-behind mode case ts text) (leads-end_come mode case ts E S arrives text g)
+    | inl l ↦
+        let come = set E n arrives in
+        let same : leads_before mode case n ts come S text ≡ leads_before mode case n ts E S text =
+        leads_before-same mode case n ts E come S S text (λ i k. get_or-set_other E n i arrives false (λ eq. omega arith)) (λ i k. refl) in
+        let there : holds come n ≡ arrives = get_or-set_same E n arrives false (omega arith) in
+        let others : leads mode case (drop (suc n) ts) (drop (suc n) come) (drop (suc n) S) text ≡ false =
+        rw (drop-set-lt (suc n) E n arrives (omega arith)) (behind-none (suc n) ts E S text (omega arith) (λ i k. e i (omega arith)) (λ i k. s i (omega arith))) in
+        leads-split mode case n ts come S text (omega arith)
+        ∙ rw (leads-from mode case n ts come S text l, same, there, s n (omega arith) l, others, or-false (arrives && matches mode case (drop n ts) text), or-false (arrives && matches mode case (drop n ts) text)) refl
+  ]
+
+  module _ (n end : ℕ) (ts : List Token) (E S : List Bool) (h : n ≤ length ts) (stop : (n ≡ length ts) ⊎ (end ≤ n))
+      (e : (i : ℕ) → end ≤ i → i ≤ length ts → holds E i ≡ false) (s : (i : ℕ) → end ≤ i → i < length ts → holds S i ≡ false) where
+    stopped-entered : (i : ℕ) → n < i → i ≤ length ts → holds E i ≡ false
+    stopped-entered i k l = elim stop [
+      | inl all ↦ absurd (let no : ⊥ = omega arith in no)
+      | inr past ↦ e i (omega arith) l
+    ]
+
+    stopped-staying : (i : ℕ) → n ≤ i → i < length ts → holds S i ≡ false
+    stopped-staying i k l = elim stop [
+      | inl all ↦ absurd (let no : ⊥ = omega arith in no)
+      | inr past ↦ s i (omega arith) l
+    ]
+
+    -- Where the visits stop, at the end of all tokens or of those that are held, all lead to what those before lead to.
+    pub stopped-come : (arrives : Bool) (text : List ℕ) → length ts < length E
+        → leads mode case ts (set E n arrives) S text ≡ (leads_before mode case n ts E S text || (arrives && matches mode case (drop n ts) text))
+    stopped-come arrives text g = settled-come n ts E S arrives text h g stopped-entered stopped-staying
+
+    stopped-rest : (b : ℕ) (bs : List ℕ) → leads mode case (drop n ts) (drop n E) (drop n S) (b ∷ bs) ≡ false
+    stopped-rest b bs = elim stop [
+      | inl all ↦ rw all (leads-behind mode case ts (drop (length ts) E) (drop (length ts) S) (b ∷ bs) ∙ and-false (holds (drop (length ts) E) 0))
+      | inr past ↦ behind-none n ts E S (b ∷ bs) h (λ i k l. e i (omega arith) l) (λ i k l. s i (omega arith) l)
+    ]
+
+    pub stopped-leads : (arrives : Bool) (b : ℕ) (bs : List ℕ) → length ts < length E → leads mode case ts (set E n arrives) S bs ≡ goes_on mode case n ts E S arrives b bs
+    stopped-leads arrives b bs g =
+        stopped-come arrives bs g ∙ sym (rw (stopped-rest b bs) (or-false (leads_before mode case n ts E S bs || (arrives && matches mode case (drop n ts) bs))))
+
+-- the window, once a place is behind
+pub first-within : (held : Bool) (place first : ℕ) → first ≤ place → first_behind held place first ≤ place + 1
+first-within true place first h = omega arith
+first-within false place first h = elim (cases_Bool (first == place)) [
+  | inl e ↦ rw e (omega arith)
+  | inr n ↦ rw n (omega arith)
+]
+
+pub end-within : (held : Bool) (place end : ℕ) → end ≤ place → end_behind held place end ≤ place + 1
+end-within true place end h = omega arith
+end-within false place end h = omega arith
+
+pub before-first : (held : Bool) (place first : ℕ) (row : List Bool) → ((i : ℕ) → i < first → holds row i ≡ false) → (held ≡ false → holds row place ≡ false)
+    → (i : ℕ) → i < first_behind held place first → holds row i ≡ false
+before-first true place first row before there i h = before i h
+before-first false place first row before there i h = elim (cases_Bool (first == place)) [
+  | inl e ↦
+      let same : first ≡ place = eqb-true first place e in
+      let less : i < place + 1 = rw e at h in
+      elim (cases_lt i place) [
+        | inl l ↦ before i (omega arith)
+        | inr g ↦ let this : i ≡ place = omega arith in rw this (there refl)
+      ]
+  | inr n ↦ before i (rw n at h)
+]
+
+pub left-behind : (held : Bool) (place end : ℕ) (row : List Bool) → ((i : ℕ) → end ≤ i → i < place → holds row i ≡ false) → (held ≡ false → holds row place ≡ false)
+    → (i : ℕ) → end_behind held place end ≤ i → i < place + 1 → holds row i ≡ false
+left-behind true place end row left there i g h = absurd (let no : ⊥ = omega arith in no)
+left-behind false place end row left there i g h = elim (cases_lt i place) [
+  | inl l ↦ left i g l
+  | inr k ↦ let this : i ≡ place = omega arith in rw this (there refl)
+]

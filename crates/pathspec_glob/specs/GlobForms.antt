@@ -1,0 +1,76 @@
+-- What a clause reads of a compiled glob: the items and tokens of `Tokens`.
+use Rattle.std.specs.Prelude.{ℕ, List, map, codes}
+use Rattle.pathspec_glob.specs.declared.brackets.Class.{Class as Named}
+use Rattle.pathspec_glob.specs.declared.brackets.Class.TheVariants as named
+use Rattle.pathspec_glob.specs.declared.brackets.Item.{Item as Kept}
+use Rattle.pathspec_glob.specs.declared.brackets.Item.TheVariants as kept
+use Rattle.pathspec_glob.specs.declared.brackets.Front.{Front as Seen}
+use Rattle.pathspec_glob.specs.declared.brackets.Front.TheVariants as seen
+use Rattle.pathspec_glob.specs.declared.brackets.Read.{Read}
+use Rattle.pathspec_glob.specs.declared.reading.Piece.{Piece as Taken}
+use Rattle.pathspec_glob.specs.declared.tokens.Single.{Single as Held}
+use Rattle.pathspec_glob.specs.declared.tokens.Single.TheVariants as held
+use Rattle.pathspec_glob.specs.declared.tokens.Token.{Token as Part}
+use Rattle.pathspec_glob.specs.declared.tokens.Token.TheVariants as part
+use Rattle.pathspec_glob.specs.Tokens.{Item, Front, Items, Single, Token, Piece}
+use Rattle.pathspec_glob.specs.Tokens.Item.{Lone, Range, Class}
+use Rattle.pathspec_glob.specs.Tokens.Front.{Listed, Closed, Broken}
+use Rattle.pathspec_glob.specs.Tokens.Single.{Byte, Quoted, Any, Bracket, Dead}
+use Rattle.pathspec_glob.specs.Tokens.Token.{One, Star, Deep}
+
+-- the name of a class
+abbrev pub class_name : Named → List ℕ
+class_name named.Alnum = codes "alnum"
+class_name named.Alpha = codes "alpha"
+class_name named.Blank = codes "blank"
+class_name named.Cntrl = codes "cntrl"
+class_name named.Digit = codes "digit"
+class_name named.Graph = codes "graph"
+class_name named.Lower = codes "lower"
+class_name named.Print = codes "print"
+class_name named.Punct = codes "punct"
+class_name named.Space = codes "space"
+class_name named.Upper = codes "upper"
+class_name named.Xdigit = codes "xdigit"
+
+-- the item that an `Item` is
+abbrev pub item_of : Kept → Item
+item_of (kept.Lone byte) = Lone byte
+item_of (kept.Range first last) = Range first last
+item_of (kept.Class class) = Class (class_name class)
+
+-- the items that a list of `Item` is
+abbrev pub items_of : List Kept → List Item
+items_of items = map item_of items
+
+-- the items of a bracket that has been read, and what follows them
+abbrev pub read_of : Read → Items
+read_of read = record { items = items_of read.items.items; rest = read.rest.now }
+
+-- what stands at the front of what is left of a bracket
+abbrev pub front_form : Seen → Front
+front_form (seen.Listed item size) = Listed (item_of item) size
+front_form seen.Closed = Closed
+front_form seen.Broken = Broken
+
+-- what one byte of a text is held to
+abbrev pub single_form : Held → Single
+single_form (held.Byte byte) = Byte byte
+single_form (held.Quoted byte) = Quoted byte
+single_form held.Any = Any
+single_form (held.Bracket negated items) = Bracket negated (items_of items.items)
+single_form held.Dead = Dead
+
+-- the token that a `Token` is
+abbrev pub token_of : Part → Token
+token_of (part.One single) = One (single_form single)
+token_of part.Star = Star
+token_of part.Deep = Deep
+
+-- the tokens that a list of `Token` is
+abbrev pub tokens_of : List Part → List Token
+tokens_of parts = map token_of parts
+
+-- the piece that a `Piece` is
+abbrev pub piece_form : Taken → Piece
+piece_form taken = record { token = token_of taken.token; size = taken.size }

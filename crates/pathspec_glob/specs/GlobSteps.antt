@@ -1,0 +1,51 @@
+-- The steps of a glob: one token, tested at one position of a text.
+use Rattle.std.specs.Prelude.{ℕ, Bool, true, false, not, ◌&&◌, List, [], ◌∷◌, ◌==◌}
+use Rattle.pathspec_glob.specs.declared.Mode.{Mode}
+use Rattle.pathspec_glob.specs.declared.Case.{Case}
+use Rattle.pathspec_glob.specs.Bytes.{slash}
+use Rattle.pathspec_glob.specs.Tokens.{Token, tokens}
+use Rattle.pathspec_glob.specs.Tokens.Token.{One, Star, Deep}
+use Rattle.pathspec_glob.specs.GlobRelation.{takes, passes_over}
+
+-- the tokens of a glob, and the mode that they are read in
+pub record Parts : Type 0 where
+  pub mode : Mode
+  pub tokens : List Token
+
+-- a pattern in parts
+abbrev pub parts_of : Mode → List ℕ → Parts
+parts_of mode pattern = record { mode = mode; tokens = tokens mode pattern }
+
+-- a token that takes any number of bytes
+abbrev pub is_wide : Token → Bool
+is_wide (One single) = false
+is_wide Star = true
+is_wide Deep = true
+
+-- the first of the tokens takes any number of bytes
+abbrev pub is_wide_at : List Token → Bool
+is_wide_at [] = false
+is_wide_at (t ∷ ts) = is_wide t
+
+-- the token that takes any bytes
+abbrev pub is_deep_token : Token → Bool
+is_deep_token Deep = true
+is_deep_token _ = false
+
+-- the first of the tokens may stand for nothing together with the second
+abbrev pub may_pass_over_at : Mode → List Token → Bool
+may_pass_over_at mode [] = false
+may_pass_over_at mode (t ∷ []) = false
+may_pass_over_at mode (t ∷ next ∷ ts) = is_deep_token t && passes_over mode next
+
+-- the token takes a byte, alone or with others
+abbrev pub takes_byte : Mode → Case → Token → ℕ → Bool
+takes_byte mode case (One single) b = takes mode case single b
+takes_byte mode case Star b = not (b == slash)
+takes_byte mode case Deep b = true
+
+-- The first of the tokens takes the first byte of the text. None takes the text's end.
+abbrev pub tests_at : Mode → Case → List Token → List ℕ → Bool
+tests_at mode case [] text = false
+tests_at mode case (t ∷ ts) [] = false
+tests_at mode case (t ∷ ts) (b ∷ bs) = takes_byte mode case t b

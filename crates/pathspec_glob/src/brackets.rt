@@ -1,0 +1,424 @@
+//! Brackets of globs: the bytes that `[` .. `]` lists (git's wildmatch).
+ghost use Rattle.std.specs.Prelude.{◌≡◌, ◌≤◌, ◌==◌, ◌+◌, ◌-◌, ℕ, Option, Some, None, IfOk, is_some, true, if◌then◌else◌, length, take, drop};
+ghost use Rattle.std.specs.Option.{option_map};
+ghost use Rattle.std.specs.List.{list_any, position};
+ghost use Rattle.pathspec_glob.specs.Bytes.{close_bracket, colon, first_is};
+ghost use Rattle.pathspec_glob.specs.Tokens.{class_item, class_of, escaped_item, front_of, items_from, makes_range, range_from, single_of};
+ghost use Rattle.pathspec_glob.specs.Tokens.Item.{Class as Named};
+ghost use Rattle.pathspec_glob.specs.Tokens.Front.{Listed, Broken};
+ghost use Rattle.pathspec_glob.specs.GlobRelation.{hold, item_holds, passes};
+ghost use Rattle.pathspec_glob.specs.GlobForms.{class_name, front_form, item_of, items_of, read_of};
+
+use crate::Case;
+use std::alloc::{AllocError, Global};
+
+/// A class of ASCII bytes that a bracket names, as `[:digit:]`.
+#[derive(Clone, Copy, Debug, PartialEq, Eq)]
+pub enum Class {
+    /// Letters and digits.
+    Alnum,
+    /// Letters.
+    Alpha,
+    /// Tab and space.
+    Blank,
+    /// 0 to 31, and 127.
+    Cntrl,
+    /// Digits.
+    Digit,
+    /// 33 to 126.
+    Graph,
+    /// `a` to `z`.
+    Lower,
+    /// 32 to 126.
+    Print,
+    /// Bytes of `Graph` that are no letters or digits.
+    Punct,
+    /// Tab, line feed, carriage return and space.
+    Space,
+    /// `A` to `Z`.
+    Upper,
+    /// Digits, `A` to `F` and `a` to `f`.
+    Xdigit,
+}
+
+impl Class {
+    /// The class of this name.
+    fn from_name(name: &[u8]) -> Option<Class>
+        ensures { option_map class_name result ≡ (if is_some (class_of name.now) then Some name.now else None) }
+    {
+        match name {
+            b"alnum" => Some(Class::Alnum),
+            b"alpha" => Some(Class::Alpha),
+            b"blank" => Some(Class::Blank),
+            b"cntrl" => Some(Class::Cntrl),
+            b"digit" => Some(Class::Digit),
+            b"graph" => Some(Class::Graph),
+            b"lower" => Some(Class::Lower),
+            b"print" => Some(Class::Print),
+            b"punct" => Some(Class::Punct),
+            b"space" => Some(Class::Space),
+            b"upper" => Some(Class::Upper),
+            b"xdigit" => Some(Class::Xdigit),
+            _ => None,
+        }
+    }
+
+    /// Whether it has the byte.
+    fn holds(self, byte: u8) -> bool
+        ensures { result ≡ passes (class_of (class_name self)) byte }
+    {
+        match self {
+            Class::Alnum => byte.is_ascii_alphanumeric(),
+            Class::Alpha => byte.is_ascii_alphabetic(),
+            Class::Blank => matches!(byte, b'\t' | b' '),
+            Class::Cntrl => byte.is_ascii_control(),
+            Class::Digit => byte.is_ascii_digit(),
+            Class::Graph => byte.is_ascii_graphic(),
+            Class::Lower => byte.is_ascii_lowercase(),
+            Class::Print => matches!(byte, 32..=126),
+            Class::Punct => byte.is_ascii_punctuation(),
+            Class::Space => matches!(byte, b'\t' | b'\n' | b'\r' | b' '),
+            Class::Upper => byte.is_ascii_uppercase(),
+            Class::Xdigit => byte.is_ascii_hexdigit(),
+        }
+    }
+}
+
+/// What a bracket lists.
+#[derive(Clone, Copy, Debug, PartialEq, Eq)]
+pub enum Item {
+    /// One byte.
+    Lone(u8),
+    /// From the first to the last, and nothing where the last is below the first.
+    Range(u8, u8),
+    /// The bytes of a class.
+    Class(Class),
+}
+
+impl Item {
+    /// Whether it holds the byte.
+    fn holds(self, byte: u8) -> bool
+        ensures { result ≡ item_holds byte (item_of self) }
+    {
+        match self {
+            Item::Lone(own) => own == byte,
+            Item::Range(first, last) => first <= byte && byte <= last,
+            Item::Class(class) => class.holds(byte),
+        }
+    }
+
+    /// The byte that a next `-` may start from.
+    fn single(self) -> Option<u8>
+        ensures { (size : ℕ) → result ≡ single_of (Listed (item_of self) size) }
+    {
+        match self {
+            Item::Lone(byte) => Some(byte),
+            Item::Range(_, _) | Item::Class(_) => None,
+        }
+    }
+}
+
+/// The items of a bracket, and what follows its `]`.
+#[derive(Debug, Drop)]
+pub struct Read<'p> {
+    pub items: Vec<Item>,
+    pub rest: &'p [u8],
+}
+
+/// What stands at the front of what is left of a bracket.
+enum Front {
+    /// An item of so many bytes.
+    Listed(Item, usize),
+    /// The closing `]`.
+    Closed,
+    /// Nothing that can be read.
+    Broken,
+}
+
+/// The items up to the closing `]` of a bracket, whose `[` and negation stand before these bytes; None where they
+/// can't be read.
+///
+/// The cost is linear in the bytes up to that `]`, or in all of them where no `]` closes the bracket.
+///
+/// # Errors
+/// Want of memory.
+pub fn read_items<'p>(alloc: Global, bytes: &'p [u8]) -> Result<Option<Read<'p>>, AllocError>
+    ensures { IfOk result (λ found. option_map read_of found ≡ items_from 0 true None bytes.now) }
+{
+    let mut items = Vec::new(alloc);
+    let mut last = None;
+    let mut rest = bytes;
+    let mut closing = first_closing(bytes);
+    loop {
+        match read_front(items.is_empty(), last, rest, closing) {
+            Front::Listed(item, size) => {
+                items.push(item)?;
+                last = item.single();
+                closing = closing_behind(rest, size, closing);
+                rest = rest.split_at(size).1;
+            }
+            Front::Closed => {
+                return Ok(Some(Read {
+                    items,
+                    rest: rest.split_at(1).1,
+                }));
+            }
+            Front::Broken => return Ok(None),
+        }
+    }
+}
+
+/// The front of what is left of a bracket: in the place of its first item or not, behind a single byte or not, and
+/// with the first `]` at this place.
+fn read_front(first: bool, last: Option<u8>, bytes: &[u8], closing: Option<usize>) -> Front
+    requires { closing ≡ position (λ b. b == close_bracket) bytes.now }
+    ensures { front_form result ≡ front_of first last bytes.now }
+{
+    let [byte, rest @ ..] = bytes else {
+        return Front::Broken;
+    };
+    if *byte == b']' && !first {
+        Front::Closed
+    } else if *byte == b'\\' {
+        escaped_front(rest)
+    } else if *byte == b'-' && makes_range(last, rest) {
+        range_front(last, rest)
+    } else if *byte == b'[' && begins_with_colon(rest) {
+        class_front(&rest[1..], closing_behind(bytes, 2, closing))
+    } else {
+        Front::Listed(Item::Lone(*byte), 1)
+    }
+}
+
+/// The byte at the front, behind a backslash, which its size counts.
+fn escaped_front(bytes: &[u8]) -> Front
+    ensures { front_form result ≡ escaped_item bytes.now }
+{
+    match bytes {
+        [byte, ..] => Front::Listed(Item::Lone(*byte), 2),
+        [] => Front::Broken,
+    }
+}
+
+/// Whether `-` makes a range, with these bytes behind it.
+fn makes_range(last: Option<u8>, bytes: &[u8]) -> bool
+    ensures { result ≡ makes_range last bytes.now }
+{
+    last.is_some() && matches!(bytes, [byte, ..] if *byte != b']')
+}
+
+/// The range from the last single byte to the byte at the front, which may stand behind a backslash. Its size counts
+/// the `-`.
+fn range_front(last: Option<u8>, bytes: &[u8]) -> Front
+    ensures { front_form result ≡ range_from last bytes.now }
+{
+    match (last, bytes) {
+        (Some(low), [b'\\', high, ..]) => Front::Listed(Item::Range(low, *high), 3),
+        (None, _) | (_, [] | [b'\\']) => Front::Broken,
+        (Some(low), [high, ..]) => Front::Listed(Item::Range(low, *high), 2),
+    }
+}
+
+/// Whether the first byte is `:`.
+fn begins_with_colon(bytes: &[u8]) -> bool
+    ensures { result ≡ first_is (λ b. b == colon) bytes.now }
+{
+    matches!(bytes, [b':', ..])
+}
+
+/// The class whose `[:` stands before these bytes, or the `[` as a byte.
+fn class_front(bytes: &[u8], closing: Option<usize>) -> Front
+    requires { closing ≡ position (λ b. b == close_bracket) bytes.now }
+    ensures { front_form result ≡ class_item bytes.now }
+{
+    let Some(end) = closing else {
+        return Front::Broken;
+    };
+    match name_before_colon(&bytes[..end]) {
+        Some(name) => named_front(name),
+        None => Front::Listed(Item::Lone(b'['), 1),
+    }
+}
+
+/// What stands before the last byte, where that one is `:`.
+fn name_before_colon(bytes: &[u8]) -> Option<&[u8]>
+    ensures { option_map (λ name. name.now) result ≡ (if first_is (λ b. b == colon) (drop (length bytes.now - 1) bytes.now) then Some (take (length bytes.now - 1) bytes.now) else None) }
+{
+    match bytes {
+        [name @ .., b':'] => Some(name),
+        _ => None,
+    }
+}
+
+/// The class of this name, which stands between `[:` and `:]`.
+fn named_front(name: &[u8]) -> Front
+    ensures { front_form result ≡ (if is_some (class_of name.now) then Listed (Named name.now) (length name.now + 4) else Broken) }
+{
+    match Class::from_name(name) {
+        Some(class) => Front::Listed(Item::Class(class), name.len() + 4),
+        None => Front::Broken,
+    }
+}
+
+/// The place of the first `]`.
+fn first_closing(bytes: &[u8]) -> Option<usize>
+    ensures { result ≡ position (λ b. b == close_bracket) bytes.now }
+{
+    bytes.iter().position(|byte| *byte == b']')
+}
+
+/// The place of the first `]` behind the first bytes, where the first of all has this place.
+fn closing_behind(bytes: &[u8], size: usize, closing: Option<usize>) -> Option<usize>
+    requires size { size ≤ length bytes.now }
+    requires closing { closing ≡ position (λ b. b == close_bracket) bytes.now }
+    ensures { result ≡ position (λ b. b == close_bracket) (drop size bytes.now) }
+{
+    let place = closing?;
+    if place < size {
+        // No byte is searched twice: this search begins behind the `]` that ended the one before.
+        first_closing(&bytes[size..])
+    } else {
+        Some(place - size)
+    }
+}
+
+/// Whether the items hold the byte; without case, its lower or its upper form.
+pub fn hold(items: &[Item], case: Case, byte: u8) -> bool
+    ensures { result ≡ hold case (items_of items.now) byte }
+{
+    match case {
+        Case::Sensitive => any_holds(items, byte),
+        Case::Fold => {
+            any_holds(items, byte.to_ascii_lowercase())
+                || any_holds(items, byte.to_ascii_uppercase())
+        }
+    }
+}
+
+/// Whether an item holds the byte.
+fn any_holds(items: &[Item], byte: u8) -> bool
+    ensures { result ≡ list_any (λ i. item_holds byte (item_of i)) items.now }
+{
+    items.iter().any(|item| item.holds(byte))
+}
+
+#[cfg(test)]
+mod tests {
+    use super::*;
+    use std::test::Fail;
+
+    /// Whether one of the ranges has the byte.
+    fn is_within(ranges: &[(u8, u8)], byte: u8) -> bool {
+        ranges
+            .iter()
+            .any(|range| range.0 <= byte && byte <= range.1)
+    }
+
+    #[test]
+    fn classes_hold_their_bytes(rt: HostRuntime) {
+        let rows = [
+            ("alnum", [(48, 57), (65, 90), (97, 122)].as_slice()),
+            ("alpha", [(65, 90), (97, 122)].as_slice()),
+            ("blank", [(9, 9), (32, 32)].as_slice()),
+            ("cntrl", [(0, 31), (127, 127)].as_slice()),
+            ("digit", [(48, 57)].as_slice()),
+            ("graph", [(33, 126)].as_slice()),
+            ("lower", [(97, 122)].as_slice()),
+            ("print", [(32, 126)].as_slice()),
+            (
+                "punct",
+                [(33, 47), (58, 64), (91, 96), (123, 126)].as_slice(),
+            ),
+            ("space", [(9, 10), (13, 13), (32, 32)].as_slice()),
+            ("upper", [(65, 90)].as_slice()),
+            ("xdigit", [(48, 57), (65, 70), (97, 102)].as_slice()),
+            ("", [].as_slice()),
+            ("foo", [].as_slice()),
+            ("Alpha", [].as_slice()),
+            ("alph", [].as_slice()),
+            ("xdigits", [].as_slice()),
+        ];
+        for (name, ranges) in rows {
+            let class = Class::from_name(name.as_bytes());
+            assert_eq!(rt; class.is_some(), !ranges.is_empty(), "{name}");
+            if let Some(class) = class {
+                for byte in 0..=255 {
+                    assert_eq!(rt; class.holds(byte), is_within(ranges, byte), "{name} {byte}");
+                }
+            }
+        }
+    }
+
+    #[test]
+    fn brackets_hold_what_they_list(rt: HostRuntime) -> Result<(), Fail> {
+        for (text, held, rest) in [
+            ("]x]", "]x", ""),
+            ("a-]", "a-", ""),
+            ("a-c-e]", "abc-e", ""),
+            ("z-a]", "z", ""),
+            ("a-\\c]", "abc", ""),
+            ("\\a-c]x", "abc", "x"),
+            ("]-a]", "]^_`a", ""),
+            ("--0]", "-./0", ""),
+            ("\\]]", "]", ""),
+            ("[:digit:]-z]", "0123456789-z", ""),
+            ("[[:digit:]]]", "[0123456789", "]"),
+            ("\\][:digit:]]", "]0123456789", ""),
+            ("a-[:digit:]]", "a:digt", "]"),
+            ("[:]", "[:", ""),
+            ("[:]x]", "[:", "x]"),
+            ("[:ab]c", "[:ab", "c"),
+            ("[:[:x]", "[:x", ""),
+            ("[:\\]x]", "[:]x", ""),
+        ] {
+            let read = read_items(rt.alloc(), text.as_bytes())?.ok_or("no items")?;
+            assert_eq!(rt; read.rest, rest.as_bytes(), "{text}");
+            for byte in 0..=255 {
+                let holds = hold(&read.items, Case::Sensitive, byte);
+                assert_eq!(rt; holds, held.as_bytes().contains(&byte), "{text} {byte}");
+            }
+        }
+        Ok(())
+    }
+
+    #[test]
+    fn brackets_that_do_not_close_cannot_be_read(rt: HostRuntime) -> Result<(), Fail> {
+        for text in [
+            "",
+            "a",
+            "]",
+            "]a",
+            "\\]",
+            "a\\",
+            "a-",
+            "a-\\",
+            "[:alpha",
+            "[:alpha:]",
+            "[:foo:]]",
+            "[::]]",
+            "[:a[:]x]",
+        ] {
+            let read = read_items(rt.alloc(), text.as_bytes())?;
+            assert!(rt; read.is_none(), "{text}");
+        }
+        Ok(())
+    }
+
+    #[test]
+    fn without_case_either_form_is_held(rt: HostRuntime) -> Result<(), Fail> {
+        for (text, byte, exactly, either) in [
+            ("[:upper:]]", b'q', false, true),
+            ("[:lower:]]", b'Q', false, true),
+            ("A]", b'a', false, true),
+            ("a]", b'a', true, true),
+            ("x-z]", b'Y', false, true),
+            ("X-Z]", b'b', false, false),
+            ("1]", b'1', true, true),
+        ] {
+            let read = read_items(rt.alloc(), text.as_bytes())?.ok_or("no items")?;
+            assert_eq!(rt; hold(&read.items, Case::Sensitive, byte), exactly, "{text}");
+            assert_eq!(rt; hold(&read.items, Case::Fold, byte), either, "{text}");
+        }
+        Ok(())
+    }
+}

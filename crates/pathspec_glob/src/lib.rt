@@ -1,0 +1,59 @@
+//! Globs (git's wildmatch).
+#![tactic(auto)]
+
+ghost use Rattle.std.specs.Prelude.{◌≡◌, is_some};
+ghost use Rattle.std.specs.List.{list_any, position};
+ghost use Rattle.pathspec_glob.specs.Bytes.{is_wildcard};
+
+mod brackets;
+mod matcher;
+mod places;
+mod reading;
+mod tokens;
+
+pub use matcher::{Glob, Scratch};
+
+/// What the wildcards of a glob may take.
+#[derive(Clone, Copy, Debug, PartialEq, Eq)]
+pub enum Mode {
+    /// `*`, `?` and brackets take `/` too, as in a pathspec without `:(glob)`.
+    Shell,
+    /// `*`, `?` and brackets don't take `/`, and `**` takes directories, as in a pathspec with `:(glob)`.
+    PathAware,
+}
+
+/// Whether ASCII case counts in a comparison.
+#[derive(Clone, Copy, Debug, PartialEq, Eq)]
+pub enum Case {
+    /// `a` and `A` are two.
+    Sensitive,
+    /// `a` and `A` are one.
+    Fold,
+}
+
+/// The place of the first `*`, `?`, `[` or `\`.
+///
+/// It looks at each byte up to that one.
+pub fn first_wildcard(text: &[u8]) -> Option<usize>
+    ensures place { result ≡ position is_wildcard text.now }
+    ensures found { is_some result ≡ list_any is_wildcard text.now }
+{
+    place_of_wildcard(text)
+}
+
+/// The place of the first wildcard byte.
+fn place_of_wildcard(text: &[u8]) -> Option<usize>
+    ensures { result ≡ position is_wildcard text.now }
+{
+    text.iter().position(|byte| is_wildcard(*byte))
+}
+
+/// Whether the byte is one of `*`, `?`, `[` and `\`.
+fn is_wildcard(byte: u8) -> bool
+    ensures { result ≡ is_wildcard byte }
+{
+    matches!(byte, b'*' | b'?' | b'[' | b'\\')
+}
+
+#[cfg(test)]
+mod tests;

@@ -1,0 +1,184 @@
+//! The tokens of globs, and the one question that a text is asked with them.
+ghost use Rattle.std.specs.Prelude.{◌≡◌, ◌+◌, ◌<◌, ◌≤◌, ◌^◌, length, drop, map, IfOk, IsTrue};
+ghost use Rattle.pathspec_glob.specs.GlobRelation.{same_byte, bars, takes, passes_over};
+ghost use Rattle.pathspec_glob.specs.GlobForms.{single_form, token_of, tokens_of};
+ghost use Rattle.pathspec_glob.specs.GlobSteps.{is_deep_token, is_wide, is_wide_at, may_pass_over_at, parts_of, takes_byte, tests_at};
+
+use crate::brackets::{self, Item};
+use crate::{Case, Mode, reading};
+use std::alloc::{AllocError, Global};
+use std::marker::Model;
+
+/// What one byte of a text is held to.
+#[derive(Debug, Drop)]
+pub enum Single {
+    /// This byte.
+    Byte(u8),
+    /// This byte, which stands behind a backslash in the pattern.
+    Quoted(u8),
+    /// Any byte.
+    Any,
+    /// A byte that the items hold, or one that they don't.
+    Bracket(bool, Vec<Item>),
+    /// No byte.
+    Dead,
+}
+
+/// One part of a glob.
+#[derive(Debug, Drop)]
+pub enum Token {
+    /// One byte.
+    One(Single),
+    /// Any bytes without `/`.
+    Star,
+    /// Any bytes.
+    Deep,
+}
+
+/// The tokens of a glob.
+#[derive(Debug, Drop)]
+pub struct Tokens {
+    mode: Mode,
+    all: Vec<Token>,
+}
+
+impl Model for Tokens {
+    ghost use Rattle.pathspec_glob.specs.GlobForms.{tokens_of};
+    ghost use Rattle.pathspec_glob.specs.GlobSteps.{Parts};
+
+    ghost Value = { Parts };
+
+    ghost view = { λ t. record { mode = t.mode; tokens = tokens_of t.all.items } };
+}
+
+impl Tokens {
+    /// The tokens of a pattern. The cost is linear in the pattern.
+    ///
+    /// # Errors
+    /// Want of memory.
+    pub fn read(alloc: Global, pattern: &[u8], mode: Mode) -> Result<Tokens, AllocError>
+        ensures { IfOk result (λ read. read ≡ parts_of mode pattern.now) }
+    {
+        Ok(Tokens {
+            mode,
+            all: reading::tokens(alloc, pattern, mode)?,
+        })
+    }
+
+    /// How many they are.
+    pub fn len(&self) -> usize
+        ensures { result ≡ length self.now.tokens }
+    {
+        self.all.len()
+    }
+
+    /// Whether the token at this place takes any number of bytes.
+    pub fn is_wide(&self, place: usize) -> bool
+        requires { place < length self.now.tokens }
+        ensures { result ≡ is_wide_at (drop place self.now.tokens) }
+    {
+        self.all[place].is_wide()
+    }
+
+    /// Whether the token at this place may stand for nothing together with the next: in PathAware, where it takes
+    /// any bytes and the next is a plain `/`.
+    pub fn may_pass_over(&self, place: usize) -> bool
+        requires { place < length self.now.tokens }
+        ensures over { result ≡ may_pass_over_at self.now.mode (drop place self.now.tokens) }
+        ensures next { IsTrue result → place + 1 < length self.now.tokens }
+    {
+        may_pass_over(self.mode, &self.all[place..])
+    }
+
+    /// Tests the token at a place on the first byte of a text, which raises the count of steps by one: whether the
+    /// token takes the byte. None takes the end of a text.
+    pub fn test(&self, place: usize, text: &[u8], case: Case, steps: &mut u128) -> bool
+        requires place { place < length self.now.tokens }
+        requires room { steps.old + 1 < 2 ^ 128 }
+        ensures answer { result ≡ tests_at self.now.mode case (drop place self.now.tokens) text.now }
+        ensures counted { steps.new ≡ steps.old + 1 }
+    {
+        *steps += 1;
+        match text.first() {
+            None => false,
+            Some(byte) => self.all[place].takes(self.mode, case, *byte),
+        }
+    }
+}
+
+/// Whether the first of the tokens may stand for nothing together with the second.
+fn may_pass_over(mode: Mode, tokens: &[Token]) -> bool
+    ensures { result ≡ may_pass_over_at mode (tokens_of tokens.now) }
+{
+    match tokens {
+        [first, next, ..] => first.is_deep() && next.is_passed_over(mode),
+        _ => false,
+    }
+}
+
+impl Token {
+    /// Whether it takes any bytes.
+    fn is_deep(&self) -> bool
+        ensures { result ≡ is_deep_token (token_of self.now) }
+    {
+        matches!(self, Token::Deep)
+    }
+
+    /// Whether deep before it may stand for nothing with it.
+    fn is_passed_over(&self, mode: Mode) -> bool
+        ensures { result ≡ passes_over mode (token_of self.now) }
+    {
+        mode == Mode::PathAware && matches!(self, Token::One(Single::Byte(b'/')))
+    }
+
+    /// Whether it takes any number of bytes.
+    fn is_wide(&self) -> bool
+        ensures { result ≡ is_wide (token_of self.now) }
+    {
+        !matches!(self, Token::One(_))
+    }
+
+    /// Whether it takes a byte, alone or with others.
+    fn takes(&self, mode: Mode, case: Case, byte: u8) -> bool
+        ensures { result ≡ takes_byte mode case (token_of self.now) byte }
+    {
+        match self {
+            Token::One(single) => single.takes(mode, case, byte),
+            Token::Star => byte != b'/',
+            Token::Deep => true,
+        }
+    }
+}
+
+impl Single {
+    /// Whether a byte is as this wants it.
+    fn takes(&self, mode: Mode, case: Case, byte: u8) -> bool
+        ensures { result ≡ takes mode case (single_form self.now) byte }
+    {
+        match self {
+            Single::Byte(own) | Single::Quoted(own) => is_same(case, *own, byte),
+            Single::Any => !is_barred(mode, byte),
+            Single::Bracket(negated, items) => {
+                !is_barred(mode, byte) && brackets::hold(items, case, byte) != *negated
+            }
+            Single::Dead => false,
+        }
+    }
+}
+
+/// Whether the bytes are one, up to case where it doesn't count.
+fn is_same(case: Case, own: u8, byte: u8) -> bool
+    ensures { result ≡ same_byte case own byte }
+{
+    match case {
+        Case::Sensitive => own == byte,
+        Case::Fold => own.eq_ignore_ascii_case(&byte),
+    }
+}
+
+/// Whether the mode keeps the byte from `?` and from brackets.
+fn is_barred(mode: Mode, byte: u8) -> bool
+    ensures { result ≡ bars mode byte }
+{
+    mode == Mode::PathAware && byte == b'/'
+}

@@ -1,7 +1,0 @@
-use Rattle.std.proofs.Common.{is_some, ap, ◌∙◌}
-use Rattle.pathspec_parts.specs.Bytes.{is_wildcard}
-use Rattle.pathspec_parts.proofs.BracketProofs.{position-any}
-use Rattle.pathspec_parts.proofs.glob.first_wildcard.Goals as goal
-
-pub returns-clause-found : goal.returns-clause-found
-returns-clause-found c = ap is_some c.place_of_wildcard.ensures ∙ position-any is_wildcard c.args.text.now

@@ -1,6 +1,0 @@
-use Rattle.std.proofs.lemmas.List.{take_rest}
-use Rattle.pathspec_parts.proofs.TokenProofs.{run-read}
-use Rattle.pathspec_parts.proofs.glob.reading.run.Goals as goal
-
-pub returns : goal.returns
-returns c = run-read c.args.mode c.args.behind_slash c.args.rest.now _ _ c.count_stars-more.ensures.count (rw take_rest at c.run_token.ensures)
