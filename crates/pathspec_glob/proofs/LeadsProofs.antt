@@ -1,7 +1,7 @@
 -- A set of places leads to the same texts, however it is gone on from.
 use Rattle.std.proofs.Common.{◌≡◌, ℕ, zero, suc, ◌+◌, ◌-◌, ◌<◌, ◌≤◌, Bool, true, false, not, ◌&&◌, ◌||◌, refl, sym, ◌∙◌, ap, add-one, arith, List, [], ◌∷◌, ◌++◌, length, replicate, get_or, set, drop, if◌then◌else◌}
 use Rattle.std.proofs.lemmas.Bool.{and_parts}
-use Rattle.std.proofs.Math.Bool.{or-false, or_assoc, and-false, and-true}
+use Rattle.std.proofs.Math.Bool.{or-false, or_assoc, and-true}
 use Rattle.std.proofs.Math.Seq.{drop-length}
 use Rattle.std.proofs.lemmas.List.{length-set, length-drop, drop-set-add, drop-set-lt, get_or-set_same, get_or-set_other}
 use Rattle.pathspec_glob.specs.declared.Mode.{Mode}
@@ -294,18 +294,6 @@ module _ (mode : Mode) (case : Case) where
       leads_before-same n ts E come S S text (λ i k. get_or-set_other E n i arrives false (λ e. omega arith)) (λ i k. refl) in
       let there : holds (drop n come) 0 ≡ arrives = first-from come n ∙ get_or-set_same E n arrives false g in
       leads-split n ts come S text (omega arith) ∙ rw (same, leads-behind ts (drop n come) (drop n S) text, there) refl
-
-  -- Once all places have been visited, they lead to what the visits led to.
-  pub byte-end : (ts : List Token) (E S : List Bool) (arrives : Bool) (b : ℕ) (bs : List ℕ) → length ts < length E
-      → leads mode case ts (set E (length ts) arrives) S bs ≡ goes_on (length ts) ts E S arrives b bs
-  byte-end ts E S arrives b bs g =
-      leads-end_come ts E S arrives bs g
-      ∙ rw (matches-behind ts bs, leads-behind ts (drop (length ts) E) (drop (length ts) S) (b ∷ bs), and-false, or-false) refl
-
-  -- Where no place leads to anything and none is come to, nothing is led to.
-  pub none-end : (ts : List Token) (E S : List Bool) (text : List ℕ) → length ts < length E → leads_before mode case (length ts) ts E S text ≡ false
-      → leads mode case ts (set E (length ts) false) S text ≡ false
-  none-end ts E S text g none = leads-end_come ts E S false text g ∙ rw none refl
 
   -- Once all places are closed, they lead to the end where the last is come to.
   pub end-end : (ts : List Token) (E S : List Bool) → leads mode case (drop (length ts) ts) (drop (length ts) E) (drop (length ts) S) [] ≡ holds E (length ts)

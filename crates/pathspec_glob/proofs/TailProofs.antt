@@ -162,11 +162,6 @@ tail_pattern_ends mode case pattern text t m =
     let r = glob_is_relation mode case (tokens mode pattern) text in
     (λ h. sym e ∙ r.1 h, λ h. r.0 (e ∙ h))
 
--- In PathAware a text may hold slashes in what the rest takes, and none before it.
-pub matches-path_tail : (case : Case) (rest text : List ℕ) → list_any is_wildcard rest ≡ false
-    → matches PathAware case (tokens PathAware (star ∷ rest)) text ≡ (list_all (λ b. not (b == slash)) (take (length text - length rest) text) && ends_with nat_eq (folded (folds case) text) (folded (folds case) rest))
-matches-path_tail case rest text h = rw (tokens-tail PathAware rest h, matches-star case rest text, ends_with-folded case rest text) refl
-
 -- what agrees with the end of a text is no longer than it
 tail-agrees : (E : ℕ → ℕ → Bool) (rest text : List ℕ) (n : ℕ) → pointwise E rest (drop n text) ≡ true → length rest ≤ length text
 tail-agrees E rest text n h = let same : length rest ≡ length (drop n text) = length-pointwise E rest (drop n text) h in omega (arith, same, length-drop n text)

@@ -1,12 +1,13 @@
 -- Places in the tokens of a glob: a place is before a token that has just been come to, or within one that has taken bytes and may take more.
-use Rattle.std.specs.Prelude.{◌≡◌, ◌<◌, ◌≤◌, nat_lt, ℕ, zero, suc, ◌+◌, Bool, true, false, not, ◌&&◌, ◌||◌, List, [], ◌∷◌, get_or, set, drop, ◌==◌, if◌then◌else◌}
+use Rattle.std.specs.Prelude.{◌≡◌, ◌<◌, ◌≤◌, nat_lt, ℕ, zero, suc, ◌+◌, Bool, true, false, not, ◌&&◌, ◌||◌, List, [], ◌∷◌, get_or, set, drop, ◌==◌, if◌then◌else◌, length}
 use Rattle.pathspec_glob.specs.declared.Mode.{Mode}
 use Rattle.pathspec_glob.specs.declared.Case.{Case}
+use Rattle.pathspec_glob.specs.declared.places.Places.{Places}
 use Rattle.pathspec_glob.specs.Bytes.{slash, is_empty}
 use Rattle.pathspec_glob.specs.Tokens.{Token}
 use Rattle.pathspec_glob.specs.Tokens.Token.{One, Star, Deep}
 use Rattle.pathspec_glob.specs.GlobRelation.{matches, first_taken, some_end, takes}
-use Rattle.pathspec_glob.specs.GlobSteps.{is_wide_at, may_pass_over_at}
+use Rattle.pathspec_glob.specs.GlobSteps.{Parts, is_wide_at, may_pass_over_at, token_takes}
 
 -- The tokens match from within the first one: a deep token that has been come to before is no longer left out together with its slash.
 abbrev pub stays : Mode → Case → List Token → List ℕ → Bool
@@ -66,3 +67,76 @@ first_behind held place first = if not held && (first == place) then place + 1 e
 
 abbrev pub end_behind : Bool → ℕ → ℕ → ℕ
 end_behind held place end = if held then place + 1 else end
+
+-- ---- the same of a set of places
+
+-- a place more can be come to than tokens can stay
+abbrev pub IsPaired : Places → Type 0
+IsPaired places = length places.entered.items ≡ length places.staying.items + 1
+
+-- the set is made for just so many tokens
+pub record IsMadeFor (tokens : ℕ) (places : Places) : Type 0 where
+  pub staying : length places.staying.items ≡ tokens
+  pub entered : length places.entered.items ≡ tokens + 1
+
+-- the set has room for the places of so many tokens
+pub record HasRoom (tokens : ℕ) (places : Places) : Type 0 where
+  pub entered : tokens < length places.entered.items
+  pub staying : tokens ≤ length places.staying.items
+
+-- the set has the room that it had
+pub record KeepsRoom (old new : Places) : Type 0 where
+  pub entered : length new.entered.items ≡ length old.entered.items
+  pub staying : length new.staying.items ≡ length old.staying.items
+
+-- the set holds no place before its first or from its end on
+abbrev pub IsBounded : ℕ → Places → Type 0
+IsBounded tokens places = HoldsWithin tokens places.first places.end places.entered.items places.staying.items
+
+-- the set holds the place
+abbrev pub is_held : Places → ℕ → Bool
+is_held places place = is_inside places.entered.items places.staying.items place
+
+-- from some place of the set, the tokens match the text
+abbrev pub places_lead : Parts → Case → Places → List ℕ → Bool
+places_lead parts case places text = leads parts.mode case parts.tokens places.entered.items places.staying.items text
+
+-- the places lead to just what the tokens match
+abbrev pub LeadsFromStart : Parts → Places → Type 0
+LeadsFromStart parts places =
+    (case : Case) (text : List ℕ) → places_lead parts case places text ≡ matches parts.mode case parts.tokens text
+
+-- the places lead no text to an end
+abbrev pub LeadsNowhere : Parts → Case → Places → Type 0
+LeadsNowhere parts case places = (text : List ℕ) → places_lead parts case places text ≡ false
+
+-- behind the first byte of the text, the new places lead to what the old ones lead to before it
+abbrev pub LeadsOn : Parts → Case → Places → Places → List ℕ → Type 0
+LeadsOn parts case old new text =
+    (b : ℕ) (bs : List ℕ) → text ≡ b ∷ bs → places_lead parts case new bs ≡ places_lead parts case old text
+
+-- the places that are come to once those that the token at this place leads to without a byte are too
+abbrev pub closure_at : Parts → ℕ → Places → List Bool
+closure_at parts place places = closed parts.mode parts.tokens place places.entered.items places.staying.items
+
+-- the first byte of the text leads from this place to the next
+abbrev pub moves_behind : Parts → Case → Places → ℕ → List ℕ → Bool
+moves_behind parts case places place text =
+    is_held places place && token_takes parts case place text && not (is_wide_at (drop place parts.tokens))
+
+-- after the first byte of the text, the token at this place may take more
+abbrev pub moves_within : Parts → Case → Places → ℕ → List ℕ → Bool
+moves_within parts case places place text =
+    is_held places place && token_takes parts case place text && is_wide_at (drop place parts.tokens)
+
+-- the places that are come to, and those whose tokens stay, once this place has taken a byte
+abbrev pub entered_after : Parts → ℕ → Bool → Places → List Bool
+entered_after parts place arrives places = set (closure_at parts place places) place arrives
+
+abbrev pub staying_after : Parts → Case → ℕ → List ℕ → Places → List Bool
+staying_after parts case place text places =
+    set places.staying.items place (moves_within parts case places place text)
+
+-- the steps that a place takes on one byte
+abbrev pub steps_at : Places → ℕ → ℕ
+steps_at places place = if is_held places place then 1 else 0

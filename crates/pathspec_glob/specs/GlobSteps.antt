@@ -1,5 +1,5 @@
 -- The steps of a glob: one token, tested at one position of a text.
-use Rattle.std.specs.Prelude.{ℕ, Bool, true, false, not, ◌&&◌, List, [], ◌∷◌, ◌==◌}
+use Rattle.std.specs.Prelude.{ℕ, Bool, true, false, not, ◌&&◌, List, [], ◌∷◌, ◌==◌, drop}
 use Rattle.pathspec_glob.specs.declared.Mode.{Mode}
 use Rattle.pathspec_glob.specs.declared.Case.{Case}
 use Rattle.pathspec_glob.specs.Bytes.{slash}
@@ -49,3 +49,7 @@ abbrev pub tests_at : Mode → Case → List Token → List ℕ → Bool
 tests_at mode case [] text = false
 tests_at mode case (t ∷ ts) [] = false
 tests_at mode case (t ∷ ts) (b ∷ bs) = takes_byte mode case t b
+
+-- The token at a place takes the first byte of the text.
+abbrev pub token_takes : Parts → Case → ℕ → List ℕ → Bool
+token_takes parts case place text = tests_at parts.mode case (drop place parts.tokens) text

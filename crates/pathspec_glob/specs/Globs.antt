@@ -5,6 +5,8 @@ use Rattle.pathspec_glob.specs.declared.Mode.{Mode}
 use Rattle.pathspec_glob.specs.declared.Mode.TheVariants.{Shell}
 use Rattle.pathspec_glob.specs.declared.Case.{Case}
 use Rattle.pathspec_glob.specs.declared.Case.TheVariants.{Sensitive, Fold}
+use Rattle.pathspec_glob.specs.declared.places.Places.{Places}
+use Rattle.pathspec_glob.specs.declared.scratch.tokens.Steps.{Steps}
 use Rattle.pathspec_glob.specs.Bytes.{slash, star, first_is, folded, is_wildcard}
 use Rattle.pathspec_glob.specs.Tokens.{Token, tokens}
 use Rattle.pathspec_glob.specs.GlobRelation.{Matches, matches}
@@ -18,10 +20,19 @@ pub record Compiled : Type 0 where
 abbrev pub tokens_in : Compiled → List Token
 tokens_in glob = tokens glob.mode glob.pattern
 
--- the room of a scratch: for so many tokens, and with so many steps counted
+-- The room of a scratch: for so many tokens, and with so many steps counted in the last match, and in all together.
 pub record Room : Type 0 where
   pub tokens : ℕ
   pub steps : ℕ
+  pub total_steps : ℕ
+
+-- new room for so many tokens
+abbrev pub room_for : ℕ → Room
+room_for tokens = record { tokens = tokens; steps = 0; total_steps = 0 }
+
+-- the room that a set of places and a count make
+abbrev pub room_of : Places → Steps → Room
+room_of places steps = record { tokens = length places.staying.items; steps = steps.last; total_steps = steps.total }
 
 -- case does not count
 abbrev pub folds : Case → Bool

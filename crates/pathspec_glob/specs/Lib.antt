@@ -5,3 +5,4 @@ pub mod GlobForms
 pub mod GlobSteps
 pub mod GlobPlaces
 pub mod Globs
+pub mod Counts

@@ -1,5 +1,5 @@
 -- Glob patterns as tokens (git's wildmatch).
-use Rattle.std.specs.Prelude.{ℕ, zero, suc, ◌+◌, ◌-◌, Bool, true, false, not, ◌&&◌, ◌||◌, List, [], ◌∷◌, length, take, drop, codes, bytes_eq, ◌==◌, if◌then◌else◌, Option, Some, None, is_some, nat_le}
+use Rattle.std.specs.Prelude.{◌≡◌, ℕ, zero, suc, ◌+◌, ◌-◌, Bool, true, false, not, ◌&&◌, ◌||◌, List, [], ◌∷◌, length, take, drop, codes, bytes_eq, ◌==◌, if◌then◌else◌, Option, Some, None, is_some, nat_le}
 use Rattle.std.specs.List.{list_any, before_first, prefix_len}
 use Rattle.std.specs.Int.{is_in_range}
 use Rattle.std.specs.Char.{is_ascii_alphanumeric, is_ascii_alphabetic, is_ascii_control, is_ascii_digit, is_ascii_graphic, is_ascii_lowercase, is_ascii_uppercase, is_ascii_hexdigit}
@@ -33,6 +33,10 @@ class_of name =
     else if bytes_eq name (codes "xdigit") then Some is_ascii_hexdigit
     else None
 
+-- the name, where it is that of a class
+abbrev pub known_class : List ℕ → Option (List ℕ)
+known_class name = if is_some (class_of name) then Some name else None
+
 -- what stands at the front of a bracket's rest: an item of so many bytes, its closing `]`, or nothing that can be read
 pub data Front : Type 0 where
   Listed : (item : Item) (size : ℕ) → Front
@@ -58,6 +62,16 @@ makes_range last rest = is_some last && first_is (λ b. not (b == close_bracket)
 abbrev pub range_from : Option ℕ → List ℕ → Front
 range_from None rest = Broken
 range_from (Some low) rest = range_item low rest
+
+-- what stands before the last byte, where that one is `:`
+abbrev pub before_last_colon : List ℕ → Option (List ℕ)
+before_last_colon text =
+    let front = length text - 1 in
+    if first_is (λ b. b == colon) (drop front text) then Some (take front text) else None
+
+-- the class of this name, which stands between `[:` and `:]`
+abbrev pub named_class : List ℕ → Front
+named_class name = if is_some (class_of name) then Listed (Class name) (length name + 4) else Broken
 
 -- `[:` with a name and `:]` is a class; where no `:` stands before the next `]`, the `[` is a byte; without a `]` nothing can be read
 abbrev pub class_item : List ℕ → Front
@@ -175,6 +189,10 @@ run_token PathAware behind run rest = if is_deep behind run rest then Deep else 
 abbrev pub run_piece : Mode → Bool → ℕ → List ℕ → Piece
 run_piece mode behind run text = record { token = run_token mode behind run (drop run text); size = run }
 
+-- the same of the run whose first star stands before this rest
+abbrev pub stars_piece : Mode → Bool → List ℕ → Piece
+stars_piece mode behind rest = run_piece mode behind (prefix_len (λ c. c == star) (star ∷ rest)) (star ∷ rest)
+
 -- the token at the front of a pattern, at its start or behind a slash, or not
 abbrev pub piece_of : Mode → Bool → ℕ → List ℕ → Piece
 piece_of mode behind b rest =
@@ -188,6 +206,14 @@ piece_of mode behind b rest =
 abbrev pub token_before : Token → List Token → List Token
 token_before (One Dead) others = One Dead ∷ []
 token_before token others = token ∷ others
+
+-- the token ends a pattern, whatever follows it
+abbrev pub EndsPattern : Token → Type 0
+EndsPattern token = (others : List Token) → token_before token others ≡ token ∷ []
+
+-- the token stands before those that follow it
+abbrev pub StandsBefore : Token → Type 0
+StandsBefore token = (others : List Token) → token_before token others ≡ token ∷ others
 
 -- The tokens of a pattern from left to right. The first skip bytes belong to the token before.
 unfoldable pub tokens_from : Mode → ℕ → Bool → List ℕ → List Token

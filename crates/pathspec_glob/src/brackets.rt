@@ -1,11 +1,10 @@
 //! Brackets of globs: the bytes that `[` .. `]` lists (git's wildmatch).
-ghost use Rattle.std.specs.Prelude.{◌≡◌, ◌≤◌, ◌==◌, ◌+◌, ◌-◌, ℕ, Option, Some, None, IfOk, is_some, true, if◌then◌else◌, length, take, drop};
+ghost use Rattle.std.specs.Prelude.{◌≡◌, ◌≤◌, ◌==◌, ℕ, None, IfOk, true, length, drop};
 ghost use Rattle.std.specs.Option.{option_map};
 ghost use Rattle.std.specs.List.{list_any, position};
 ghost use Rattle.pathspec_glob.specs.Bytes.{close_bracket, colon, first_is};
-ghost use Rattle.pathspec_glob.specs.Tokens.{class_item, class_of, escaped_item, front_of, items_from, makes_range, range_from, single_of};
-ghost use Rattle.pathspec_glob.specs.Tokens.Item.{Class as Named};
-ghost use Rattle.pathspec_glob.specs.Tokens.Front.{Listed, Broken};
+ghost use Rattle.pathspec_glob.specs.Tokens.{before_last_colon, class_item, class_of, escaped_item, front_of, items_from, known_class, makes_range, named_class, range_from, single_of};
+ghost use Rattle.pathspec_glob.specs.Tokens.Front.{Listed};
 ghost use Rattle.pathspec_glob.specs.GlobRelation.{hold, item_holds, passes};
 ghost use Rattle.pathspec_glob.specs.GlobForms.{class_name, front_form, item_of, items_of, read_of};
 
@@ -44,7 +43,7 @@ pub enum Class {
 impl Class {
     /// The class of this name.
     fn from_name(name: &[u8]) -> Option<Class>
-        ensures { option_map class_name result ≡ (if is_some (class_of name.now) then Some name.now else None) }
+        ensures { option_map class_name result ≡ known_class name.now }
     {
         match name {
             b"alnum" => Some(Class::Alnum),
@@ -242,7 +241,7 @@ fn class_front(bytes: &[u8], closing: Option<usize>) -> Front
 
 /// What stands before the last byte, where that one is `:`.
 fn name_before_colon(bytes: &[u8]) -> Option<&[u8]>
-    ensures { option_map (λ name. name.now) result ≡ (if first_is (λ b. b == colon) (drop (length bytes.now - 1) bytes.now) then Some (take (length bytes.now - 1) bytes.now) else None) }
+    ensures { option_map (λ name. name.now) result ≡ before_last_colon bytes.now }
 {
     match bytes {
         [name @ .., b':'] => Some(name),
@@ -252,7 +251,7 @@ fn name_before_colon(bytes: &[u8]) -> Option<&[u8]>
 
 /// The class of this name, which stands between `[:` and `:]`.
 fn named_front(name: &[u8]) -> Front
-    ensures { front_form result ≡ (if is_some (class_of name.now) then Listed (Named name.now) (length name.now + 4) else Broken) }
+    ensures { front_form result ≡ named_class name.now }
 {
     match Class::from_name(name) {
         Some(class) => Front::Listed(Item::Class(class), name.len() + 4),

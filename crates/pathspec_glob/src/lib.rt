@@ -9,9 +9,10 @@ mod brackets;
 mod matcher;
 mod places;
 mod reading;
-mod tokens;
+mod scratch;
 
-pub use matcher::{Glob, Scratch};
+pub use matcher::Glob;
+pub use scratch::Scratch;
 
 /// What the wildcards of a glob may take.
 #[derive(Clone, Copy, Debug, PartialEq, Eq)]

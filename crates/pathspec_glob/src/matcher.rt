@@ -1,9 +1,10 @@
 //! Globs and texts: the places in a glob that the front of a text leads to.
 ghost use Rattle.std.specs.Prelude.{◌≡◌, ◌≤◌, ◌<◌, ◌+◌, ◌*◌, ◌^◌, ◌↔◌, length, IfOk, IsTrue};
 ghost use Rattle.pathspec_glob.specs.Globs.{tokens_in, AnswersGlob, AnswersTail};
+ghost use Rattle.pathspec_glob.specs.Counts.{Counts};
 
-use crate::places::Places;
-use crate::tokens::Tokens;
+use crate::scratch::Scratch;
+use crate::scratch::tokens::Tokens;
 use crate::{Case, Mode};
 use std::alloc::{AllocError, Global};
 use std::marker::Model;
@@ -25,45 +26,6 @@ impl Model for Glob {
     ghost view = { λ g. record { mode = g.tokens.mode; pattern = g.pattern.items } };
 
     ghost invariant = { λ g. g.tokens ≡ parts_of g.tokens.mode g.pattern.items };
-}
-
-/// The room that a match works in.
-#[derive(Debug, Drop)]
-pub struct Scratch {
-    places: Places,
-}
-
-impl Model for Scratch {
-    ghost use Rattle.std.specs.Prelude.{◌≡◌, ◌+◌, length};
-    ghost use Rattle.pathspec_glob.specs.Globs.{Room};
-
-    ghost Value = { Room };
-
-    ghost view = { λ s. record { tokens = length s.places.staying.items; steps = s.places.steps } };
-
-    ghost invariant = { λ s. length s.places.entered.items ≡ length s.places.staying.items + 1 };
-}
-
-impl Scratch {
-    /// Room for globs of at most so many tokens.
-    ///
-    /// # Errors
-    /// Want of memory.
-    pub fn for_tokens(alloc: Global, tokens: usize) -> Result<Scratch, AllocError>
-        ensures { IfOk result (λ scratch. scratch ≡ record { tokens = tokens; steps = 0 }) }
-    {
-        Ok(Scratch {
-            places: Places::for_tokens(alloc, tokens)?,
-        })
-    }
-
-    /// How many steps the last match took, and 0 before the first. A step is one token tested at one position of the
-    /// text.
-    pub fn last_steps(&self) -> u128
-        ensures { result ≡ self.now.steps }
-    {
-        self.places.steps
-    }
 }
 
 impl Glob {
@@ -92,7 +54,7 @@ impl Glob {
     pub fn fits(&self, scratch: &Scratch) -> bool
         ensures { IsTrue result ↔ (length (tokens_in self.now) ≤ scratch.now.tokens) }
     {
-        self.tokens() <= scratch.places.staying.len()
+        self.tokens() <= scratch.places.room()
     }
 
     /// Whether the whole text matches. It takes no memory, and keeps the set of places in the glob that the front of
@@ -103,14 +65,18 @@ impl Glob {
     /// or the text has no `/`.
     pub fn matches(&self, text: &[u8], case: Case, scratch: &mut Scratch) -> bool
         requires { length (tokens_in self.now) ≤ scratch.old.tokens }
-        ensures answer { AnswersGlob self.now.mode case self.now.pattern text.now result scratch.new.steps }
+        ensures answer { AnswersGlob self.now.mode case self.now.pattern text.now
+            result scratch.new.steps }
         ensures tail { AnswersTail self.now.mode case self.now.pattern text.now result }
+        ensures counted { Counts scratch.old.total_steps scratch.new.steps scratch.new.total_steps }
         ensures room { scratch.new.tokens ≡ scratch.old.tokens }
     {
         let places = &mut scratch.places;
+        let steps = &mut scratch.steps;
+        steps.begin();
         places.begin(&self.tokens);
         for position in 0..text.len() {
-            if !places.advance(&self.tokens, &text[position..], case) {
+            if !places.advance(&self.tokens, &text[position..], case, steps) {
                 return false;
             }
         }

@@ -1,12 +1,12 @@
 //! Patterns of globs, read as tokens (git's wildmatch).
-ghost use Rattle.std.specs.Prelude.{◌≡◌, ◌==◌, ◌+◌, ◌≤◌, ◌∷◌, [], List, length, IfOk, IsTrue, IsFalse};
+ghost use Rattle.std.specs.Prelude.{◌≡◌, ◌==◌, ◌+◌, ◌≤◌, length, IfOk, IsTrue, IsFalse};
 ghost use Rattle.std.specs.List.{prefix_len};
 ghost use Rattle.pathspec_glob.specs.Bytes.{star};
-ghost use Rattle.pathspec_glob.specs.Tokens.{Token as Part, escaped_piece, bracket_piece, is_deep, run_token, run_piece, piece_of, token_before, tokens};
+ghost use Rattle.pathspec_glob.specs.Tokens.{escaped_piece, bracket_piece, EndsPattern, is_deep, run_token, stars_piece, piece_of, StandsBefore, tokens};
 ghost use Rattle.pathspec_glob.specs.Tokens.Token.{One};
 ghost use Rattle.pathspec_glob.specs.GlobForms.{single_form, token_of, tokens_of, piece_form};
 
-use crate::tokens::{Single, Token};
+use crate::scratch::tokens::{Single, Token};
 use crate::{Mode, brackets};
 use std::alloc::{AllocError, Global};
 
@@ -45,8 +45,8 @@ pub fn tokens(alloc: Global, pattern: &[u8], mode: Mode) -> Result<Vec<Token>, A
 
 /// Whether a token is dead, so that what stands behind it doesn't count.
 fn is_dead(token: &Token) -> bool
-    ensures last { IsTrue result → (others : List Part) → token_before (token_of token.now) others ≡ token_of token.now ∷ [] }
-    ensures more { IsFalse result → (others : List Part) → token_before (token_of token.now) others ≡ token_of token.now ∷ others }
+    ensures last { IsTrue result → EndsPattern (token_of token.now) }
+    ensures more { IsFalse result → StandsBefore (token_of token.now) }
 {
     matches!(token, Token::One(Single::Dead))
 }
@@ -60,7 +60,8 @@ fn first_piece(
     byte: u8,
     rest: &[u8],
 ) -> Result<Piece, AllocError>
-    ensures read { IfOk result (λ piece. piece_form piece ≡ piece_of mode behind_slash byte rest.now) }
+    ensures read { IfOk result
+        (λ piece. piece_form piece ≡ piece_of mode behind_slash byte rest.now) }
     ensures within { IfOk result (λ piece. (1 ≤ piece.size) × (piece.size ≤ length rest.now + 1)) }
 {
     Ok(match byte {
@@ -112,7 +113,7 @@ fn bracket(alloc: Global, rest: &[u8]) -> Result<Piece, AllocError>
 
 /// The run of stars whose first stands before this rest. It is taken whole.
 fn run(mode: Mode, behind_slash: bool, rest: &[u8]) -> Piece
-    ensures { piece_form result ≡ run_piece mode behind_slash (prefix_len (λ c. c == star) (star ∷ rest.now)) (star ∷ rest.now) }
+    ensures { piece_form result ≡ stars_piece mode behind_slash rest.now }
 {
     let more = count_stars(rest);
     Piece {

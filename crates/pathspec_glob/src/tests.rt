@@ -181,7 +181,6 @@ fn steps_are_few(rt: HostRuntime) -> Result<(), AllocError> {
         assert_eq!(rt; found, want, "`{pattern:.9}` on `{text:.9}`");
         assert!(rt; steps <= most, "`{pattern:.9}` on `{text:.9}` took {steps}");
     }
-    assert_eq!(rt; Scratch::for_tokens(alloc, 1)?.last_steps(), 0);
     Ok(())
 }
 
@@ -200,6 +199,37 @@ fn a_step_is_a_token_tested_on_a_byte(rt: HostRuntime) -> Result<(), AllocError>
         let (found, taken) = answer(rt.alloc(), mode, Sensitive, pattern, text.as_bytes())?;
         assert_eq!(rt; found, want, "`{pattern}` on `{text}`");
         assert_eq!(rt; taken, steps, "`{pattern}` on `{text}`");
+    }
+    Ok(())
+}
+
+#[test]
+fn all_steps_of_a_scratch_are_counted(rt: HostRuntime) -> Result<(), AllocError> {
+    let mut scratch = Scratch::for_tokens(rt.alloc(), 3)?;
+    assert_eq!(rt; scratch.last_steps(), 0, "before the first match");
+    assert_eq!(rt; scratch.total_steps(), 0, "before the first match");
+    for (pattern, text, want, last, total) in [
+        ("ab", "ab", true, 2, 2),
+        ("a*b", "aac", false, 5, 7),
+        ("a", "xyz", false, 1, 8),
+        ("", "a", false, 0, 8),
+        ("a*b", "aab", true, 5, 13),
+        ("a*b", "aab", true, 5, 18),
+    ] {
+        let glob = Glob::compile(rt.alloc(), pattern.as_bytes(), Shell)?;
+        assert!(rt; glob.fits(&scratch), "`{pattern}`");
+        let found = glob.matches(text.as_bytes(), Sensitive, &mut scratch);
+        assert_eq!(rt; found, want, "`{pattern}` on `{text}`");
+        assert_eq!(rt;
+            scratch.last_steps(),
+            last,
+            "the steps of `{pattern}` on `{text}`"
+        );
+        assert_eq!(rt;
+            scratch.total_steps(),
+            total,
+            "all steps up to `{pattern}` on `{text}`"
+        );
     }
     Ok(())
 }

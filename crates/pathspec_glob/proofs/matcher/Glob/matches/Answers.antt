@@ -18,9 +18,8 @@ pub returns-clause-answer : goal.returns-clause-answer
 returns-clause-answer c =
     let ended : c.loop-position.position ≡ length c.args.text.now = omega (arith, c.loop-position-test.false, c.loop-position.auto.position-end) in
     let most = rw ended at c.loop-position.invariant.most in
-    rw c.reach_end.ensures.steps
-    (glob-answers c.self.inside.tokens c.self.inside.pattern.items c.args.self.now c.args.case c.args.text.now c.reach_end.result c.loop-position.places.steps
-    c.self.invariant c.self.view_is (at-end c) most (λ _. omega (arith, ended, c.loop-position.invariant.least)))
+    glob-answers c.self.inside.tokens c.self.inside.pattern.items c.args.self.now c.args.case c.args.text.now c.reach_end.result c.loop-position.steps.last
+    c.self.invariant c.self.view_is (at-end c) most (λ _. omega (arith, ended, c.loop-position.invariant.least))
 
 pub returns-clause-tail : goal.returns-clause-tail
 returns-clause-tail c = glob-answers-tail c.self.inside.tokens c.self.inside.pattern.items c.args.self.now c.args.case c.args.text.now c.reach_end.result c.self.invariant c.self.view_is (at-end c)
@@ -41,11 +40,12 @@ loop-position-preserved c =
     let tested = advance.tested refl in
     record {
       leads = advance.leads (get_or text position 0) (drop (position + 1) text) (rest ∙ next) ∙ ap before rest ∙ invariant.leads;
-      window = advance.window;
+      bounds = advance.bounds;
       least = omega (arith, tested, invariant.least);
-      most = more-steps (length c.self.inside.tokens.tokens) position c.loop-position.places.steps c.advance.new.self.steps invariant.most advance.steps;
-      entered = advance.entered ∙ invariant.entered ∙ ap (λ n. n + 1) (sym advance.staying);
-      staying = advance.staying ∙ invariant.staying;
+      most = more-steps (length c.self.inside.tokens.tokens) position c.loop-position.steps.last c.advance.new.steps.last invariant.most advance.steps;
+      counted = advance.counted c.args.scratch.now.total_steps invariant.counted;
+      entered = advance.room.entered ∙ invariant.entered ∙ ap (λ n. n + 1) (sym advance.room.staying);
+      staying = advance.room.staying ∙ invariant.staying;
     }
 
 -- where no place is held, the text does not match
@@ -63,9 +63,9 @@ pub returns-then-not-advance-clause-answer : goal.returns-then-not-advance-claus
 returns-then-not-advance-clause-answer c =
     let tokens = length c.self.inside.tokens.tokens in
     let position = c.loop-position.position in
-    let most = more-steps tokens position c.loop-position.places.steps c.advance.new.self.steps c.loop-position.invariant.most c.if-not-advance.ensures.steps in
+    let most = more-steps tokens position c.loop-position.steps.last c.advance.new.steps.last c.loop-position.invariant.most c.if-not-advance.ensures.steps in
     let within : tokens * (position + 1) ≤ tokens * length c.args.text.now = mul-le-mul_left {m = position + 1} {n = length c.args.text.now} tokens (omega (arith, c.loop-position-test.true)) in
-    glob-answers c.self.inside.tokens c.self.inside.pattern.items c.args.self.now c.args.case c.args.text.now false c.advance.new.self.steps
+    glob-answers c.self.inside.tokens c.self.inside.pattern.items c.args.self.now c.args.case c.args.text.now false c.advance.new.steps.last
     c.self.invariant c.self.view_is (no-match c) (omega (arith, most, within)) (λ h. cc)
 
 pub returns-then-not-advance-clause-tail : goal.returns-then-not-advance-clause-tail

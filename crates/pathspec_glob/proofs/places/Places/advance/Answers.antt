@@ -28,7 +28,7 @@ raised_most false most old new e below = omega arith
 
 pub loop-place-init : goal.loop-place-init
 loop-place-init c =
-    let window = c.requires.window in
+    let window = c.requires.bounds in
     let mode = c.args.tokens.now.mode in
     let tokens = c.args.tokens.now.tokens in
     let entered = c.args.self.now.entered.items in
@@ -41,6 +41,7 @@ loop-place-init c =
       nothing = λ same rest. before-none mode c.args.case first tokens entered staying rest window.before_entered window.before_staying;
       least = search rules;
       most = omega arith;
+      counted = λ before was. was;
       within = window.within;
       first = omega arith;
       end = omega arith;
@@ -69,8 +70,8 @@ loop-place-preserved c =
     let stays = c.visit-arrives.new.self.staying.items in
     let end = c.loop-place.self.end in
     let within : place < length tokens = omega (arith, c.if-place-len.true, c.len.ensures) in
-    let longer : length tokens < length entered = omega (arith, c.requires.entered, invariant.entered) in
-    let long : length tokens ≤ length staying = omega (arith, c.requires.staying, invariant.staying) in
+    let longer : length tokens < length entered = omega (arith, c.requires.room.entered, invariant.entered) in
+    let long : length tokens ≤ length staying = omega (arith, c.requires.room.staying, invariant.staying) in
     let inside = is_inside entered staying place in
     let stay = (inside && tests_at mode case (drop place tokens) c.args.text.now) && is_wide_at (drop place tokens) in
     let held = c.holds-held.result in
@@ -88,6 +89,7 @@ loop-place-preserved c =
           (none-step mode case place tokens entered staying stay rest within longer long quiet (invariant.nothing before rest));
       least = raised_least inside _ _ _ visit.steps invariant.least;
       most = let more = raised_most inside _ _ _ visit.steps invariant.most in omega arith;
+      counted = λ before was. visit.counted before (invariant.counted before was);
       within = omega arith;
       first = rw c.first_behind-first.ensures (first-within held place c.loop-place.first invariant.first);
       end = rw c.end_behind-end.ensures (end-within held place c.loop-place.end invariant.end);
@@ -114,7 +116,7 @@ returns-clause-leads c = λ b bs is.
     let tokens = c.args.tokens.now in
     let place = c.loop-place.place in
     let invariant = c.loop-place.invariant in
-    let longer : length tokens.tokens < length c.loop-place.self.entered.items = omega (arith, c.requires.entered, invariant.entered) in
+    let longer : length tokens.tokens < length c.loop-place.self.entered.items = omega (arith, c.requires.room.entered, invariant.entered) in
     let stop : (place ≡ length tokens.tokens) ⊎ (c.loop-place.self.end ≤ place) = elim c.loop-place-test.branch [
       | then-loop-place-test+else-place-len w ↦ inl (omega (arith, w.if-place-len.false, w.len.ensures, invariant.within))
       | else-loop-place-test w ↦ inr w.loop-place-test.false
@@ -127,11 +129,12 @@ returns-clause-none c = λ no rest.
     let tokens = c.args.tokens.now in
     let place = c.loop-place.place in
     let invariant = c.loop-place.invariant in
-    let longer : length tokens.tokens < length c.loop-place.self.entered.items = omega (arith, c.requires.entered, invariant.entered) in
+    let longer : length tokens.tokens < length c.loop-place.self.entered.items = omega (arith, c.requires.room.entered, invariant.entered) in
     let stop : (place ≡ length tokens.tokens) ⊎ (c.loop-place.self.end ≤ place) = elim c.loop-place-test.branch [
       | then-loop-place-test+else-place-len w ↦ inl (omega (arith, w.if-place-len.false, w.len.ensures, invariant.within))
       | else-loop-place-test w ↦ inr w.loop-place-test.false
     ] in
-    let same : c.loop-place.self.steps ≡ c.args.self.now.steps = omega (arith, ltb-false c.args.self.now.steps c.loop-place.self.steps no, invariant.least) in
+    let same : c.loop-place.steps.last ≡ c.args.steps.now.last =
+    omega (arith, ltb-false c.last-before.result c.last.result no, c.last-before.ensures, c.last.ensures, invariant.least) in
     rw (invariant.none same) (stopped-come tokens.mode c.args.case place c.loop-place.self.end tokens.tokens c.loop-place.self.entered.items c.loop-place.self.staying.items
     invariant.within stop invariant.behind_entered invariant.behind_staying false rest longer ∙ rw (invariant.nothing same rest) refl)

@@ -1,4 +1,5 @@
 use Rattle.std.proofs.Common.{◌≡◌, ◌+◌, ◌-◌, ◌<◌, ◌≤◌, ℕ, false, List, ◌∷◌, length}
+use Rattle.pathspec_glob.specs.Counts.{KeepsCount}
 use Rattle.pathspec_glob.specs.GlobPlaces.{holds, leads, leads_before}
 use Rattle.pathspec_glob.proofs.LeadsProofs.{goes_on}
 use Rattle.pathspec_glob.proofs.places.Places.advance.Given as goal
@@ -8,10 +9,11 @@ invariant-loop-place l = record {
   leads : (b : ℕ) (bs : List ℕ) → l.text ≡ b ∷ bs
       → goes_on l.tokens.mode l.case l.place l.tokens.tokens l.self.entered.items l.self.staying.items l.arrives b bs
       ≡ leads l.tokens.mode l.case l.tokens.tokens l.fn.self.entered.items l.fn.self.staying.items (b ∷ bs);
-  none : l.self.steps ≡ l.fn.self.steps → l.arrives ≡ false;
-  nothing : l.self.steps ≡ l.fn.self.steps → (rest : List ℕ) → leads_before l.tokens.mode l.case l.place l.tokens.tokens l.self.entered.items l.self.staying.items rest ≡ false;
-  least : l.fn.self.steps ≤ l.self.steps;
-  most : l.self.steps ≤ l.fn.self.steps + l.place;
+  none : l.steps.last ≡ l.fn.steps.last → l.arrives ≡ false;
+  nothing : l.steps.last ≡ l.fn.steps.last → (rest : List ℕ) → leads_before l.tokens.mode l.case l.place l.tokens.tokens l.self.entered.items l.self.staying.items rest ≡ false;
+  least : l.fn.steps.last ≤ l.steps.last;
+  most : l.steps.last ≤ l.fn.steps.last + l.place;
+  counted : KeepsCount l.fn.steps l.steps;
   within : l.place ≤ length l.tokens.tokens;
   first : l.first ≤ l.place;
   end : l.end ≤ l.place;

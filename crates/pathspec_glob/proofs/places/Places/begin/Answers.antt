@@ -7,6 +7,6 @@ pub returns-clause-leads : goal.returns-clause-leads
 returns-clause-leads c = λ case text.
     rw (c.leave.ensures.left, c.leave-2.ensures.left, c.len.ensures, c.len-2.ensures) (begin-leads c.args.tokens.now.mode case c.args.tokens.now.tokens _ _ text)
 
-pub returns-clause-window : goal.returns-clause-window
-returns-clause-window c =
+pub returns-clause-bounds : goal.returns-clause-bounds
+returns-clause-bounds c =
     rw (c.leave.ensures.left, c.leave-2.ensures.left, c.len.ensures, c.len-2.ensures) (begin-window (length c.args.tokens.now.tokens) _ _)

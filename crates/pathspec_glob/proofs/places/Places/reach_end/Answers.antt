@@ -8,7 +8,7 @@ use Rattle.pathspec_glob.proofs.places.Places.reach_end.Goals as goal
 
 pub loop-place-init : goal.loop-place-init
 loop-place-init c =
-    let window = c.requires.window in
+    let window = c.requires.bounds in
     record {
       leads = λ case. window-leads c.args.tokens.now.mode case c.args.self.now.first c.args.tokens.now.tokens c.args.self.now.entered.items c.args.self.now.staying.items [] window.within window.before_entered window.before_staying;
       within = window.within;
@@ -16,7 +16,6 @@ loop-place-init c =
       behind_staying = window.behind_staying;
       entered = search rules;
       staying = search rules;
-      steps = search rules;
     }
 
 pub loop-place-preserved : goal.loop-place-preserved
@@ -27,7 +26,7 @@ loop-place-preserved c =
     let staying = c.loop-place.self.staying.items in
     let invariant = c.loop-place.invariant in
     let within : place < length tokens.tokens = omega (arith, c.if-place-len.true, c.len.ensures) in
-    let longer : length tokens.tokens < length entered = omega (arith, c.requires.entered, invariant.entered) in
+    let longer : length tokens.tokens < length entered = omega (arith, c.requires.room.entered, invariant.entered) in
     let held = is_inside entered staying place in
     record {
       leads = λ case. rw (add-one place, c.close.ensures.entered, c.close.ensures.staying) (sym (end-step tokens.mode case place tokens.tokens entered staying within longer) ∙ invariant.leads case);
@@ -40,7 +39,6 @@ loop-place-preserved c =
           rw c.close.ensures.staying (invariant.behind_staying i (let least = end-least held place c.loop-place.self.end in omega arith) short);
       entered = rw c.close.ensures.entered (length-closed tokens.mode place tokens.tokens entered staying ∙ invariant.entered);
       staying = search rules;
-      steps = search rules;
     }
 
 pub returns-clause-leads : goal.returns-clause-leads
@@ -50,7 +48,7 @@ returns-clause-leads c = λ case.
     let staying = c.loop-place.self.staying.items in
     let invariant = c.loop-place.invariant in
     let n = length tokens.tokens in
-    let longer : n < length entered = omega (arith, c.requires.entered, invariant.entered) in
+    let longer : n < length entered = omega (arith, c.requires.room.entered, invariant.entered) in
     let there : c.index.result.now ≡ holds entered n = (rw c.len-2.ensures at c.index.ensures) ∙ get_or_default entered n c.index.result.now false longer in
     elim c.loop-place-test.branch [
       | then-loop-place-test+else-place-len w ↦

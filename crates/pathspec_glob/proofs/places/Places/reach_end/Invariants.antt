@@ -12,7 +12,6 @@ invariant-loop-place l = record {
   behind_staying : (i : ℕ) → l.self.end ≤ i → i < length l.tokens.tokens → holds l.self.staying.items i ≡ false;
   entered : length l.self.entered.items ≡ length l.fn.self.entered.items;
   staying : l.self.staying.items ≡ l.fn.self.staying.items;
-  steps : l.self.steps ≡ l.fn.self.steps;
 }
 
 abbrev pub decreases-loop-place : goal.decreases-loop-place

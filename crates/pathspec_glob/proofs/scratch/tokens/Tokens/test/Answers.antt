@@ -1,6 +1,6 @@
 use Rattle.std.proofs.Common.{ap}
 use Rattle.pathspec_glob.proofs.PlaceProofs.{tokens-at, text-at}
-use Rattle.pathspec_glob.proofs.tokens.Tokens.test.Goals as goal
+use Rattle.pathspec_glob.proofs.scratch.tokens.Tokens.test.Goals as goal
 
 pub returns-in-Some-clause-answer : goal.returns-in-Some-clause-answer
 returns-in-Some-clause-answer c =

@@ -1,6 +1,6 @@
 use Rattle.std.proofs.Common.{ap}
 use Rattle.pathspec_glob.proofs.PlaceProofs.{tokens-at}
-use Rattle.pathspec_glob.proofs.tokens.Tokens.is_wide.Goals as goal
+use Rattle.pathspec_glob.proofs.scratch.tokens.Tokens.is_wide.Goals as goal
 
 pub returns : goal.returns
 returns c =

@@ -2,7 +2,8 @@
 ghost use Rattle.std.specs.Prelude.{◌≡◌, ◌+◌, ◌<◌, ◌≤◌, ◌^◌, length, drop, map, IfOk, IsTrue};
 ghost use Rattle.pathspec_glob.specs.GlobRelation.{same_byte, bars, takes, passes_over};
 ghost use Rattle.pathspec_glob.specs.GlobForms.{single_form, token_of, tokens_of};
-ghost use Rattle.pathspec_glob.specs.GlobSteps.{is_deep_token, is_wide, is_wide_at, may_pass_over_at, parts_of, takes_byte, tests_at};
+ghost use Rattle.pathspec_glob.specs.GlobSteps.{is_deep_token, is_wide, is_wide_at, may_pass_over_at, parts_of, takes_byte, token_takes};
+ghost use Rattle.pathspec_glob.specs.Counts.{BeginsAnew, IsNone, KeepsCount};
 
 use crate::brackets::{self, Item};
 use crate::{Case, Mode, reading};
@@ -40,6 +41,16 @@ pub enum Token {
 pub struct Tokens {
     mode: Mode,
     all: Vec<Token>,
+}
+
+/// How many steps were taken. A step is one token tested at one position of a text: [`Tokens::test`] alone raises a
+/// count, and only a scratch has one.
+#[derive(Debug, Drop)]
+pub struct Steps {
+    /// In the last match.
+    last: u128,
+    /// In all matches together, modulo 2^128.
+    total: u128,
 }
 
 impl Model for Tokens {
@@ -90,19 +101,60 @@ impl Tokens {
         may_pass_over(self.mode, &self.all[place..])
     }
 
-    /// Tests the token at a place on the first byte of a text, which raises the count of steps by one: whether the
-    /// token takes the byte. None takes the end of a text.
-    pub fn test(&self, place: usize, text: &[u8], case: Case, steps: &mut u128) -> bool
+    /// Tests the token at a place on the first byte of a text, which is counted as one step: whether the token takes the
+    /// byte. None takes the end of a text.
+    pub fn test(&self, place: usize, text: &[u8], case: Case, steps: &mut Steps) -> bool
         requires place { place < length self.now.tokens }
-        requires room { steps.old + 1 < 2 ^ 128 }
-        ensures answer { result ≡ tests_at self.now.mode case (drop place self.now.tokens) text.now }
-        ensures counted { steps.new ≡ steps.old + 1 }
+        requires room { steps.old.last + 1 < 2 ^ 128 }
+        ensures answer { result ≡ token_takes self.now case place text.now }
+        ensures steps { steps.new.last ≡ steps.old.last + 1 }
+        ensures counted { KeepsCount steps.old steps.new }
     {
-        *steps += 1;
+        steps.raise();
         match text.first() {
             None => false,
             Some(byte) => self.all[place].takes(self.mode, case, *byte),
         }
+    }
+}
+
+impl Steps {
+    /// No step.
+    pub(super) fn none() -> Steps
+        ensures { IsNone result }
+    {
+        Steps { last: 0, total: 0 }
+    }
+
+    /// Begins the count of a match, and lets that of all matches go on.
+    pub fn begin(&mut self)
+        ensures { BeginsAnew self.old self.new }
+    {
+        self.last = 0;
+    }
+
+    /// How many steps the last match has taken.
+    pub fn last(&self) -> u128
+        ensures { result ≡ self.now.last }
+    {
+        self.last
+    }
+
+    /// How many steps all matches together have taken, modulo 2^128.
+    pub fn total(&self) -> u128
+        ensures { result ≡ self.now.total }
+    {
+        self.total
+    }
+
+    /// Counts a step more.
+    fn raise(&mut self)
+        requires { self.old.last + 1 < 2 ^ 128 }
+        ensures steps { self.new.last ≡ self.old.last + 1 }
+        ensures counted { KeepsCount self.old self.new }
+    {
+        self.last += 1;
+        self.total = self.total.wrapping_add(1);
     }
 }
 

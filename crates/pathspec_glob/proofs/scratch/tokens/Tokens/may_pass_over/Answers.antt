@@ -1,6 +1,6 @@
 use Rattle.std.proofs.Common.{ap}
 use Rattle.pathspec_glob.proofs.PlaceProofs.{tokens-from}
-use Rattle.pathspec_glob.proofs.tokens.Tokens.may_pass_over.Goals as goal
+use Rattle.pathspec_glob.proofs.scratch.tokens.Tokens.may_pass_over.Goals as goal
 
 pub returns-clause-over : goal.returns-clause-over
 returns-clause-over c =
