@@ -1,7 +1,7 @@
 //! The places in a glob that the front of a text leads to.
 ghost use Rattle.std.specs.Prelude.{[], false, IsTrue, IsFalse, ◌≡◌, ◌≤◌, ◌<◌, ◌+◌, ◌^◌, IfOk, length, drop, replicate, ◌++◌};
 ghost use Rattle.pathspec_glob.specs.Counts.{KeepsCount};
-ghost use Rattle.pathspec_glob.specs.GlobPlaces.{closure_at, end_after, end_behind, first_behind, HasRoom, is_held, IsBounded, IsMadeFor, KeepsRoom, LeadsFromStart, LeadsNowhere, LeadsOn, moves_behind, entered_after, staying_after, steps_at, places_lead};
+ghost use Rattle.pathspec_glob.specs.GlobPlaces.{closure_at, end_after, end_behind, entered_after, first_behind, HasRoom, is_held, IsBounded, IsMadeFor, KeepsRoom, LeadsFromStart, LeadsNowhere, LeadsOn, moves_behind, places_lead, staying_after, steps_at};
 ghost use Rattle.pathspec_glob.specs.declared.Case.{Case};
 
 use crate::Case;
@@ -12,13 +12,13 @@ use std::alloc::{AllocError, Global};
 #[derive(Debug, Drop)]
 pub struct Places {
     /// Whether a place has just been come to. They are one more than the tokens: the last is behind them all.
-    pub entered: Vec<bool>,
+    entered: Vec<bool>,
     /// Whether a token that takes any number of bytes has taken some, and may take more.
-    pub staying: Vec<bool>,
+    staying: Vec<bool>,
     /// No place before this one is held.
-    pub first: usize,
+    first: usize,
     /// No place from this one on is held.
-    pub end: usize,
+    end: usize,
 }
 
 impl Places {
