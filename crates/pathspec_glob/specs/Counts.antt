@@ -7,7 +7,7 @@ abbrev pub Counts : ℕ → ℕ → ℕ → Type 0
 Counts before n after = after % 2 ^ 128 ≡ (before + n) % 2 ^ 128
 
 -- no step has been counted
-pub record IsNone (steps : Steps) : Type 0 where
+pub record HasNoSteps (steps : Steps) : Type 0 where
   pub last : steps.last ≡ 0
   pub total : steps.total ≡ 0
 

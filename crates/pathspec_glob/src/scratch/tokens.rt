@@ -3,7 +3,7 @@ ghost use Rattle.std.specs.Prelude.{◌≡◌, ◌+◌, ◌<◌, ◌≤◌, ◌^
 ghost use Rattle.pathspec_glob.specs.GlobRelation.{same_byte, bars, takes, passes_over};
 ghost use Rattle.pathspec_glob.specs.GlobForms.{single_form, token_of, tokens_of};
 ghost use Rattle.pathspec_glob.specs.GlobSteps.{is_deep_token, is_wide, is_wide_at, may_pass_over_at, parts_of, takes_byte, token_takes};
-ghost use Rattle.pathspec_glob.specs.Counts.{BeginsAnew, IsNone, KeepsCount};
+ghost use Rattle.pathspec_glob.specs.Counts.{BeginsAnew, HasNoSteps, KeepsCount};
 
 use crate::brackets::{self, Item};
 use crate::{Case, Mode, reading};
@@ -121,7 +121,7 @@ impl Tokens {
 impl Steps {
     /// No step.
     pub(super) fn none() -> Steps
-        ensures { IsNone result }
+        ensures { HasNoSteps result }
     {
         Steps { last: 0, total: 0 }
     }
