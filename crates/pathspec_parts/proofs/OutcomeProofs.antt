@@ -1,19 +1,24 @@
 -- Outcomes that are cleared or set keep their names, and one that is cleared stays as it is.
-use Rattle.std.proofs.Common.{◌≡◌, ℕ, Bool, ◌||◌, true, false, inl, inr, ◌<◌, refl, ap, subst, sym, ◌∙◌, ◌+◌, List, [], ◌∷◌, ◌++◌, map, get_or, set, take, drop, length, Some}
+use Rattle.std.proofs.Common.{◌≡◌, ℕ, Bool, ◌||◌, true, false, inl, inr, ◌<◌, arith, refl, ap, subst, sym, ◌∙◌, ◌+◌, List, [], ◌∷◌, ◌++◌, cond, map, get_or, set, take, drop, length, Some}
 use Rattle.std.specs.Prelude.{slice_get, bytes_eq}
 use Rattle.std.specs.Option.{option_map}
 use Rattle.std.specs.List.{list_any}
 use Rattle.std.proofs.lemmas.Bool.{cases_Bool}
-use Rattle.std.proofs.lemmas.List.{length-map, get_or-map, map-set}
+use Rattle.std.proofs.lemmas.List.{length-map, length-append, get_or-map, map-set, drop_more, drop-set-lt, set-get_or}
+use Rattle.std.proofs.lemmas.List.Elements.{All-pop}
+use Rattle.std.proofs.lemmas.List.Folds.{list_any_at}
+use Rattle.std.proofs.lemmas.List.Sums.{sum_by-cons, count_by_more_yes, count_by_more_no}
+use Rattle.std.proofs.lemmas.Grind.{drop_more_same}
 use Rattle.std.proofs.lemmas.List.Edits.{map_over_more}
 use Rattle.std.proofs.lemmas.Option.{slice_get-map, slice_get_read}
 use Rattle.pathspec_parts.specs.declared.attributes.state.Assignment.{Assignment as Whole}
+use Rattle.pathspec_parts.specs.declared.attributes.state.State.{State as Owned}
 use Rattle.pathspec_parts.specs.declared.attributes.state.State.TheVariants as owned
 use Rattle.pathspec_parts.specs.Attributes.{State}
 use Rattle.pathspec_parts.specs.Attributes.State.{Unspecified}
 use Rattle.pathspec_parts.specs.AttributeNames.{name_bytes}
-use Rattle.pathspec_parts.specs.AttributeStates.{state_of, attribute_of}
-use Rattle.pathspec_parts.specs.Outcomes.{Listed, names_of, states_of, cleared, unspecified, has_name, set_in}
+use Rattle.pathspec_parts.specs.AttributeStates.{AreCopies, state_of, attribute_of}
+use Rattle.pathspec_parts.specs.Outcomes.{Listed, names_of, states_of, cleared, unspecified, has_name, name_count, set_at, set_in}
 
 pub cleared-cleared : (places : List Listed) → cleared (cleared places) ≡ cleared places
 cleared-cleared [] = refl
@@ -55,15 +60,110 @@ names_of-set_in (p ∷ ps) name state = elim (cases_Bool (bytes_eq p.name name))
   | inr h ↦ rw h (ap (λ ns. p.name ∷ ns) (names_of-set_in ps name state))
 ]
 
+-- so a place that has the name is one that the outcome has
+pub has_name-at : (places : List Whole) (name : List ℕ) (i : ℕ) (x : Whole) → i < length places → x ≡ get_or places i x → bytes_eq (attribute_of x).name name ≡ true → has_name (map attribute_of places) name ≡ true
+has_name-at places name i x below is named =
+    let test : Whole → Bool = λ p. bytes_eq (attribute_of p).name name in
+    sym (has_name-map places name) ∙ list_any_at test places i x below (sym (ap test is) ∙ named)
+
+-- one place more, with the name or without it
+listed_at : (places : List Whole) (i : ℕ) (x : Whole) → i < length places → x ≡ get_or places i x → get_or (map attribute_of places) i (attribute_of x) ≡ attribute_of x
+listed_at places i x below is = get_or-map attribute_of places i x (attribute_of x) below ∙ sym (ap attribute_of is)
+
+pub name_count-named : (places : List Whole) (name : List ℕ) (i : ℕ) (x : Whole) → i < length places → x ≡ get_or places i x → bytes_eq (attribute_of x).name name ≡ true
+    → name_count (take (i + 1) (map attribute_of places)) name ≡ name_count (take i (map attribute_of places)) name + 1
+name_count-named places name i x below is named =
+    let test : Listed → Bool = λ p. bytes_eq p.name name in
+    count_by_more_yes test (map attribute_of places) i (attribute_of x) (subst (λ n. i < n) (sym (length-map places attribute_of)) below) (ap test (listed_at places i x below is) ∙ named)
+
+pub name_count-other : (places : List Whole) (name : List ℕ) (i : ℕ) (x : Whole) → i < length places → x ≡ get_or places i x → bytes_eq (attribute_of x).name name ≡ false
+    → name_count (take (i + 1) (map attribute_of places)) name ≡ name_count (take i (map attribute_of places)) name
+name_count-other places name i x below is named =
+    let test : Listed → Bool = λ p. bytes_eq p.name name in
+    count_by_more_no test (map attribute_of places) i (attribute_of x) (subst (λ n. i < n) (sym (length-map places attribute_of)) below) (ap test (listed_at places i x below is) ∙ named)
+
+-- what is left to count at a place, and after it
+name_count-left : (places items : List Whole) (name : List ℕ) (i n : ℕ) (d : Whole) → i < length items → drop i items ≡ drop i places → n ≡ name_count (map attribute_of (drop i places)) name
+    → n ≡ cond (bytes_eq (attribute_of (get_or items i d)).name name) 1 0 + name_count (map attribute_of (drop (i + 1) places)) name
+name_count-left places items name i n d below rest count =
+    let x : Whole = get_or items i d in
+    count ∙ ap (λ xs. name_count (map attribute_of xs) name) (sym rest ∙ drop_more items i d below ∙ ap (λ ys. x ∷ ys) (drop_more_same items places i rest))
+    ∙ sum_by-cons (λ p. cond (bytes_eq p.name name) 1 0) (attribute_of x) (map attribute_of (drop (i + 1) places))
+
+-- a place more has been changed as the others before it
+changed_more : (f : Listed → Listed) (places items : List Whole) (i : ℕ) (d new : Whole) → i < length places → length items ≡ length places
+    → map attribute_of items ≡ map f (take i (map attribute_of places)) ++ drop i (map attribute_of places) → attribute_of new ≡ f (attribute_of (get_or items i d))
+    → map attribute_of (set items i new) ≡ map f (take (i + 1) (map attribute_of places)) ++ drop (i + 1) (map attribute_of places)
+changed_more f places items i d new below same so_far changed =
+    let x : Listed = attribute_of (get_or items i d) in
+    let within : i < length (map attribute_of places) = subst (λ n. i < n) (sym (length-map places attribute_of)) below in
+    let is : x ≡ get_or (map attribute_of items) i x = sym (get_or-map attribute_of items i d x (subst (λ n. i < n) (sym same) below)) in
+    map-set attribute_of items i new ∙ ap (set (map attribute_of items) i) changed ∙ map_over_more f (map attribute_of places) (map attribute_of items) i x within so_far is
+
 -- a place more is cleared
 pub cleared_more : (places items : List Whole) (i : ℕ) (d : Whole) → i < length places → length items ≡ length places → map attribute_of items ≡ cleared (take i (map attribute_of places)) ++ drop i (map attribute_of places)
     → map attribute_of (set items i (record { name = (get_or items i d).name; state = owned.Unspecified })) ≡ cleared (take (i + 1) (map attribute_of places)) ++ drop (i + 1) (map attribute_of places)
 cleared_more places items i d below same so_far =
     let clear_at : Listed → Listed = λ p. record { name = p.name; state = Unspecified } in
-    let x : Listed = attribute_of (get_or items i d) in
-    let within : i < length (map attribute_of places) = subst (λ n. i < n) (sym (length-map places attribute_of)) below in
-    let is : x ≡ get_or (map attribute_of items) i x = sym (get_or-map attribute_of items i d x (subst (λ n. i < n) (sym same) below)) in
-    map-set attribute_of items i _ ∙ map_over_more clear_at (map attribute_of places) (map attribute_of items) i x within so_far is
+    changed_more clear_at places items i d _ below same so_far refl
+
+-- a place more has the state, where it has the name
+set_in-named : (places items : List Whole) (i : ℕ) (d : Whole) (copy : Owned) (name : List ℕ) (state : State) → i < length places → length items ≡ length places
+    → bytes_eq (attribute_of (get_or items i d)).name name ≡ true → state_of copy ≡ state → map attribute_of items ≡ set_in (take i (map attribute_of places)) name state ++ drop i (map attribute_of places)
+    → map attribute_of (set items i (record { name = (get_or items i d).name; state = copy })) ≡ set_in (take (i + 1) (map attribute_of places)) name state ++ drop (i + 1) (map attribute_of places)
+set_in-named places items i d copy name state below same named copied so_far =
+    let put : Whole = record { name = (get_or items i d).name; state = copy } in
+    changed_more (set_at name state) places items i d put below same so_far (rw (copied, named) refl)
+
+-- and elsewhere it is as it was
+set_in-other : (places items : List Whole) (i : ℕ) (d : Whole) (name : List ℕ) (state : State) → i < length places → length items ≡ length places
+    → bytes_eq (attribute_of (get_or items i d)).name name ≡ false → map attribute_of items ≡ set_in (take i (map attribute_of places)) name state ++ drop i (map attribute_of places)
+    → map attribute_of items ≡ set_in (take (i + 1) (map attribute_of places)) name state ++ drop (i + 1) (map attribute_of places)
+set_in-other places items i d name state below same named so_far =
+    ap (map attribute_of) (sym (set-get_or items i d)) ∙ changed_more (set_at name state) places items i d (get_or items i d) below same so_far (rw named refl)
+
+-- what holds once the places before one have their copies: the places from there on are as before, and as many copies are left as the name has places there
+pub record HasPut (before places : List Whole) (name : List ℕ) (given copies : List Owned) (i : ℕ) : Type 0 where
+  pub rest : drop i places ≡ drop i before
+  pub count : length copies ≡ name_count (map attribute_of (drop i before)) name
+  pub copies_left : (state : State) → AreCopies state given → AreCopies state copies
+  pub so_far : (state : State) → AreCopies state given → map attribute_of places ≡ set_in (take i (map attribute_of before)) name state ++ drop i (map attribute_of before)
+
+-- so it holds after a place with the name, which takes the last copy
+pub put-named : (before places : List Whole) (name : List ℕ) (given copies left : List Owned) (i : ℕ) (d : Whole) (copy : Owned) → HasPut before places name given copies i → i < length before → length places ≡ length before
+    → bytes_eq (attribute_of (get_or places i d)).name name ≡ true → copies ≡ left ++ copy ∷ [] → HasPut before (set places i (record { name = (get_or places i d).name; state = copy })) name given left (i + 1)
+put-named before places name given copies left i d copy h below same named taken =
+    let within : i < length places = subst (λ n. i < n) (sym same) below in
+    let counted = rw named at (name_count-left before places name i (length copies) d within h.rest h.count) in
+    let fewer : length copies ≡ length left + 1 = ap length taken ∙ length-append left (copy ∷ []) in
+    let parts = λ (state : State) (all : AreCopies state given). All-pop (λ c. state_of c ≡ state) copies left (Some copy) taken (h.copies_left state all) in
+    record {
+      rest = drop-set-lt (i + 1) places i _ (omega arith) ∙ drop_more_same places before i h.rest;
+      count = omega (arith, counted, fewer);
+      copies_left = λ state all. (parts state all).0;
+      so_far = λ state all. set_in-named before places i d copy name state below same named (parts state all).1 (h.so_far state all);
+    }
+
+-- and after a place without it
+pub put-other : (before places : List Whole) (name : List ℕ) (given copies : List Owned) (i : ℕ) (d : Whole) → HasPut before places name given copies i → i < length before → length places ≡ length before
+    → bytes_eq (attribute_of (get_or places i d)).name name ≡ false → HasPut before places name given copies (i + 1)
+put-other before places name given copies i d h below same named =
+    let within : i < length places = subst (λ n. i < n) (sym same) below in
+    let counted = rw named at (name_count-left before places name i (length copies) d within h.rest h.count) in
+    record {
+      rest = drop_more_same places before i h.rest;
+      count = omega (arith, counted);
+      copies_left = h.copies_left;
+      so_far = λ state all. set_in-other before places i d name state below same named (h.so_far state all);
+    }
+
+-- a place with the name has a copy left
+pub put-left : (before places : List Whole) (name : List ℕ) (given copies : List Owned) (i : ℕ) (d : Whole) → HasPut before places name given copies i → i < length before → length places ≡ length before
+    → bytes_eq (attribute_of (get_or places i d)).name name ≡ true → 0 < length copies
+put-left before places name given copies i d h below same named =
+    let within : i < length places = subst (λ n. i < n) (sym same) below in
+    let counted = rw named at (name_count-left before places name i (length copies) d within h.rest h.count) in
+    omega (arith, counted)
 
 -- what an element reads as, and how it is listed
 listed : (items : List Whole) (places : List Listed) (i : ℕ) (x : Whole) → map attribute_of items ≡ places → i < length places → x ≡ get_or items i x → slice_get places i ≡ Some (attribute_of x)

@@ -1,12 +1,19 @@
 -- Rows of a path and what is assigned there, as the table of a look-up.
-use Rattle.std.specs.Prelude.{ℕ, List, true, fold, bytes_eq, if◌then◌else◌}
+use Rattle.std.specs.Prelude.{ℕ, List, Vec, true, map, fold, bytes_eq, if◌then◌else◌}
+use Rattle.std.specs.Global.{Global}
+use Rattle.pathspec_parts.specs.declared.attributes.state.Assignment.{Assignment as Whole}
 use Rattle.pathspec_parts.specs.Attributes.{Assignment, Question, Reply}
+use Rattle.pathspec_parts.specs.AttributeStates.{attribute_of}
 use Rattle.pathspec_parts.specs.Outcomes.{Listed, assigned, states_of, unspecified}
 
 -- a path, and what is assigned there
 pub record Row : Type 0 where
   pub path : List ℕ
   pub assignments : List Assignment
+
+-- the rows that pairs of a path and assignments are
+abbrev pub rows_of : List (Vec ℕ Global × Vec Whole Global) → List Row
+rows_of pairs = map (λ pair. record { path = pair.0.items; assignments = map attribute_of pair.1.items }) pairs
 
 -- a row counts where the path is its own
 abbrev pub after_row : List ℕ → List Listed → Row → List Listed

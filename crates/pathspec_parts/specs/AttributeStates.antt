@@ -1,4 +1,5 @@
 -- What a clause reads of states and assignments: the states and assignments of `Attributes`.
+use Rattle.std.specs.Prelude.{◌≡◌, List, All}
 use Rattle.pathspec_parts.specs.declared.attributes.state.State.{State as Owned}
 use Rattle.pathspec_parts.specs.declared.attributes.state.State.TheVariants as owned
 use Rattle.pathspec_parts.specs.declared.attributes.state.StateRef.{StateRef}
@@ -21,6 +22,10 @@ lent_state_of lent.Set = Set
 lent_state_of lent.Unset = Unset
 lent_state_of (lent.Value value) = Value value.now
 lent_state_of lent.Unspecified = Unspecified
+
+-- each of these is the state
+abbrev pub AreCopies : State → List Owned → Type 0
+AreCopies state copies = All (λ copy. state_of copy ≡ state) copies
 
 -- the name and the state that an assignment is
 abbrev pub attribute_of : Whole → Assignment

@@ -1,6 +1,6 @@
 -- Outcomes of look-ups: a list of names, each with its state.
-use Rattle.std.specs.Prelude.{ℕ, Bool, List, map, fold, bytes_eq, if◌then◌else◌}
-use Rattle.std.specs.List.{list_any}
+use Rattle.std.specs.Prelude.{◌≡◌, ℕ, Bool, List, map, fold, bytes_eq, if◌then◌else◌}
+use Rattle.std.specs.List.{list_any, count_by}
 use Rattle.pathspec_glob.specs.declared.Case.{Case}
 use Rattle.pathspec_parts.specs.Attributes.{State, Assignment, Question, Reply}
 use Rattle.pathspec_parts.specs.Attributes.State.{Unspecified}
@@ -21,9 +21,17 @@ states_of places = map (λ p. p.state) places
 abbrev pub cleared : List Listed → List Listed
 cleared places = map (λ p. record { name = p.name; state = Unspecified }) places
 
+-- of each name nothing is said
+abbrev pub IsReset : List Listed → Type 0
+IsReset places = places ≡ cleared places
+
 -- whether a place has this name
 abbrev pub has_name : List Listed → List ℕ → Bool
 has_name places name = list_any (λ p. bytes_eq p.name name) places
+
+-- how many places have this name
+abbrev pub name_count : List Listed → List ℕ → ℕ
+name_count places name = count_by (λ p. bytes_eq p.name name) places
 
 -- a place once this name has this state
 abbrev pub set_at : List ℕ → State → Listed → Listed

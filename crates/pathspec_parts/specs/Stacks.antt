@@ -1,7 +1,11 @@
 -- A stack of components, and how low it was.
-use Rattle.std.specs.Prelude.{ℕ, List}
+use Rattle.std.specs.Prelude.{ℕ, List, [], ◌∷◌, ◌++◌}
 
 -- what stands on a stack, the top last, and the least height since the last mark, or since the start
 pub record Stacked : Type 0 where
   pub names : List (List ℕ)
   pub least : ℕ
+
+-- a stack with one more name on top
+abbrev pub with_top : Stacked → List ℕ → Stacked
+with_top stack name = record stack { names = stack.names ++ name ∷ [] }

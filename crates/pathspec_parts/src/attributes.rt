@@ -1,8 +1,8 @@
 //! Attributes of paths, and who is asked for them (gitattributes).
-ghost use Rattle.std.specs.Prelude.{◌≡◌, ◌+◌, ◌-◌, ◌^◌, ℕ, min, IfOk, MatchResult};
+ghost use Rattle.std.specs.Prelude.{◌≡◌, ℕ, IfOk, OnOk, OnErr};
 ghost use Rattle.bstr.specs.BStr.{bstr_bytes};
-ghost use Rattle.pathspec_parts.specs.Attributes.{Table};
-ghost use Rattle.pathspec_parts.specs.Outcomes.{names_of, cleared, asked, answered};
+ghost use Rattle.pathspec_parts.specs.Attributes.{Table, next_count};
+ghost use Rattle.pathspec_parts.specs.Outcomes.{IsReset, names_of, asked, answered};
 
 mod name;
 mod outcome;
@@ -16,23 +16,25 @@ pub use state::{Assignment, State, StateRef};
 use std::fmt::Debug;
 
 /// Who is asked for the attributes of paths.
+///
+/// It answers by a table: the same question has the same answer at each time.
 pub trait LookUp {
     /// Why a question failed.
     type Fault: Debug + Drop;
 
-    /// What it says to each question.
+    /// The answer to each question.
     ghost table: { Self → Table };
 
-    /// How many questions have failed, which stops at `u64::MAX`.
+    /// How many questions have failed. It counts no further than `u64::MAX`.
     ghost failures: { Self → ℕ };
 
-    /// Says whether it has an answer for a path, and gives each place of a reset outcome the state that its name
-    /// has there.
+    /// Says whether it has an answer for a path, and gives each place of a reset outcome the state that the name
+    /// at this place has for that path.
     ///
-    /// Both follow from the question and the names alone, and neither it nor the names change.
+    /// The names of the outcome stay.
     ///
     /// # Errors
-    /// Its fault; the outcome may then hold any states.
+    /// Its fault. The outcome may then hold any states.
     fn look_up(
         &mut self,
         path: BStr<'_>,
@@ -40,10 +42,12 @@ pub trait LookUp {
         is_dir: bool,
         out: &mut Outcome,
     ) -> Result<bool, Self::Fault>
-        ensures answer { out.old ≡ cleared out.old → IfOk result (λ found. answered found out.new ≡ table self.old (asked (bstr_bytes path.entry) case is_dir out.old)) }
+        ensures answer { let question = asked (bstr_bytes path.entry) case is_dir out.old in
+            IsReset out.old → IfOk result (λ found. answered found out.new ≡ table self.old question) }
         ensures table_stays { table self.new ≡ table self.old }
         ensures names_stay { names_of out.new ≡ names_of out.old }
-        ensures counts { MatchResult result (λ _. failures self.new ≡ failures self.old) (λ _. failures self.new ≡ min (failures self.old + 1) (2 ^ 64 - 1)) };
+        ensures ok_leaves_count { OnOk result (failures self.new ≡ failures self.old) }
+        ensures err_counts { OnErr result (failures self.new ≡ next_count (failures self.old)) };
 }
 
 #[cfg(test)]

@@ -60,7 +60,8 @@ fn is_name(piece: &[u8]) -> bool
 ///
 /// It looks at each byte of the root, and of the path as far as they agree, once.
 pub fn strip_root<'p>(path: BStr<'p>, root: BStr<'_>) -> Option<Components<'p>>
-    ensures { option_map components_left result ≡ after_root (bstr_bytes root.entry) (bstr_bytes path.entry) }
+    ensures { option_map components_left result
+        ≡ after_root (bstr_bytes root.entry) (bstr_bytes path.entry) }
 {
     if !is_absolute(root) || !is_absolute(path) {
         return None;
@@ -70,7 +71,8 @@ pub fn strip_root<'p>(path: BStr<'p>, root: BStr<'_>) -> Option<Components<'p>>
 
 /// The components behind those that begin them, if these do.
 fn behind<'p>(path: Components<'p>, front: Components<'_>) -> Option<Components<'p>>
-    ensures { option_map components_left result ≡ behind_front (components_left front.entry) (components_left path.entry) }
+    ensures { option_map components_left result
+        ≡ behind_front (components_left front.entry) (components_left path.entry) }
 {
     let mut rest = path;
     for component in front {

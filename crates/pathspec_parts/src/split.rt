@@ -2,7 +2,10 @@
 ghost use Rattle.std.specs.Prelude.{◌≡◌, ◌==◌};
 ghost use Rattle.std.specs.List.{before_first, after_first, position};
 
-/// What stands before the first such byte and what stands behind it; where there is none, all and nothing.
+use bstr::ByteSlice;
+
+/// What stands before the first such byte, and what stands after it. Where there is no such byte, all bytes stand
+/// before it and none after it.
 ///
 /// It looks at each byte up to that one.
 pub fn at_first(bytes: &[u8], byte: u8) -> (&[u8], &[u8])
@@ -19,7 +22,7 @@ pub fn at_first(bytes: &[u8], byte: u8) -> (&[u8], &[u8])
 fn place_of(bytes: &[u8], byte: u8) -> Option<usize>
     ensures { result ≡ position (λ b. b == byte) bytes.now }
 {
-    bytes.iter().position(|it| *it == byte)
+    bytes.find_byte(byte)
 }
 
 #[cfg(test)]

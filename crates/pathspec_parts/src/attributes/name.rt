@@ -1,11 +1,9 @@
 //! Names of attributes.
-ghost use Rattle.std.specs.Prelude.{◌≡◌, Some, None, ◌||◌, ◌==◌, codes, IfOk, OnErr, IsTrue, if◌then◌else◌};
+ghost use Rattle.std.specs.Prelude.{◌≡◌, IfOk, OnErr, IsTrue};
 ghost use Rattle.std.specs.List.{list_all};
 ghost use Rattle.std.specs.Option.{option_map};
-ghost use Rattle.std.specs.Char.{is_ascii_alphanumeric};
 ghost use Rattle.bstr.specs.BStr.{bstr_bytes};
-ghost use Rattle.pathspec_glob.specs.Bytes.{dash, first_is, is_one_of};
-ghost use Rattle.pathspec_parts.specs.Attributes.{is_attribute_name};
+ghost use Rattle.pathspec_parts.specs.Attributes.{attribute_name_of, begins_with_dash, is_attribute_name, is_name_byte};
 
 use bstr::BStr;
 use std::alloc::{AllocError, Global};
@@ -22,14 +20,14 @@ pub struct Name {
 impl Name {
     ghost use Rattle.pathspec_parts.specs.AttributeNames.{name_bytes};
 
-    /// The name of these bytes, or None where they are none.
+    /// The name with these bytes, or None where they are no name.
     ///
-    /// It looks at each byte at most twice, and copies them.
+    /// It looks at each byte at most twice, and copies the bytes.
     ///
     /// # Errors
-    /// Want of memory, which bytes that are no name never ask for.
+    /// Memory runs out. Bytes that are no name take no memory.
     pub fn from_bytes(alloc: Global, bytes: &[u8]) -> Result<Option<Name>, AllocError>
-        ensures name { IfOk result (λ name. option_map name_bytes name ≡ (if is_attribute_name bytes.now then Some bytes.now else None)) }
+        ensures name { IfOk result (λ name. option_map name_bytes name ≡ attribute_name_of bytes.now) }
         ensures refused { OnErr result (IsTrue (is_attribute_name bytes.now)) }
     {
         if !is_name(bytes) {
@@ -51,7 +49,7 @@ impl Name {
     /// A name equal to this one.
     ///
     /// # Errors
-    /// Want of memory.
+    /// Memory runs out.
     pub fn try_clone(&self) -> Result<Name, AllocError>
         ensures { IfOk result (λ name. name_bytes name ≡ name_bytes self.now) }
     {
@@ -65,26 +63,26 @@ impl Name {
 fn is_name(bytes: &[u8]) -> bool
     ensures { result ≡ is_attribute_name bytes.now }
 {
-    holds_name_bytes(bytes) && !begins_with_dash(bytes)
+    has_name_bytes(bytes) && !begins_with_dash(bytes)
 }
 
-/// Whether a name may hold each of the bytes.
-fn holds_name_bytes(bytes: &[u8]) -> bool
-    ensures { result ≡ list_all (λ b. is_ascii_alphanumeric b || is_one_of (codes "-._") b) bytes.now }
+/// Whether a name may have each of the bytes.
+fn has_name_bytes(bytes: &[u8]) -> bool
+    ensures { result ≡ list_all is_name_byte bytes.now }
 {
     bytes.iter().all(|byte| is_name_byte(*byte))
 }
 
 /// Whether the first byte is `-`.
 fn begins_with_dash(bytes: &[u8]) -> bool
-    ensures { result ≡ first_is (λ b. b == dash) bytes.now }
+    ensures { result ≡ begins_with_dash bytes.now }
 {
-    matches!(bytes, [b'-', ..])
+    bytes.starts_with(b"-")
 }
 
-/// Whether a name may hold the byte.
+/// Whether a name may have the byte.
 fn is_name_byte(byte: u8) -> bool
-    ensures { result ≡ (is_ascii_alphanumeric byte || is_one_of (codes "-._") byte) }
+    ensures { result ≡ is_name_byte byte }
 {
     byte.is_ascii_alphanumeric() || b"-._".contains(&byte)
 }

@@ -1,9 +1,9 @@
 //! What a look-up says of the attributes that it is asked for.
-ghost use Rattle.std.specs.Prelude.{◌≡◌, ◌<◌, ◌↔◌, [], length, map, slice_get, bytes_eq, Some, IsTrue, IfOk, OnOk, OnErr};
-ghost use Rattle.std.specs.List.{list_any};
+ghost use Rattle.std.specs.Prelude.{◌≡◌, ◌<◌, ◌↔◌, [], length, vec_len, map, slice_get, bytes_eq, Some, IsTrue, IfOk, OnOk, OnErr};
 ghost use Rattle.bstr.specs.BStr.{bstr_bytes};
-ghost use Rattle.pathspec_parts.specs.AttributeStates.{lent_state_of, attribute_of};
-ghost use Rattle.pathspec_parts.specs.Outcomes.{names_of, states_of, cleared, has_name, set_at, set_in};
+ghost use Rattle.pathspec_parts.specs.Attributes.{State as Attribute};
+ghost use Rattle.pathspec_parts.specs.AttributeStates.{AreCopies, lent_state_of, attribute_of};
+ghost use Rattle.pathspec_parts.specs.Outcomes.{names_of, states_of, cleared, has_name, name_count, set_in};
 
 use crate::attributes::{Assignment, State, StateRef};
 use bstr::BStr;
@@ -32,7 +32,7 @@ impl Outcome {
     /// It copies each name.
     ///
     /// # Errors
-    /// Want of memory.
+    /// Memory runs out.
     pub fn for_assignments(alloc: Global, assignments: &[Assignment]) -> Result<Outcome, AllocError>
         ensures { IfOk result (λ outcome. outcome ≡ cleared (map attribute_of assignments.now)) }
     {
@@ -76,26 +76,24 @@ impl Outcome {
         self.places[place].state.as_ref()
     }
 
-    /// Gives each place with this name the state, and no other.
+    /// Gives the state to each place with this name, and to no other place.
     ///
-    /// It compares the name with each. Where a place has it, names and states are copied.
+    /// It compares the name with the name at each place, and copies the state once for each place with it.
     ///
     /// # Errors
-    /// Want of memory, which a name that no place has never asks for; every place is then as it was.
+    /// Memory runs out. Every place is then as before. A name that no place has takes no memory.
     pub fn set(&mut self, name: &[u8], state: StateRef<'_>) -> Result<(), AllocError>
         ensures ok { OnOk result (self.new ≡ set_in self.old name.now (lent_state_of state.entry)) }
         ensures err { OnErr result (self.new ≡ self.old) }
         ensures refused { OnErr result (IsTrue (has_name self.old name.now)) }
         ensures names { names_of self.new ≡ names_of self.old }
     {
-        if !is_listed(&self.places, name) {
-            return Ok(());
-        }
-        self.places = copies_with(*self.places.allocator(), &self.places, name, state)?;
+        let copies = copies_for(*self.places.allocator(), &self.places, name, state)?;
+        put(&mut self.places, name, copies);
         Ok(())
     }
 
-    /// Makes every state [`State::Unspecified`]. It takes no memory.
+    /// Makes each state [`State::Unspecified`]. It takes no memory.
     pub fn reset(&mut self)
         ensures cleared { self.new ≡ cleared self.old }
         ensures is_cleared { self.new ≡ cleared self.new }
@@ -105,13 +103,6 @@ impl Outcome {
     }
 }
 
-/// Whether a place has this name.
-fn is_listed(places: &[Assignment], name: &[u8]) -> bool
-    ensures { result ≡ list_any (λ p. bytes_eq (attribute_of p).name name.now) places.now }
-{
-    places.iter().any(|place| is_named(place, name))
-}
-
 /// Whether this place has this name.
 fn is_named(place: &Assignment, name: &[u8]) -> bool
     ensures { result ≡ bytes_eq (attribute_of place.now).name name.now }
@@ -119,41 +110,43 @@ fn is_named(place: &Assignment, name: &[u8]) -> bool
     place.name.as_bytes().as_bytes() == name
 }
 
-/// Copies of the places, each as [`copy_with`] makes it.
-fn copies_with(
+/// A copy of the state for each place with this name.
+fn copies_for(
     alloc: Global,
     places: &[Assignment],
     name: &[u8],
     state: StateRef<'_>,
-) -> Result<Vec<Assignment>, AllocError>
-    ensures { IfOk result (λ copies. map attribute_of copies.items ≡ set_in (map attribute_of places.now) name.now (lent_state_of state.entry)) }
+) -> Result<Vec<State>, AllocError>
+    ensures count { IfOk result (λ copies. vec_len copies ≡ name_count (map attribute_of places.now) name.now) }
+    ensures copies { IfOk result (λ copies. AreCopies (lent_state_of state.entry) copies.items) }
+    ensures refused { OnErr result (IsTrue (has_name (map attribute_of places.now) name.now)) }
 {
-    let mut copies = Vec::with_capacity(alloc, places.len())?;
+    let mut copies = Vec::new(alloc);
     for place in places {
-        copies.push(copy_with(alloc, place, name, state)?)?;
+        if is_named(place, name) {
+            copies.push(state.to_state(alloc)?)?;
+        }
     }
     Ok(copies)
 }
 
-/// A copy of a place, with this state where it has this name.
-fn copy_with(
-    alloc: Global,
-    place: &Assignment,
-    name: &[u8],
-    state: StateRef<'_>,
-) -> Result<Assignment, AllocError>
-    ensures { IfOk result (λ copy. attribute_of copy ≡ set_at name.now (lent_state_of state.entry) (attribute_of place.now)) }
+/// Gives one of the copies to each place with this name.
+fn put(places: &mut [Assignment], name: &[u8], copies: Vec<State>)
+    requires { vec_len copies ≡ name_count (map attribute_of places.old) name.now }
+    ensures { (state : Attribute) → AreCopies state copies.items
+        → map attribute_of places.new ≡ set_in (map attribute_of places.old) name.now state }
 {
-    if !is_named(place, name) {
-        return place.try_clone();
+    let mut copies = copies;
+    for place in places.iter_mut() {
+        if is_named(place, name) {
+            if let Some(copy) = copies.pop() {
+                place.state = copy;
+            }
+        }
     }
-    Ok(Assignment {
-        name: place.name.try_clone()?,
-        state: state.to_state(alloc)?,
-    })
 }
 
-/// Makes every state [`State::Unspecified`].
+/// Makes each state [`State::Unspecified`].
 fn clear(places: &mut [Assignment])
     ensures { map attribute_of places.new ≡ cleared (map attribute_of places.old) }
 {

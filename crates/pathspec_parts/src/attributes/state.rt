@@ -1,5 +1,6 @@
 //! What an attribute is for a path.
-ghost use Rattle.std.specs.Prelude.{◌≡◌, IfOk};
+ghost use Rattle.std.specs.Prelude.{◌≡◌, IfOk, OnErr, IsTrue};
+ghost use Rattle.pathspec_parts.specs.Attributes.{is_value};
 ghost use Rattle.pathspec_parts.specs.AttributeStates.{state_of, lent_state_of, attribute_of};
 
 use crate::attributes::Name;
@@ -53,12 +54,13 @@ impl State {
         }
     }
 
-    /// A state equal to this one. A value alone takes memory.
+    /// A state equal to this one.
     ///
     /// # Errors
-    /// Want of memory.
+    /// Memory runs out. Only a value takes memory.
     pub fn try_clone(&self) -> Result<State, AllocError>
-        ensures { IfOk result (λ state. state_of state ≡ state_of self.now) }
+        ensures ok { IfOk result (λ state. state_of state ≡ state_of self.now) }
+        ensures refused { OnErr result (IsTrue (is_value (state_of self.now))) }
     {
         match self {
             State::Set => Ok(State::Set),
@@ -70,12 +72,13 @@ impl State {
 }
 
 impl<'a> StateRef<'a> {
-    /// The same state, with a value of its own. A value alone takes memory.
+    /// The same state, with a copy of its value.
     ///
     /// # Errors
-    /// Want of memory.
+    /// Memory runs out. Only a value takes memory.
     pub fn to_state(self, alloc: Global) -> Result<State, AllocError>
-        ensures { IfOk result (λ state. state_of state ≡ lent_state_of self.entry) }
+        ensures ok { IfOk result (λ state. state_of state ≡ lent_state_of self.entry) }
+        ensures refused { OnErr result (IsTrue (is_value (lent_state_of self.entry))) }
     {
         match self {
             StateRef::Set => Ok(State::Set),
@@ -90,7 +93,7 @@ impl Assignment {
     /// An assignment equal to this one.
     ///
     /// # Errors
-    /// Want of memory.
+    /// Memory runs out.
     pub fn try_clone(&self) -> Result<Assignment, AllocError>
         ensures { IfOk result (λ assignment. attribute_of assignment ≡ attribute_of self.now) }
     {

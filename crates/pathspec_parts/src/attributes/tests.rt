@@ -2,10 +2,12 @@
 ghost use Rattle.std.specs.Prelude.{◌≡◌, true, map, OnOk};
 ghost use Rattle.pathspec_parts.specs.AttributeStates.{attribute_of};
 ghost use Rattle.pathspec_parts.specs.Outcomes.{names_of, states_of, unspecified, assigned};
-ghost use Rattle.pathspec_parts.specs.AttributeRows.{after_rows, rows_reply};
+ghost use Rattle.pathspec_parts.specs.AttributeRows.{after_rows, rows_of, rows_reply};
 
 use super::*;
 use std::alloc::{AllocError, Global};
+use std::hash::{DefaultHasher, Hash, Hasher};
+use std::process::Abort;
 use std::test::Fail;
 
 /// Answers, and says nothing of any name.
@@ -74,7 +76,7 @@ struct Rows {
 impl LookUp for Rows {
     type Fault = AllocError;
 
-    ghost table = { λ it. rows_reply (map (λ row. record { path = row.0.items; assignments = map attribute_of row.1.items }) it.rows.items) };
+    ghost table = { λ it. rows_reply (rows_of it.rows.items) };
 
     ghost failures = { λ it. it.failed };
 
@@ -101,7 +103,7 @@ fn apply_rows(
     path: &[u8],
     out: &mut Outcome,
 ) -> Result<(), AllocError>
-    ensures ok { OnOk result (out.new ≡ after_rows path.now out.old (map (λ row. record { path = row.0.items; assignments = map attribute_of row.1.items }) rows.now)) }
+    ensures ok { OnOk result (out.new ≡ after_rows path.now out.old (rows_of rows.now)) }
     ensures names { names_of out.new ≡ names_of out.old }
 {
     for row in rows {
@@ -177,25 +179,91 @@ fn names_are_letters_digits_and_three_marks(rt: HostRuntime) -> Result<(), Fail>
     Ok(())
 }
 
+fn hash_of<T: Hash>(value: &T) -> u64 {
+    let mut hasher = DefaultHasher::new();
+    value.hash(&mut hasher);
+    hasher.finish()
+}
+
+/// Asserts that equality, order and hash of two tables with equal values go by the places of the values.
+fn assert_rising<T: Ord + Hash + Debug>(rt: &impl Abort, values: &[T], others: &[T]) {
+    for (place, value) in values.iter().enumerate() {
+        for (other_place, other) in others.iter().enumerate() {
+            let want = place.cmp(&other_place);
+            assert_eq!(rt; value.cmp(other), want, "{value:?} and {other:?}");
+            assert_eq!(rt;
+                value.partial_cmp(other),
+                Some(want),
+                "{value:?} and {other:?}"
+            );
+            assert_eq!(rt;
+                value == other,
+                place == other_place,
+                "{value:?} and {other:?}"
+            );
+            let hash_alike = hash_of(value) == hash_of(other);
+            assert_eq!(rt; hash_alike, place == other_place, "{value:?} and {other:?}");
+        }
+    }
+}
+
 #[test]
-fn states_and_assignments_are_ordered(rt: HostRuntime) -> Result<(), Fail> {
-    let rising = [
+fn names_are_compared_by_their_bytes(rt: HostRuntime) -> Result<(), Fail> {
+    let mut names = Vec::new(rt.alloc());
+    let mut copies = Vec::new(rt.alloc());
+    for text in ["", ".", "A", "_", "a", "aa", "b"] {
+        let own = name(rt.alloc(), text)?;
+        copies.push(own.try_clone()?)?;
+        names.push(own)?;
+    }
+    assert_rising(&rt, &names, &copies);
+    Ok(())
+}
+
+#[test]
+fn states_are_compared_by_variant_and_then_by_value(rt: HostRuntime) -> Result<(), Fail> {
+    let states = [
+        StateRef::Set,
+        StateRef::Unset,
+        StateRef::Value(b""),
+        StateRef::Value(b"x"),
+        StateRef::Value(b"xa"),
+        StateRef::Value(b"y"),
+        StateRef::Unspecified,
+    ];
+    let mut owned = Vec::new(rt.alloc());
+    let mut copies = Vec::new(rt.alloc());
+    for state in &states {
+        let own = state.to_state(rt.alloc())?;
+        copies.push(own.try_clone()?)?;
+        owned.push(own)?;
+    }
+    assert_rising(&rt, &owned, &copies);
+    let mut lent = Vec::new(rt.alloc());
+    for state in &owned {
+        lent.push(state.as_ref())?;
+    }
+    assert_rising(&rt, &states, &lent);
+    Ok(())
+}
+
+#[test]
+fn assignments_are_compared_by_name_and_then_by_state(rt: HostRuntime) -> Result<(), Fail> {
+    let mut assignments = Vec::new(rt.alloc());
+    let mut copies = Vec::new(rt.alloc());
+    for (text, state) in [
         ("a", StateRef::Set),
         ("a", StateRef::Unset),
-        ("a", StateRef::Value(b"")),
         ("a", StateRef::Value(b"x")),
         ("a", StateRef::Unspecified),
         ("b", StateRef::Set),
-    ];
-    for pair in rising.windows(2) {
-        if let [low, high] = pair {
-            let low = assignment(rt.alloc(), low.0, low.1)?;
-            let high = assignment(rt.alloc(), high.0, high.1)?;
-            assert!(rt; low < high);
-            assert_eq!(rt; low, low.try_clone()?);
-            assert_eq!(rt; high.state, high.state.try_clone()?);
-        }
+        ("b", StateRef::Unspecified),
+    ] {
+        let own = assignment(rt.alloc(), text, state)?;
+        copies.push(own.try_clone()?)?;
+        assignments.push(own)?;
     }
+    assert_rising(&rt, &assignments, &copies);
     Ok(())
 }
 

@@ -1,8 +1,8 @@
 //! A stack of components, on which `..` is resolved.
-ghost use Rattle.std.specs.Prelude.{◌≡◌, ◌≤◌, ◌<◌, ◌-◌, ◌↔◌, [], ◌∷◌, ◌++◌, length, map, min, take, slice_get, IsTrue, OnOk, OnErr};
+ghost use Rattle.std.specs.Prelude.{◌≡◌, ◌≤◌, ◌<◌, ◌-◌, ◌↔◌, [], length, map, min, take, slice_get, IsTrue, OnOk, OnErr};
 ghost use Rattle.std.specs.Option.{option_map};
 ghost use Rattle.bstr.specs.BStr.{bstr_bytes};
-ghost use Rattle.pathspec_parts.specs.Stacks.{Stacked};
+ghost use Rattle.pathspec_parts.specs.Stacks.{Stacked, with_top};
 
 use bstr::BStr;
 use std::alloc::{AllocError, Global};
@@ -37,20 +37,21 @@ impl<'a> Stack<'a> {
     /// Puts a component on top.
     ///
     /// # Errors
-    /// Want of memory; the stack is then as it was.
+    /// Memory runs out. The stack is then as before.
     pub fn push(&mut self, component: BStr<'a>) -> Result<(), AllocError>
-        ensures ok { OnOk result (self.new ≡ record self.old { names = self.old.names ++ bstr_bytes component.entry ∷ [] }) }
+        ensures ok { OnOk result (self.new ≡ with_top self.old (bstr_bytes component.entry)) }
         ensures err { OnErr result (self.new ≡ self.old) }
     {
         self.names.push(component)?;
         Ok(())
     }
 
-    /// Takes the top off, and says whether there was one.
+    /// Takes the top off, and says whether there was one. An empty stack stays as it is.
     pub fn pop(&mut self) -> bool
         ensures popped { IsTrue result ↔ (0 < length self.old.names) }
         ensures names { self.new.names ≡ take (length self.old.names - 1) self.old.names }
         ensures least { self.new.least ≡ min self.old.least (length self.new.names) }
+        ensures empty { self.old.names ≡ [] → self.new ≡ self.old }
     {
         let popped = self.names.pop().is_some();
         self.least = self.least.min(self.names.len());

@@ -1,9 +1,7 @@
 -- Rows that go on from a reset outcome reply as their table says.
-use Rattle.std.proofs.Common.{◌≡◌, ℕ, true, ap, ◌∙◌, List, map, Vec, Global}
-use Rattle.pathspec_parts.specs.declared.attributes.state.Assignment.{Assignment as Whole}
-use Rattle.pathspec_parts.specs.AttributeStates.{attribute_of}
+use Rattle.std.proofs.Common.{◌≡◌, ℕ, true, ap, ◌∙◌, List}
 use Rattle.pathspec_parts.specs.Outcomes.{Listed, names_of, states_of, unspecified, cleared, answered}
-use Rattle.pathspec_parts.specs.AttributeRows.{Row, after_rows}
+use Rattle.pathspec_parts.specs.AttributeRows.{Row, after_rows, rows_of}
 use Rattle.pathspec_parts.proofs.OutcomeProofs.{reset_places}
 use Rattle.pathspec_parts.proofs.attributes.tests.RowsLookUp.look_up.Goals as goal
 
@@ -14,5 +12,4 @@ replied rows given path asked places new applied same_path same_rows reset =
 
 pub returns-in-Ok-clause-answer : goal.returns-in-Ok-clause-answer
 returns-in-Ok-clause-answer c = λ reset.
-    let rows_of : List (Vec ℕ Global × Vec Whole Global) → List Row = map (λ row. record { path = row.0.items; assignments = map attribute_of row.1.items }) in
     replied _ _ _ _ _ _ c.in-Ok.ensures.ok c.as_bytes.ensures (ap rows_of c.deref.ensures.value) reset
