@@ -28,8 +28,8 @@ pub trait LookUp {
     /// How many questions have failed. It counts no further than `u64::MAX`.
     ghost failures: { Self → ℕ };
 
-    /// Says whether it has an answer for a path, and gives each place of a reset outcome the state that the name
-    /// at this place has for that path.
+    /// Says whether it has an answer for a path, and gives each place of a reset outcome the state
+    /// that the name at this place has for that path.
     ///
     /// The names of the outcome stay.
     ///
@@ -43,7 +43,8 @@ pub trait LookUp {
         out: &mut Outcome,
     ) -> Result<bool, Self::Fault>
         ensures answer { let question = asked (bstr_bytes path.entry) case is_dir out.old in
-            IsReset out.old → IfOk result (λ found. answered found out.new ≡ table self.old question) }
+            IsReset out.old →
+            IfOk result (λ found. answered found out.new ≡ table self.old question) }
         ensures table_stays { table self.new ≡ table self.old }
         ensures names_stay { names_of out.new ≡ names_of out.old }
         ensures ok_leaves_count { OnOk result (failures self.new ≡ failures self.old) }
