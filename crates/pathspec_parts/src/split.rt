@@ -4,8 +4,8 @@ ghost use Rattle.std.specs.List.{before_first, after_first, position};
 
 use bstr::ByteSlice;
 
-/// What stands before the first such byte, and what stands after it. Where there is no such byte, all bytes stand
-/// before it and none after it.
+/// What stands before the first such byte, and what stands after it. Where there is no such byte,
+/// all bytes stand before it and none after it.
 ///
 /// It looks at each byte up to that one.
 pub fn at_first(bytes: &[u8], byte: u8) -> (&[u8], &[u8])

@@ -8,7 +8,8 @@ ghost use Rattle.pathspec_parts.specs.Attributes.{attribute_name_of, begins_with
 use bstr::BStr;
 use std::alloc::{AllocError, Global};
 
-/// The name of an attribute: ASCII letters, digits, `-`, `.` and `_`, the first of them no `-` (gitattributes).
+/// The name of an attribute: ASCII letters, digits, `-`, `.` and `_`, where the first byte is no `-`
+/// (gitattributes).
 ///
 /// The empty name is one. Names are compared by their bytes.
 #[derive(Debug, Drop, PartialEq, Eq, PartialOrd, Ord, Hash)]
@@ -27,7 +28,8 @@ impl Name {
     /// # Errors
     /// Memory runs out. Bytes that are no name take no memory.
     pub fn from_bytes(alloc: Global, bytes: &[u8]) -> Result<Option<Name>, AllocError>
-        ensures name { IfOk result (λ name. option_map name_bytes name ≡ attribute_name_of bytes.now) }
+        ensures name { IfOk result (λ name.
+            option_map name_bytes name ≡ attribute_name_of bytes.now) }
         ensures refused { OnErr result (IsTrue (is_attribute_name bytes.now)) }
     {
         if !is_name(bytes) {

@@ -78,12 +78,14 @@ impl Outcome {
 
     /// Gives the state to each place with this name, and to no other place.
     ///
-    /// It compares the name with the name at each place, and copies the state once for each place with it.
+    /// It compares the name with the name at each place, and copies the state once for each place
+    /// that has it.
     ///
     /// # Errors
     /// Memory runs out. Every place is then as before. A name that no place has takes no memory.
     pub fn set(&mut self, name: &[u8], state: StateRef<'_>) -> Result<(), AllocError>
-        ensures ok { OnOk result (self.new ≡ set_in self.old name.now (lent_state_of state.entry)) }
+        ensures ok { OnOk result
+            (self.new ≡ set_in self.old name.now (lent_state_of state.entry)) }
         ensures err { OnErr result (self.new ≡ self.old) }
         ensures refused { OnErr result (IsTrue (has_name self.old name.now)) }
         ensures names { names_of self.new ≡ names_of self.old }
@@ -117,7 +119,8 @@ fn copies_for(
     name: &[u8],
     state: StateRef<'_>,
 ) -> Result<Vec<State>, AllocError>
-    ensures count { IfOk result (λ copies. vec_len copies ≡ name_count (map attribute_of places.now) name.now) }
+    ensures count { IfOk result
+        (λ copies. vec_len copies ≡ name_count (map attribute_of places.now) name.now) }
     ensures copies { IfOk result (λ copies. AreCopies (lent_state_of state.entry) copies.items) }
     ensures refused { OnErr result (IsTrue (has_name (map attribute_of places.now) name.now)) }
 {
@@ -131,12 +134,11 @@ fn copies_for(
 }
 
 /// Gives one of the copies to each place with this name.
-fn put(places: &mut [Assignment], name: &[u8], copies: Vec<State>)
+fn put(places: &mut [Assignment], name: &[u8], mut copies: Vec<State>)
     requires { vec_len copies ≡ name_count (map attribute_of places.old) name.now }
     ensures { (state : Attribute) → AreCopies state copies.items
         → map attribute_of places.new ≡ set_in (map attribute_of places.old) name.now state }
 {
-    let mut copies = copies;
     for place in places.iter_mut() {
         if is_named(place, name) {
             if let Some(copy) = copies.pop() {
