@@ -1,4 +1,4 @@
--- Outcomes that are cleared or set keep their names, and one that is cleared stays as it is.
+-- Outcomes that are cleared or set keep their names, one that is cleared stays as it is, and copies are put place by place.
 use Rattle.std.proofs.Common.{◌≡◌, ℕ, Bool, ◌||◌, true, false, inl, inr, ◌<◌, arith, refl, ap, subst, sym, ◌∙◌, ◌+◌, List, [], ◌∷◌, ◌++◌, cond, map, get_or, set, take, drop, length, Some}
 use Rattle.std.specs.Prelude.{slice_get, bytes_eq}
 use Rattle.std.specs.Option.{option_map}
@@ -35,22 +35,10 @@ is_cleared old new e = e ∙ sym (cleared-cleared old) ∙ ap cleared (sym e)
 pub same_names : (old new : List Listed) → new ≡ cleared old → names_of new ≡ names_of old
 same_names old new e = ap names_of e ∙ names_of-cleared old
 
--- a name that no place has sets nothing
-pub set_in-none : (places : List Listed) (name : List ℕ) (state : State) → has_name places name ≡ false → set_in places name state ≡ places
-set_in-none [] name state none = refl
-set_in-none (p ∷ ps) name state none = elim (cases_Bool (bytes_eq p.name name)) [
-  | inl h ↦ let has : true ≡ false = rw h at none in absurd (let no : ⊥ = cc in no)
-  | inr h ↦ rw h (ap (λ qs. p ∷ qs) (set_in-none ps name state (rw h at none)))
-]
-
 -- whether a place has a name, asked of the elements
 has_name-map : (items : List Whole) (name : List ℕ) → list_any (λ p. bytes_eq (attribute_of p).name name) items ≡ has_name (map attribute_of items) name
 has_name-map [] name = refl
 has_name-map (x ∷ xs) name = ap (λ t. bytes_eq (attribute_of x).name name || t) (has_name-map xs name)
-
-pub has_name_seen : (items asked : List Whole) (places : List Listed) (name : List ℕ) (found answer : Bool) → asked ≡ items → map attribute_of items ≡ places → found ≡ list_any (λ p. bytes_eq (attribute_of p).name name) asked → found ≡ answer → has_name places name ≡ answer
-has_name_seen items asked places name found answer same seen is answered =
-    sym (ap (λ ps. has_name ps name) (ap (map attribute_of) same ∙ seen)) ∙ sym (has_name-map asked name) ∙ sym is ∙ answered
 
 -- setting keeps the names
 pub names_of-set_in : (places : List Listed) (name : List ℕ) (state : State) → names_of (set_in places name state) ≡ names_of places
@@ -60,7 +48,7 @@ names_of-set_in (p ∷ ps) name state = elim (cases_Bool (bytes_eq p.name name))
   | inr h ↦ rw h (ap (λ ns. p.name ∷ ns) (names_of-set_in ps name state))
 ]
 
--- so a place that has the name is one that the outcome has
+-- where a place has the name, the outcome has it
 pub has_name-at : (places : List Whole) (name : List ℕ) (i : ℕ) (x : Whole) → i < length places → x ≡ get_or places i x → bytes_eq (attribute_of x).name name ≡ true → has_name (map attribute_of places) name ≡ true
 has_name-at places name i x below is named =
     let test : Whole → Bool = λ p. bytes_eq (attribute_of p).name name in
