@@ -21,8 +21,8 @@ pub fn is_absolute(path: BStr<'_>) -> bool
     path.as_bytes().starts_with(b"/")
 }
 
-/// The components of a path in their order: its pieces between slashes, without the empty ones and without `.`.
-/// A `..` is a component.
+/// The components of a path in their order: its pieces between slashes, without the empty ones and
+/// without `.`. A `..` is a component.
 ///
 /// Each item is a part of the path. All items together take one look at each byte of the path.
 pub fn components(path: BStr<'_>) -> Components<'_>
@@ -55,8 +55,8 @@ fn is_name(piece: &[u8]) -> bool
     !piece.is_empty() && piece != b".".as_slice() && piece != b"..".as_slice()
 }
 
-/// The components of an absolute path behind those of an absolute root, or None where one of the two isn't
-/// absolute, or the root's components aren't a beginning of the path's. A `..` isn't resolved.
+/// The components of an absolute path after those of an absolute root, or None where one of the two
+/// isn't absolute, or the root's components aren't a beginning of the path's. A `..` isn't resolved.
 ///
 /// It looks at each byte of the root, and of the path as far as they agree, once.
 pub fn strip_root<'p>(path: BStr<'p>, root: BStr<'_>) -> Option<Components<'p>>
@@ -69,7 +69,7 @@ pub fn strip_root<'p>(path: BStr<'p>, root: BStr<'_>) -> Option<Components<'p>>
     behind(components(path), components(root))
 }
 
-/// The components behind those that begin them, if these do.
+/// The components after those of a front, if these begin them.
 fn behind<'p>(path: Components<'p>, front: Components<'_>) -> Option<Components<'p>>
     ensures { option_map components_left result
         ≡ behind_front (components_left front.entry) (components_left path.entry) }
@@ -98,7 +98,23 @@ pub fn strip_last_slash(path: &[u8]) -> (&[u8], bool)
 #[cfg(test)]
 mod tests {
     use super::*;
+    use std::process::Abort;
     use std::test::Fail;
+
+    /// Asserts that these components are the words of a text.
+    fn assert_components(
+        rt: &impl Abort,
+        mut found: Components<'_>,
+        want: &str,
+        path: &str,
+    ) -> Result<(), Fail> {
+        for word in want.split_whitespace() {
+            let component = found.next().ok_or("too few")?;
+            assert_eq!(rt; component.as_bytes(), word.as_bytes(), "in {path}");
+        }
+        assert!(rt; found.next().is_none(), "after {path}");
+        Ok(())
+    }
 
     #[test]
     fn components_are_the_pieces_that_name_something(rt: HostRuntime) -> Result<(), Fail> {
@@ -111,12 +127,7 @@ mod tests {
             ("...", "..."),
         ];
         for (path, want) in rows {
-            let mut found = components(BStr::new(path.as_bytes()));
-            for piece in want.split_whitespace() {
-                let component = found.next().ok_or("too few")?;
-                assert_eq!(rt; component.as_bytes(), piece.as_bytes(), "in {path}");
-            }
-            assert!(rt; found.next().is_none(), "behind {path}");
+            assert_components(&rt, components(BStr::new(path.as_bytes())), want, path)?;
         }
         Ok(())
     }
@@ -170,13 +181,8 @@ mod tests {
             ("/r/../x", "/r/..", "x"),
         ];
         for (path, root, want) in rows {
-            let (path, root) = (BStr::new(path.as_bytes()), BStr::new(root.as_bytes()));
-            let mut found = strip_root(path, root).ok_or("outside")?;
-            for name in want.split_whitespace() {
-                let component = found.next().ok_or("too few")?;
-                assert_eq!(rt; component.as_bytes(), name.as_bytes(), "in {path}");
-            }
-            assert!(rt; found.next().is_none(), "behind {path}");
+            let found = strip_root(BStr::new(path.as_bytes()), BStr::new(root.as_bytes()));
+            assert_components(&rt, found.ok_or("outside")?, want, path)?;
         }
         for (path, root) in [
             ("/r/a/b", "/rr"),
@@ -186,8 +192,8 @@ mod tests {
             ("/r", "/r/a"),
             ("/x", "/r/.."),
         ] {
-            let (path, root) = (BStr::new(path.as_bytes()), BStr::new(root.as_bytes()));
-            assert!(rt; strip_root(path, root).is_none(), "{path}");
+            let found = strip_root(BStr::new(path.as_bytes()), BStr::new(root.as_bytes()));
+            assert!(rt; found.is_none(), "{path} under {root}");
         }
         Ok(())
     }

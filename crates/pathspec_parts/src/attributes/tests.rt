@@ -172,8 +172,8 @@ fn names_are_letters_digits_and_three_marks(rt: HostRuntime) -> Result<(), Fail>
         let found = Name::from_bytes(rt.alloc(), text.as_bytes())?;
         assert_eq!(rt; found.is_some(), want, "{text}");
         if let Some(found) = found {
-            assert_eq!(rt; found.as_bytes().as_bytes(), text.as_bytes());
-            assert_eq!(rt; found, found.try_clone()?);
+            assert_eq!(rt; found.as_bytes().as_bytes(), text.as_bytes(), "{text}");
+            assert_eq!(rt; found, found.try_clone()?, "{text}");
         }
     }
     Ok(())
@@ -185,7 +185,8 @@ fn hash_of<T: Hash>(value: &T) -> u64 {
     hasher.finish()
 }
 
-/// Asserts that equality, order and hash of two tables with equal values go by the places of the values.
+/// Asserts that equality, order and hash go by the places of the values, in two tables with equal
+/// values in rising order.
 fn assert_rising<T: Ord + Hash + Debug>(rt: &impl Abort, values: &[T], others: &[T]) {
     for (place, value) in values.iter().enumerate() {
         for (other_place, other) in others.iter().enumerate() {
