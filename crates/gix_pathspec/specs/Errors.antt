@@ -4,7 +4,7 @@ use Rattle.gix_pathspec.specs.declared.error.Error.{Error}
 use Rattle.gix_pathspec.specs.declared.error.Error.TheVariants as told
 use Rattle.gix_pathspec.specs.Faults.{Fault}
 
--- the fault that an error tells; want of memory is none
+-- the fault that an error tells, which is none where memory ran out
 abbrev pub fault_of : Error → Option Fault
 fault_of told.Empty = Some Fault.Empty
 fault_of (told.UnimplementedShort b) = Some (Fault.UnimplementedShort b)
@@ -22,17 +22,21 @@ fault_of (told.NotTruth word) = Some (Fault.NotTruth word.items)
 fault_of told.GlobAndNoGlob = Some Fault.GlobAndNoGlob
 fault_of told.Memory = None
 
--- The error is want of memory, or P holds of the fault that it tells.
+-- Memory ran out, or P holds of the fault that the error tells.
 abbrev pub IsMemoryOr : Error → (Fault → Type 0) → Type 0
 IsMemoryOr e P = IfSome (fault_of e) P
 
--- the error is want of memory
+-- memory ran out
 abbrev pub IsMemory : Error → Type 0
 IsMemory e = IsMemoryOr e (λ fault. ⊥)
 
 -- The call answers what is computed: its value, as the view shows it, or its fault; or memory ran out.
 abbrev pub Computes : {A B : Type 0} → (A → B) → Result B Fault → Result A Error → Type 0
 Computes view computed result = MatchResult result (λ x. computed ≡ Ok (view x)) (λ e. IsMemoryOr e (λ fault. computed ≡ Err fault))
+
+-- the same, where the value is shown as it is
+abbrev pub IsAnswer : {A : Type 0} → Result A Fault → Result A Error → Type 0
+IsAnswer computed result = Computes (λ x. x) computed result
 
 -- the name of the variant
 abbrev pub kind_of : Error → List ℕ

@@ -1,8 +1,8 @@
 //! Reading the text of a pathspec (gitglossary, "pathspec").
-ghost use Rattle.std.specs.Prelude.{◌≡◌, [], ◌∷◌, bytes_eq, codes, if◌then◌else◌, unwrap_or, None, Ok, Err, IfOk, IfErr, MatchResult};
+ghost use Rattle.std.specs.Prelude.{◌≡◌, [], ◌∷◌, bytes_eq, codes, if◌then◌else◌, IfOk, IfErr};
 ghost use Rattle.std.specs.List.{list_any};
 ghost use Rattle.pathspec_parts.specs.Bytes.{colon, first_is, is_one_of};
-ghost use Rattle.gix_pathspec.specs.Errors.{IsMemory, IsMemoryOr};
+ghost use Rattle.gix_pathspec.specs.Errors.{Computes, IsAnswer, IsMemory, IsMemoryOr};
 ghost use Rattle.gix_pathspec.specs.Signatures.{signature_bits};
 ghost use Rattle.gix_pathspec.specs.Reading.{Reads, IsRefused, reading, magic_says, magic_of, short_bits, spec_of, is_colon};
 ghost use Rattle.gix_pathspec.specs.Patterns.{pattern_spec};
@@ -37,14 +37,14 @@ pub fn parse(alloc: Global, input: &[u8], defaults: Defaults) -> Result<Pattern,
     ensures reads { IfOk result (λ p. Reads defaults input.now (pattern_spec p)) }
     ensures refused { IfErr result (λ e. IsMemoryOr e (λ fault. IsRefused defaults input.now fault)) }
     // The same by the function that other definitions stand on.
-    ensures exact { MatchResult result (λ p. reading defaults input.now ≡ Ok (pattern_spec p)) (λ e. IsMemoryOr e (λ fault. reading defaults input.now ≡ Err fault)) }
+    ensures exact { Computes pattern_spec (reading defaults input.now) result }
 {
     read(alloc, input, defaults)
 }
 
 /// Reads the text of a pathspec.
 fn read(alloc: Global, input: &[u8], defaults: Defaults) -> Result<Pattern, Error>
-    ensures { MatchResult result (λ p. reading defaults input.now ≡ Ok (pattern_spec p)) (λ e. IsMemoryOr e (λ fault. reading defaults input.now ≡ Err fault)) }
+    ensures { Computes pattern_spec (reading defaults input.now) result }
 {
     if input.is_empty() {
         return Err(Error::Empty);
@@ -63,7 +63,7 @@ fn read(alloc: Global, input: &[u8], defaults: Defaults) -> Result<Pattern, Erro
 
 /// Reads a text that begins with `:` and doesn't end there.
 fn read_magic(alloc: Global, text: &[u8], defaults: Defaults) -> Result<Pattern, Error>
-    ensures { MatchResult result (λ p. magic_says defaults text.now ≡ Ok (pattern_spec p)) (λ e. IsMemoryOr e (λ fault. magic_says defaults text.now ≡ Err fault)) }
+    ensures { Computes pattern_spec (magic_says defaults text.now) result }
 {
     let cut = cut::cut_text(alloc, text)?;
     let said = magic_of(alloc, &cut)?;
@@ -73,7 +73,7 @@ fn read_magic(alloc: Global, text: &[u8], defaults: Defaults) -> Result<Pattern,
 /// What the magic of a cut says.
 #[tactic(auto, unfolding(crate::specs::Reading::magic_of))]
 fn magic_of(alloc: Global, cut: &Cut<'_>) -> Result<Magic, Error>
-    ensures { MatchResult result (λ m. magic_of cut.now ≡ Ok m) (λ e. IsMemoryOr e (λ fault. magic_of cut.now ≡ Err fault)) }
+    ensures { IsAnswer (magic_of cut.now) result }
 {
     let short = Magic {
         signature: signature_of(cut.short),

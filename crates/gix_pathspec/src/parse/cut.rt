@@ -1,9 +1,9 @@
 //! The cut of a text into its magic and its body.
-ghost use Rattle.std.specs.Prelude.{◌≡◌, ◌∷◌, drop, Some, None, Ok, Err, IsTrue, IsFalse, MatchOption, MatchResult, length, ◌≤◌, ◌==◌};
+ghost use Rattle.std.specs.Prelude.{◌≡◌, ◌∷◌, drop, Some, None, Ok, Err, IsTrue, IsFalse, MatchOption, length, ◌≤◌, ◌==◌};
 ghost use Rattle.std.specs.Option.{option_map};
 ghost use Rattle.std.specs.List.{take_while, prefix_len, list_any};
 ghost use Rattle.pathspec_parts.specs.Bytes.{open_paren, close_paren, first_is};
-ghost use Rattle.gix_pathspec.specs.Errors.{IsMemoryOr};
+ghost use Rattle.gix_pathspec.specs.Errors.{IsAnswer};
 ghost use Rattle.gix_pathspec.specs.Reading.{Cut as Parts, cut_of, behind_mark, is_short, is_unimplemented, is_colon};
 
 use crate::{Error, error};
@@ -35,7 +35,7 @@ impl<'t> Model for Cut<'t> {
 /// [`Error::UnimplementedShort`] and [`Error::MissingParen`]; for the second it copies the text, which may be
 /// [`Error::Memory`].
 pub(super) fn cut_text(alloc: Global, text: &[u8]) -> Result<Cut<'_>, Error>
-    ensures { MatchResult result (λ parts. cut_of text.now ≡ Ok parts) (λ e. IsMemoryOr e (λ fault. cut_of text.now ≡ Err fault)) }
+    ensures { IsAnswer (cut_of text.now) result }
 {
     let (short, rest) = split_short(behind_first(text));
     if let Some(byte) = free_byte(rest) {

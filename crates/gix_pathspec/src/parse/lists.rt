@@ -1,11 +1,11 @@
 //! Lists of attributes, as `attr:` takes them (gitglossary, "pathspec").
-ghost use Rattle.std.specs.Prelude.{◌≡◌, map, ◌==◌, ◌&&◌, not, Some, Ok, Err, drop, IsTrue, IsFalse, MatchOption, MatchResult};
+ghost use Rattle.std.specs.Prelude.{◌≡◌, map, ◌==◌, ◌&&◌, not, Some, drop, IsTrue, IsFalse, MatchOption, MatchResult};
 ghost use Rattle.std.specs.List.{list_any};
 ghost use Rattle.pathspec_parts.specs.Bytes.{backslash, equals_sign, first_is};
 ghost use Rattle.pathspec_parts.specs.AttributeNames.{name_bytes};
 ghost use Rattle.pathspec_parts.specs.AttributeStates.{state_of, attribute_of};
 ghost use Rattle.gix_pathspec.specs.Faults.Fault.{InvalidValueByte};
-ghost use Rattle.gix_pathspec.specs.Errors.{fault_of, Computes, IsMemoryOr};
+ghost use Rattle.gix_pathspec.specs.Errors.{fault_of, Computes};
 ghost use Rattle.gix_pathspec.specs.AttributeLists.{name_of, is_value_byte, value_of, named, valued, assignment_of, assignments_of};
 
 use super::pieces::is_escape;
@@ -26,7 +26,7 @@ use std::alloc::Global;
 /// [`Error::EmptyAttributes`] for the empty list; for the first part at fault [`Error::InvalidValueByte`] or
 /// [`Error::TrailingEscape`], which tell of its value, and only then [`Error::InvalidName`]; [`Error::Memory`].
 pub fn attributes(alloc: Global, list: &[u8]) -> Result<Vec<Assignment>, Error>
-    ensures { MatchResult result (λ assignments. assignments_of list.now ≡ Ok (map attribute_of assignments.items)) (λ e. IsMemoryOr e (λ fault. assignments_of list.now ≡ Err fault)) }
+    ensures { Computes (λ said. map attribute_of said.items) (assignments_of list.now) result }
 {
     if list.is_empty() {
         return Err(Error::EmptyAttributes);
@@ -80,7 +80,7 @@ fn holds_equals_sign(part: &[u8]) -> bool
 
 /// What `name=value` says. The value is read before the name.
 fn valued(alloc: Global, name: &[u8], written: &[u8]) -> Result<Assignment, Error>
-    ensures { MatchResult result (λ a. valued name.now written.now ≡ Ok (attribute_of a)) (λ e. IsMemoryOr e (λ fault. valued name.now written.now ≡ Err fault)) }
+    ensures { Computes attribute_of (valued name.now written.now) result }
 {
     let value = value(alloc, written)?;
     named(alloc, State::Value(value), name)
@@ -88,7 +88,7 @@ fn valued(alloc: Global, name: &[u8], written: &[u8]) -> Result<Assignment, Erro
 
 /// The assignment of a state to a name.
 fn named(alloc: Global, state: State, bytes: &[u8]) -> Result<Assignment, Error>
-    ensures { MatchResult result (λ a. named (state_of state) bytes.now ≡ Ok (attribute_of a)) (λ e. IsMemoryOr e (λ fault. named (state_of state) bytes.now ≡ Err fault)) }
+    ensures { Computes attribute_of (named (state_of state) bytes.now) result }
 {
     Ok(Assignment {
         name: name(alloc, bytes)?,
@@ -98,7 +98,7 @@ fn named(alloc: Global, state: State, bytes: &[u8]) -> Result<Assignment, Error>
 
 /// The name of these bytes.
 fn name(alloc: Global, bytes: &[u8]) -> Result<Name, Error>
-    ensures { MatchResult result (λ n. name_of bytes.now ≡ Ok (name_bytes n)) (λ e. IsMemoryOr e (λ fault. name_of bytes.now ≡ Err fault)) }
+    ensures { Computes name_bytes (name_of bytes.now) result }
 {
     match Name::from_bytes(alloc, bytes)? {
         Some(name) => Ok(name),
@@ -108,7 +108,7 @@ fn name(alloc: Global, bytes: &[u8]) -> Result<Name, Error>
 
 /// The value that these bytes write.
 fn value(alloc: Global, written: &[u8]) -> Result<Vec<u8>, Error>
-    ensures { MatchResult result (λ value. value_of written.now ≡ Ok value.items) (λ e. IsMemoryOr e (λ fault. value_of written.now ≡ Err fault)) }
+    ensures { Computes (λ value. value.items) (value_of written.now) result }
 {
     let mut value = Vec::new(alloc);
     let mut escaped = false;

@@ -1,7 +1,7 @@
 //! What long magic asks for (gitglossary, "pathspec").
-ghost use Rattle.std.specs.Prelude.{◌≡◌, map, unwrap_or, Some, None, Ok, Err, MatchResult};
+ghost use Rattle.std.specs.Prelude.{◌≡◌, map, unwrap_or, None};
 ghost use Rattle.pathspec_parts.specs.AttributeStates.{attribute_of};
-ghost use Rattle.gix_pathspec.specs.Errors.{IsMemoryOr};
+ghost use Rattle.gix_pathspec.specs.Errors.{IsAnswer};
 ghost use Rattle.gix_pathspec.specs.Signatures.{signature_bits};
 ghost use Rattle.gix_pathspec.specs.Keywords.{asked_by};
 ghost use Rattle.gix_pathspec.specs.Reading.{Magic as Said, keyword_of, same_mode, picked, listed, after_piece, after_pieces, long_pieces, no_magic};
@@ -85,7 +85,7 @@ impl Magic {
 
     /// With the mode that a piece picks; a mode may be picked again, and not beside another.
     fn picking(self, alloc: Global, piece: &[u8], mode: SearchMode) -> Result<Magic, Error>
-        ensures { MatchResult result (λ m. picked self piece.now mode ≡ Ok m) (λ e. IsMemoryOr e (λ fault. picked self piece.now mode ≡ Err fault)) }
+        ensures { IsAnswer (picked self piece.now mode) result }
     {
         if !is_same(self.mode.unwrap_or(mode), mode) {
             return Err(Error::LiteralWithGlob(error::copied(alloc, piece)?));
@@ -98,7 +98,7 @@ impl Magic {
 
     /// With the attributes that a piece lists; only one list may stand, unless the one before was of spaces alone.
     fn listing(self, alloc: Global, piece: &[u8], list: &[u8]) -> Result<Magic, Error>
-        ensures { MatchResult result (λ m. listed self piece.now list.now ≡ Ok m) (λ e. IsMemoryOr e (λ fault. listed self piece.now list.now ≡ Err fault)) }
+        ensures { IsAnswer (listed self piece.now list.now) result }
     {
         if !self.attributes.is_empty() {
             return Err(Error::SecondAttributes(error::copied(alloc, piece)?));
@@ -111,7 +111,7 @@ impl Magic {
 
     /// With what a piece asks for.
     fn with_piece(self, alloc: Global, piece: &[u8]) -> Result<Magic, Error>
-        ensures { MatchResult result (λ m. after_piece self piece.now (keyword_of piece.now) ≡ Ok m) (λ e. IsMemoryOr e (λ fault. after_piece self piece.now (keyword_of piece.now) ≡ Err fault)) }
+        ensures { IsAnswer (after_piece self piece.now (keyword_of piece.now)) result }
     {
         match keyword_of(piece) {
             Keyword::Adds(flag) => Ok(Magic {
@@ -131,7 +131,7 @@ impl Magic {
 /// # Errors
 /// [`Error::InvalidKeyword`] and [`Error::LiteralWithGlob`] for the first piece at fault, [`Error::Memory`].
 pub(super) fn after_long(alloc: Global, short: Magic, long: &[u8]) -> Result<Magic, Error>
-    ensures { MatchResult result (λ m. after_pieces short (long_pieces long.now) ≡ Ok m) (λ e. IsMemoryOr e (λ fault. after_pieces short (long_pieces long.now) ≡ Err fault)) }
+    ensures { IsAnswer (after_pieces short (long_pieces long.now)) result }
 {
     let mut magic = short;
     let mut rest = Some(long);
