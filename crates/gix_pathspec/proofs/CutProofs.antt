@@ -1,10 +1,29 @@
 -- The cut of a text, by the tests that are made on the way.
-use Rattle.std.proofs.Common.{◌≡◌, ℕ, Bool, true, false, inl, inr, refl, ◌∙◌, ap, List, [], ◌∷◌, drop, ◌==◌, Some, None, Ok, Err}
-use Rattle.std.proofs.lemmas.Bool.{cases_Bool}
+use Rattle.std.proofs.Common.{◌≡◌, ℕ, Bool, true, false, inl, inr, refl, sym, ◌∙◌, ap, List, [], ◌∷◌, take, drop, ◌==◌, Some, None, Ok, Err}
+use Rattle.std.proofs.lemmas.Bool.{cases_Bool, eqb-true, false≢true}
+use Rattle.std.specs.Prelude.{nat_eq}
+use Rattle.std.specs.Cmp.Lexicographic.{pointwise}
 use Rattle.std.specs.List.{take_while, prefix_len, list_any, before_first, after_first}
 use Rattle.pathspec_parts.specs.Bytes.{colon, open_paren, close_paren, first_is}
 use Rattle.gix_pathspec.specs.Faults.Fault.{UnimplementedShort, MissingParen}
 use Rattle.gix_pathspec.specs.Reading.{cut_of, cut_end, cut_long, cut_paren, is_short, is_unimplemented, is_colon, behind_mark}
+
+-- ---- a byte in front that is stripped
+
+-- the text begins with the byte
+pub begins-first : (b : ℕ) (text : List ℕ) → pointwise nat_eq (take 1 text) (b ∷ []) ≡ first_is (λ x. x == b) text
+begins-first b [] = refl
+begins-first b (x ∷ xs) = elim (cases_Bool (x == b)) [
+  | inl y ↦ rw y refl
+  | inr n ↦ rw n refl
+]
+
+-- and is the byte with what is left
+pub begins-whole : (b : ℕ) (text rest : List ℕ) → pointwise nat_eq (take 1 text) (b ∷ []) ≡ true → rest ≡ drop 1 text → text ≡ b ∷ rest
+begins-whole b [] rest h e = absurd (false≢true h)
+begins-whole b (x ∷ xs) rest h e = rw (eqb-true x b (sym (begins-first b (x ∷ xs)) ∙ h), e) refl
+
+-- ---- the cut
 
 -- behind short magic stands an end mark or none
 cut_end-long : (text short rest : List ℕ) → first_is is_unimplemented rest ≡ false → cut_end text short rest ≡ cut_long text short (first_is is_colon rest) (behind_mark rest)

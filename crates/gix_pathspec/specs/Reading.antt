@@ -1,5 +1,5 @@
 -- What the text of a spec says (gitglossary, "pathspec").
-use Rattle.std.specs.Prelude.{◌≡◌, ◌≢◌, ℕ, ◌+◌, ◌%◌, Bool, true, false, not, ◌&&◌, ◌||◌, List, [], ◌∷◌, ◌++◌, drop, filter, codes, bytes_eq, ◌==◌, if◌then◌else◌, Option, Some, None, unwrap_or, Result, Ok, Err, IsTrue, IsFalse, bit_or, ◌↔◌}
+use Rattle.std.specs.Prelude.{◌≡◌, ◌≢◌, ℕ, ◌+◌, ◌%◌, ◌<◌, Bool, true, false, not, ◌&&◌, ◌||◌, List, [], ◌∷◌, ◌++◌, take, drop, length, filter, codes, bytes_eq, ◌==◌, if◌then◌else◌, Option, Some, None, unwrap_or, Result, Ok, Err, IsTrue, IsFalse, bit_or, ◌↔◌}
 use Rattle.std.specs.List.{list_all, list_any, before_first, after_first, take_while, prefix_len, onto_first}
 use Rattle.gix_pathspec.specs.declared.SearchMode.{SearchMode}
 use Rattle.gix_pathspec.specs.declared.SearchMode.TheVariants.{ShellGlob, Literal, PathAwareGlob}
@@ -30,6 +30,18 @@ long_pieces_from n [] = [] ∷ []
 long_pieces_from n (b ∷ bs) =
     let others = long_pieces_from (backslashes_after n b) bs in
     if cuts n b then [] ∷ others else onto_first b others
+
+-- Nothing cuts the text: this is its one piece.
+abbrev pub IsOnlyPiece : List ℕ → List ℕ → Type 0
+IsOnlyPiece text piece = long_pieces_from 0 text ≡ piece ∷ []
+
+-- a comma cuts the text into its first piece and the others
+abbrev pub IsFirstPiece : List ℕ → List ℕ → List ℕ → Type 0
+IsFirstPiece text piece others = (length others < length text) × (long_pieces_from 0 text ≡ piece ∷ long_pieces_from 0 others)
+
+-- the place of that comma
+abbrev pub IsFirstCut : List ℕ → ℕ → Type 0
+IsFirstCut text at = (at < length text) × (long_pieces_from 0 text ≡ take at text ∷ long_pieces_from 0 (drop (at + 1) text))
 
 -- The pieces of long magic: it is cut at each comma that an even number of backslashes precedes directly, and empty pieces are dropped.
 abbrev pub long_pieces : List ℕ → List (List ℕ)
@@ -110,6 +122,10 @@ is_short b = is_one_of (codes "/^!") b
 -- the bytes that git keeps free for short magic
 unfoldable pub is_unimplemented : ℕ → Bool
 is_unimplemented b = is_one_of (codes "\"#%&'-,;<=>@_`~") b
+
+-- The text begins with this byte, which git keeps free.
+abbrev pub BeginsFree : List ℕ → ℕ → Type 0
+BeginsFree text b = (text ≡ b ∷ drop 1 text) × IsTrue (is_unimplemented b)
 
 -- the byte `:`
 abbrev pub is_colon : ℕ → Bool

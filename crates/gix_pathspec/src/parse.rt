@@ -4,7 +4,7 @@ ghost use Rattle.std.specs.List.{list_any};
 ghost use Rattle.pathspec_parts.specs.Bytes.{colon, first_is, is_one_of};
 ghost use Rattle.gix_pathspec.specs.Errors.{Computes, IsAnswer, IsMemory, IsMemoryOr};
 ghost use Rattle.gix_pathspec.specs.Signatures.{signature_bits};
-ghost use Rattle.gix_pathspec.specs.Reading.{Reads, IsRefused, reading, magic_says, magic_of, short_bits, spec_of, is_colon};
+ghost use Rattle.gix_pathspec.specs.Reading.{Reads, IsRefused, reading, magic_says, magic_of, short_bits, spec_of, is_colon, OneCut, ReadingIsExact};
 ghost use Rattle.gix_pathspec.specs.Patterns.{pattern_spec};
 
 mod cut;
@@ -35,15 +35,17 @@ use std::alloc::Global;
 /// where it is a second list, or the error of its list; [`Error::Memory`].
 pub fn parse(alloc: Global, input: &[u8], defaults: Defaults) -> Result<Pattern, Error>
     ensures reads { IfOk result (λ p. Reads defaults input.now (pattern_spec p)) }
-    ensures refused { IfErr result (λ e. IsMemoryOr e (λ fault. IsRefused defaults input.now fault)) }
+    ensures refused { IfErr result (λ e. IsMemoryOr e (IsRefused defaults input.now)) }
     // The same by the function that other definitions stand on.
     ensures exact { Computes pattern_spec (reading defaults input.now) result }
+    // A text has at most one cut, and the relation and the function say the same of each text.
+    ensures grammar { OneCut × ReadingIsExact }
 {
-    read(alloc, input, defaults)
+    pattern_of(alloc, input, defaults)
 }
 
-/// Reads the text of a pathspec.
-fn read(alloc: Global, input: &[u8], defaults: Defaults) -> Result<Pattern, Error>
+/// The pattern that a text says.
+fn pattern_of(alloc: Global, input: &[u8], defaults: Defaults) -> Result<Pattern, Error>
     ensures { Computes pattern_spec (reading defaults input.now) result }
 {
     if input.is_empty() {
@@ -58,16 +60,16 @@ fn read(alloc: Global, input: &[u8], defaults: Defaults) -> Result<Pattern, Erro
     if is_lone_colon(input) {
         return Ok(Pattern::nil(alloc));
     }
-    read_magic(alloc, input, defaults)
+    pattern_with_magic(alloc, input, defaults)
 }
 
-/// Reads a text that begins with `:` and doesn't end there.
-fn read_magic(alloc: Global, text: &[u8], defaults: Defaults) -> Result<Pattern, Error>
+/// The pattern that a text says which begins with `:` and doesn't end there.
+fn pattern_with_magic(alloc: Global, text: &[u8], defaults: Defaults) -> Result<Pattern, Error>
     ensures { Computes pattern_spec (magic_says defaults text.now) result }
 {
     let cut = cut::cut_text(alloc, text)?;
-    let said = magic_of(alloc, &cut)?;
-    Pattern::with_body(alloc, defaults, said, cut.body)
+    let magic = magic_of(alloc, &cut)?;
+    Pattern::with_body(alloc, defaults, magic, cut.body)
 }
 
 /// What the magic of a cut says.
@@ -101,9 +103,10 @@ fn begins_with_colon(input: &[u8]) -> bool
 fn signature_of(short: &[u8]) -> MagicSignature
     ensures { signature_bits result ≡ short_bits short.now }
 {
-    let top = flag_if(short.contains(&b'/'), MagicSignature::TOP);
-    let exclude = flag_if(holds_exclude(short), MagicSignature::EXCLUDE);
-    top.union(exclude)
+    let mut signature = MagicSignature::empty();
+    signature.set(MagicSignature::TOP, short.contains(&b'/'));
+    signature.set(MagicSignature::EXCLUDE, holds_exclude(short));
+    signature
 }
 
 /// Whether short magic holds `^` or `!`.
@@ -111,17 +114,6 @@ fn holds_exclude(short: &[u8]) -> bool
     ensures { result ≡ list_any (is_one_of (codes "^!")) short.now }
 {
     short.iter().any(|byte| matches!(*byte, b'^' | b'!'))
-}
-
-/// The flag, or no bit.
-fn flag_if(is_set: bool, flag: MagicSignature) -> MagicSignature
-    ensures { signature_bits result ≡ (if is_set then signature_bits flag else 0) }
-{
-    if is_set {
-        flag
-    } else {
-        MagicSignature::empty()
-    }
 }
 
 impl Pattern {
@@ -137,7 +129,8 @@ impl Pattern {
         ensures err { IfErr result IsMemory }
     {
         let (path, wants_directory) = path::strip_last_slash(body);
-        let directory = flag_if(wants_directory, MagicSignature::MUST_BE_DIR);
+        let mut directory = MagicSignature::empty();
+        directory.set(MagicSignature::MUST_BE_DIR, wants_directory);
         Ok(Pattern {
             path: Vec::from_slice(alloc, path)?,
             signature: defaults.signature.union(magic.signature).union(directory),

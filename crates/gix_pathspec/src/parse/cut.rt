@@ -1,10 +1,10 @@
 //! The cut of a text into its magic and its body.
-ghost use Rattle.std.specs.Prelude.{◌≡◌, ◌∷◌, drop, Some, None, Ok, Err, IsTrue, IsFalse, MatchOption, length, ◌≤◌, ◌==◌};
+ghost use Rattle.std.specs.Prelude.{◌≡◌, drop, IfNone, IfSome, IsFalse, length, ◌≤◌, ◌==◌};
 ghost use Rattle.std.specs.Option.{option_map};
 ghost use Rattle.std.specs.List.{take_while, prefix_len, list_any};
-ghost use Rattle.pathspec_parts.specs.Bytes.{open_paren, close_paren, first_is};
+ghost use Rattle.pathspec_parts.specs.Bytes.{close_paren, first_is};
 ghost use Rattle.gix_pathspec.specs.Errors.{IsAnswer};
-ghost use Rattle.gix_pathspec.specs.Reading.{Cut as Parts, cut_of, behind_mark, is_short, is_unimplemented, is_colon};
+ghost use Rattle.gix_pathspec.specs.Reading.{Cut as Parts, cut_of, behind_mark, is_short, is_unimplemented, is_colon, BeginsFree};
 
 use crate::{Error, error};
 use pathspec_parts::split;
@@ -37,12 +37,12 @@ impl<'t> Model for Cut<'t> {
 pub(super) fn cut_text(alloc: Global, text: &[u8]) -> Result<Cut<'_>, Error>
     ensures { IsAnswer (cut_of text.now) result }
 {
-    let (short, rest) = split_short(behind_first(text));
+    let (short, rest) = split_short(after_first(text));
     if let Some(byte) = free_byte(rest) {
         return Err(Error::UnimplementedShort(byte));
     }
     let (ended, rest) = split_mark(rest);
-    let Some(inside) = behind_paren(rest) else {
+    let Some(inside) = rest.strip_prefix(b"(") else {
         return Ok(Cut {
             short,
             ended,
@@ -62,12 +62,12 @@ pub(super) fn cut_text(alloc: Global, text: &[u8]) -> Result<Cut<'_>, Error>
     })
 }
 
-/// What stands behind the first byte.
-fn behind_first(text: &[u8]) -> &[u8]
+/// What follows the first byte.
+fn after_first(text: &[u8]) -> &[u8]
     ensures { result.now ≡ drop 1 text.now }
 {
     match text {
-        [_, behind @ ..] => behind,
+        [_, rest @ ..] => rest,
         [] => text,
     }
 }
@@ -81,7 +81,8 @@ fn is_closed(inside: &[u8]) -> bool
 
 /// The byte in front, if git keeps it free for more short magic.
 fn free_byte(rest: &[u8]) -> Option<u8>
-    ensures { MatchOption result (IsFalse (first_is is_unimplemented rest.now)) (λ b. (rest.now ≡ b ∷ drop 1 rest.now) × IsTrue (is_unimplemented b)) }
+    ensures none { IfNone result (IsFalse (first_is is_unimplemented rest.now)) }
+    ensures free { IfSome result (BeginsFree rest.now) }
 {
     match rest {
         [byte, ..] if is_unimplemented(*byte) => Some(*byte),
@@ -113,16 +114,6 @@ fn split_mark(rest: &[u8]) -> (bool, &[u8])
     match rest {
         [b':', behind @ ..] => (true, behind),
         _ => (false, rest),
-    }
-}
-
-/// What stands behind a `(` in front.
-fn behind_paren(rest: &[u8]) -> Option<&[u8]>
-    ensures { MatchOption result (IsFalse (first_is (λ b. b == open_paren) rest.now)) (λ inside. rest.now ≡ open_paren ∷ inside.now) }
-{
-    match rest {
-        [b'(', inside @ ..] => Some(inside),
-        _ => None,
     }
 }
 

@@ -1,7 +1,7 @@
 //! Lists of attributes, as `attr:` takes them (gitglossary, "pathspec").
-ghost use Rattle.std.specs.Prelude.{◌≡◌, map, ◌==◌, ◌&&◌, not, Some, drop, IsTrue, IsFalse, MatchOption, MatchResult};
+ghost use Rattle.std.specs.Prelude.{◌≡◌, map, vec_items, ◌==◌, Some, IsTrue, IsFalse, IfOk, IfErr, OnErr};
 ghost use Rattle.std.specs.List.{list_any};
-ghost use Rattle.pathspec_parts.specs.Bytes.{backslash, equals_sign, first_is};
+ghost use Rattle.pathspec_parts.specs.Bytes.{equals_sign};
 ghost use Rattle.pathspec_parts.specs.AttributeNames.{name_bytes};
 ghost use Rattle.pathspec_parts.specs.AttributeStates.{state_of, attribute_of};
 ghost use Rattle.gix_pathspec.specs.Faults.Fault.{InvalidValueByte};
@@ -44,31 +44,20 @@ pub fn attributes(alloc: Global, list: &[u8]) -> Result<Vec<Assignment>, Error>
 }
 
 /// The assignment that a part of a list says.
-#[tactic(auto, unfolding(crate::specs::AttributeLists::assignment_of))]
 fn assignment(alloc: Global, part: &[u8]) -> Result<Assignment, Error>
     ensures { Computes attribute_of (assignment_of part.now) result }
 {
-    if let Some(name) = behind_mark(part, b'!') {
-        return named(alloc, State::Unspecified, name);
+    if let Some(name) = part.strip_prefix(b"!") {
+        return assignment_of_state(alloc, State::Unspecified, name);
     }
-    if let Some(name) = behind_mark(part, b'-') {
-        return named(alloc, State::Unset, name);
+    if let Some(name) = part.strip_prefix(b"-") {
+        return assignment_of_state(alloc, State::Unset, name);
     }
     if !holds_equals_sign(part) {
-        return named(alloc, State::Set, part);
+        return assignment_of_state(alloc, State::Set, part);
     }
     let (name, written) = split::at_first(part, b'=');
-    valued(alloc, name, written)
-}
-
-/// What stands behind the mark, if it stands in front.
-fn behind_mark(part: &[u8], mark: u8) -> Option<&[u8]>
-    ensures { MatchOption result (IsFalse (first_is (λ b. b == mark) part.now)) (λ behind. IsTrue (first_is (λ b. b == mark) part.now) × (behind.now ≡ drop 1 part.now)) }
-{
-    match part {
-        [byte, behind @ ..] if *byte == mark => Some(behind),
-        _ => None,
-    }
+    assignment_of_value(alloc, name, written)
 }
 
 /// Whether a `=` stands in it.
@@ -78,16 +67,16 @@ fn holds_equals_sign(part: &[u8]) -> bool
     part.contains(&b'=')
 }
 
-/// What `name=value` says. The value is read before the name.
-fn valued(alloc: Global, name: &[u8], written: &[u8]) -> Result<Assignment, Error>
+/// The assignment of a value to a name. The value is read before the name.
+fn assignment_of_value(alloc: Global, name: &[u8], written: &[u8]) -> Result<Assignment, Error>
     ensures { Computes attribute_of (valued name.now written.now) result }
 {
     let value = value(alloc, written)?;
-    named(alloc, State::Value(value), name)
+    assignment_of_state(alloc, State::Value(value), name)
 }
 
 /// The assignment of a state to a name.
-fn named(alloc: Global, state: State, bytes: &[u8]) -> Result<Assignment, Error>
+fn assignment_of_state(alloc: Global, state: State, bytes: &[u8]) -> Result<Assignment, Error>
     ensures { Computes attribute_of (named (state_of state) bytes.now) result }
 {
     Ok(Assignment {
@@ -108,7 +97,7 @@ fn name(alloc: Global, bytes: &[u8]) -> Result<Name, Error>
 
 /// The value that these bytes write.
 fn value(alloc: Global, written: &[u8]) -> Result<Vec<u8>, Error>
-    ensures { Computes (λ value. value.items) (value_of written.now) result }
+    ensures { Computes vec_items (value_of written.now) result }
 {
     let mut value = Vec::new(alloc);
     let mut escaped = false;
@@ -126,7 +115,9 @@ fn value(alloc: Global, written: &[u8]) -> Result<Vec<u8>, Error>
 
 /// The byte, if a value may hold it.
 fn value_byte(byte: u8) -> Result<u8, Error>
-    ensures { MatchResult result (λ b. (b ≡ byte) × IsTrue (is_value_byte byte)) (λ e. (fault_of e ≡ Some (InvalidValueByte byte)) × IsFalse (is_value_byte byte)) }
+    ensures ok { IfOk result (λ b. (b ≡ byte) × IsTrue (is_value_byte byte)) }
+    ensures err { IfErr result (λ e. fault_of e ≡ Some (InvalidValueByte byte)) }
+    ensures refused { OnErr result (IsFalse (is_value_byte byte)) }
 {
     if is_value_byte(byte) {
         Ok(byte)

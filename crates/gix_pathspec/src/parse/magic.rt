@@ -64,8 +64,8 @@ fn keyword_of(piece: &[u8]) -> Keyword<'_>
     }
 }
 
-/// Whether the modes are one.
-fn is_same(mode: SearchMode, other: SearchMode) -> bool
+/// Whether the modes are the same.
+fn is_same_mode(mode: SearchMode, other: SearchMode) -> bool
     ensures { result ≡ same_mode mode other }
 {
     mode == other
@@ -84,10 +84,10 @@ impl Magic {
     }
 
     /// With the mode that a piece picks; a mode may be picked again, and not beside another.
-    fn picking(self, alloc: Global, piece: &[u8], mode: SearchMode) -> Result<Magic, Error>
+    fn with_mode(self, alloc: Global, piece: &[u8], mode: SearchMode) -> Result<Magic, Error>
         ensures { IsAnswer (picked self piece.now mode) result }
     {
-        if !is_same(self.mode.unwrap_or(mode), mode) {
+        if !is_same_mode(self.mode.unwrap_or(mode), mode) {
             return Err(Error::LiteralWithGlob(error::copied(alloc, piece)?));
         }
         Ok(Magic {
@@ -97,7 +97,7 @@ impl Magic {
     }
 
     /// With the attributes that a piece lists; only one list may stand, unless the one before was of spaces alone.
-    fn listing(self, alloc: Global, piece: &[u8], list: &[u8]) -> Result<Magic, Error>
+    fn with_attributes(self, alloc: Global, piece: &[u8], list: &[u8]) -> Result<Magic, Error>
         ensures { IsAnswer (listed self piece.now list.now) result }
     {
         if !self.attributes.is_empty() {
@@ -118,9 +118,9 @@ impl Magic {
                 signature: self.signature.union(flag),
                 ..self
             }),
-            Keyword::Picks(mode) => self.picking(alloc, piece, mode),
+            Keyword::Picks(mode) => self.with_mode(alloc, piece, mode),
             Keyword::Ignored => Ok(self),
-            Keyword::Lists(list) => self.listing(alloc, piece, list),
+            Keyword::Lists(list) => self.with_attributes(alloc, piece, list),
             Keyword::Unknown => Err(Error::InvalidKeyword(error::copied(alloc, piece)?)),
         }
     }

@@ -1,11 +1,11 @@
 //! The pieces of long magic.
-ghost use Rattle.std.specs.Prelude.{◌≡◌, ◌<◌, ◌+◌, [], ◌∷◌, take, drop, length, MatchOption, ◌==◌, ◌&&◌, not};
+ghost use Rattle.std.specs.Prelude.{◌≡◌, IfNone, IfSome, MatchOption, ◌==◌, ◌&&◌, not};
 ghost use Rattle.pathspec_parts.specs.Bytes.{comma, backslash};
-ghost use Rattle.gix_pathspec.specs.Reading.{long_pieces_from};
+ghost use Rattle.gix_pathspec.specs.Reading.{IsOnlyPiece, IsFirstPiece, IsFirstCut};
 
 /// The place of the first comma that an even number of backslashes precedes directly: it cuts.
 fn place_of_cut(long: &[u8]) -> Option<usize>
-    ensures { MatchOption result (long_pieces_from 0 long.now ≡ long.now ∷ []) (λ at. (at < length long.now) × (long_pieces_from 0 long.now ≡ take at long.now ∷ long_pieces_from 0 (drop (at + 1) long.now))) }
+    ensures { MatchOption result (IsOnlyPiece long.now long.now) (IsFirstCut long.now) }
 {
     let mut escaped = false;
     for (at, byte) in long.iter().enumerate() {
@@ -33,7 +33,8 @@ pub(super) fn is_escape(byte: u8, is_escaped: bool) -> bool
 
 /// The first piece, and what stands behind the comma that cuts it off, if one does.
 pub(super) fn split_piece(long: &[u8]) -> (&[u8], Option<&[u8]>)
-    ensures pieces { MatchOption result.1 (long_pieces_from 0 long.now ≡ result.0.now ∷ []) (λ behind. (length behind.now < length long.now) × (long_pieces_from 0 long.now ≡ result.0.now ∷ long_pieces_from 0 behind.now)) }
+    ensures last { IfNone result.1 (IsOnlyPiece long.now result.0.now) }
+    ensures first { IfSome result.1 (λ others. IsFirstPiece long.now result.0.now others.now) }
 {
     match place_of_cut(long) {
         Some(at) => (&long[..at], Some(&long[at + 1..])),

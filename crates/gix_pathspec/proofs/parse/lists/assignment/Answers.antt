@@ -1,8 +1,27 @@
--- A part without a mark in front that holds `=`.
-use Rattle.std.proofs.Common.{sym, ◌∙◌}
+-- A part with a mark in front, and one without that holds `=`.
+use Rattle.std.proofs.Common.{◌≡◌, ◌==◌, false, sym, ◌∙◌}
+use Rattle.pathspec_parts.specs.Bytes.{bang, dash, first_is}
 use Rattle.gix_pathspec.specs.AttributeLists.{assignment_of}
+use Rattle.gix_pathspec.proofs.CutProofs.{begins-first}
 use Rattle.gix_pathspec.proofs.parse.lists.assignment.Goals as goal
+
+pub returns-in-Some : goal.returns-in-Some
+unfolding assignment_of
+returns-in-Some c = rw (sym (begins-first bang c.args.part.now) ∙ c.in-Some.ensures.cases.0, ← c.in-Some.ensures.cases.1) c.assignment_of_state.ensures
+
+pub returns-in-Some-strip_prefix : goal.returns-in-Some-strip_prefix
+unfolding assignment_of
+returns-in-Some-strip_prefix c =
+    rw (sym (begins-first bang c.args.part.now) ∙ c.in_default.ensures.cases, sym (begins-first dash c.args.part.now) ∙ c.in-Some-strip_prefix.ensures.cases.0, ← c.in-Some-strip_prefix.ensures.cases.1) c.assignment_of_state-in-Some-strip_prefix.ensures
+
+pub returns-then-not-holds_equals_sign : goal.returns-then-not-holds_equals_sign
+unfolding assignment_of
+returns-then-not-holds_equals_sign c =
+    let no_dash : first_is (λ b. b == dash) c.args.part.now ≡ false = sym (begins-first dash c.args.part.now) ∙ c.in_default-strip_prefix.ensures.cases in
+    rw (sym (begins-first bang c.args.part.now) ∙ c.in_default.ensures.cases, no_dash, sym c.holds_equals_sign.ensures ∙ c.if-not-holds_equals_sign.true) (rw no_dash at c.assignment_of_state-then-not-holds_equals_sign.ensures)
 
 pub returns : goal.returns
 unfolding assignment_of
-returns c = rw (c.in_default.ensures, c.in_default-behind_mark.ensures, sym c.holds_equals_sign.ensures ∙ c.if-not-holds_equals_sign.false, ← c.at_first.ensures.before, ← c.at_first.ensures.behind) c.valued.ensures
+returns c =
+    rw (sym (begins-first bang c.args.part.now) ∙ c.in_default.ensures.cases, sym (begins-first dash c.args.part.now) ∙ c.in_default-strip_prefix.ensures.cases, sym c.holds_equals_sign.ensures ∙ c.if-not-holds_equals_sign.false, ← c.at_first.ensures.before, ← c.at_first.ensures.behind)
+    c.assignment_of_value.ensures

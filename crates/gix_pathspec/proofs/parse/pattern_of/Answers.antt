@@ -2,7 +2,7 @@
 use Rattle.std.proofs.Common.{sym, ◌∙◌, ap, Ok}
 use Rattle.gix_pathspec.specs.Reading.{spec_of}
 use Rattle.gix_pathspec.proofs.ParseProofs.{exact-from, exact-from_magic, reading-empty, reading-literal, reading-plain, reading-nil}
-use Rattle.gix_pathspec.proofs.parse.read.Goals as goal
+use Rattle.gix_pathspec.proofs.parse.pattern_of.Goals as goal
 
 pub returns-then-is_empty : goal.returns-then-is_empty
 returns-then-is_empty c = reading-empty c.args.defaults c.args.input.now (sym c.is_empty.ensures ∙ c.if-is_empty.true)
@@ -22,4 +22,4 @@ returns-then-is_lone_colon c =
 
 pub returns : goal.returns
 returns c =
-    exact-from_magic c.args.defaults c.args.input.now (sym c.is_empty.ensures ∙ c.if-is_empty.false) c.read_magic.result c.if-defaults.false (sym c.is_lone_colon.ensures ∙ c.if-is_lone_colon.false) (sym c.begins_with_colon.ensures ∙ c.if-not-begins_with_colon.false) c.read_magic.ensures
+    exact-from_magic c.args.defaults c.args.input.now (sym c.is_empty.ensures ∙ c.if-is_empty.false) c.pattern_with_magic.result c.if-defaults.false (sym c.is_lone_colon.ensures ∙ c.if-is_lone_colon.false) (sym c.begins_with_colon.ensures ∙ c.if-not-begins_with_colon.false) c.pattern_with_magic.ensures
