@@ -1,8 +1,8 @@
 //! The cut of a text into its magic and its body.
-ghost use Rattle.std.specs.Prelude.{◌≡◌, drop, IfNone, IfSome, IsFalse, length, ◌≤◌, ◌==◌};
+ghost use Rattle.std.specs.Prelude.{◌≡◌, drop, IfNone, IfSome, IsFalse, length, ◌≤◌};
 ghost use Rattle.std.specs.Option.{option_map};
-ghost use Rattle.std.specs.List.{take_while, prefix_len, list_any};
-ghost use Rattle.pathspec_parts.specs.Bytes.{close_paren, first_is};
+ghost use Rattle.std.specs.List.{take_while, prefix_len};
+ghost use Rattle.pathspec_parts.specs.Bytes.{first_is};
 ghost use Rattle.gix_pathspec.specs.Errors.{IsAnswer};
 ghost use Rattle.gix_pathspec.specs.Reading.{Cut as Parts, cut_of, behind_mark, is_short, is_unimplemented, is_colon, BeginsFree};
 
@@ -50,7 +50,7 @@ pub(super) fn cut_text(alloc: Global, text: &[u8]) -> Result<Cut<'_>, Error>
             body: rest,
         });
     };
-    if !is_closed(inside) {
+    if !inside.contains(&b')') {
         return Err(Error::MissingParen(error::copied(alloc, text)?));
     }
     let (long, body) = split::at_first(inside, b')');
@@ -70,13 +70,6 @@ fn after_first(text: &[u8]) -> &[u8]
         [_, rest @ ..] => rest,
         [] => text,
     }
-}
-
-/// Whether a `)` stands in it.
-fn is_closed(inside: &[u8]) -> bool
-    ensures { result ≡ list_any (λ b. b == close_paren) inside.now }
-{
-    inside.contains(&b')')
 }
 
 /// The byte in front, if git keeps it free for more short magic.

@@ -1,7 +1,5 @@
 //! Lists of attributes, as `attr:` takes them (gitglossary, "pathspec").
-ghost use Rattle.std.specs.Prelude.{◌≡◌, map, vec_items, ◌==◌, Some, IsTrue, IsFalse, IfOk, IfErr, OnErr};
-ghost use Rattle.std.specs.List.{list_any};
-ghost use Rattle.pathspec_parts.specs.Bytes.{equals_sign};
+ghost use Rattle.std.specs.Prelude.{◌≡◌, map, vec_items, Some, IsTrue, IsFalse, IfOk, IfErr, OnErr};
 ghost use Rattle.pathspec_parts.specs.AttributeNames.{name_bytes};
 ghost use Rattle.pathspec_parts.specs.AttributeStates.{state_of, attribute_of};
 ghost use Rattle.gix_pathspec.specs.Faults.Fault.{InvalidValueByte};
@@ -26,7 +24,7 @@ use std::alloc::Global;
 /// [`Error::EmptyAttributes`] for the empty list; for the first part at fault [`Error::InvalidValueByte`] or
 /// [`Error::TrailingEscape`], which tell of its value, and only then [`Error::InvalidName`]; [`Error::Memory`].
 pub fn attributes(alloc: Global, list: &[u8]) -> Result<Vec<Assignment>, Error>
-    ensures { Computes (λ said. map attribute_of said.items) (assignments_of list.now) result }
+    ensures { Computes (λ vec. map attribute_of vec.items) (assignments_of list.now) result }
 {
     if list.is_empty() {
         return Err(Error::EmptyAttributes);
@@ -53,18 +51,11 @@ fn assignment(alloc: Global, part: &[u8]) -> Result<Assignment, Error>
     if let Some(name) = part.strip_prefix(b"-") {
         return assignment_of_state(alloc, State::Unset, name);
     }
-    if !holds_equals_sign(part) {
+    if !part.contains(&b'=') {
         return assignment_of_state(alloc, State::Set, part);
     }
     let (name, written) = split::at_first(part, b'=');
     assignment_of_value(alloc, name, written)
-}
-
-/// Whether a `=` stands in it.
-fn holds_equals_sign(part: &[u8]) -> bool
-    ensures { result ≡ list_any (λ b. b == equals_sign) part.now }
-{
-    part.contains(&b'=')
 }
 
 /// The assignment of a value to a name. The value is read before the name.

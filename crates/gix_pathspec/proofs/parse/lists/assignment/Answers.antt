@@ -14,14 +14,14 @@ unfolding assignment_of
 returns-in-Some-strip_prefix c =
     rw (sym (begins-first bang c.args.part.now) ∙ c.in_default.ensures.cases, sym (begins-first dash c.args.part.now) ∙ c.in-Some-strip_prefix.ensures.cases.0, ← c.in-Some-strip_prefix.ensures.cases.1) c.assignment_of_state-in-Some-strip_prefix.ensures
 
-pub returns-then-not-holds_equals_sign : goal.returns-then-not-holds_equals_sign
+pub returns-then-not-contains : goal.returns-then-not-contains
 unfolding assignment_of
-returns-then-not-holds_equals_sign c =
+returns-then-not-contains c =
     let no_dash : first_is (λ b. b == dash) c.args.part.now ≡ false = sym (begins-first dash c.args.part.now) ∙ c.in_default-strip_prefix.ensures.cases in
-    rw (sym (begins-first bang c.args.part.now) ∙ c.in_default.ensures.cases, no_dash, sym c.holds_equals_sign.ensures ∙ c.if-not-holds_equals_sign.true) (rw no_dash at c.assignment_of_state-then-not-holds_equals_sign.ensures)
+    rw (sym (begins-first bang c.args.part.now) ∙ c.in_default.ensures.cases, no_dash, sym c.contains.ensures.value ∙ c.if-not-contains.true) (rw no_dash at c.assignment_of_state-then-not-contains.ensures)
 
 pub returns : goal.returns
 unfolding assignment_of
 returns c =
-    rw (sym (begins-first bang c.args.part.now) ∙ c.in_default.ensures.cases, sym (begins-first dash c.args.part.now) ∙ c.in_default-strip_prefix.ensures.cases, sym c.holds_equals_sign.ensures ∙ c.if-not-holds_equals_sign.false, ← c.at_first.ensures.before, ← c.at_first.ensures.behind)
+    rw (sym (begins-first bang c.args.part.now) ∙ c.in_default.ensures.cases, sym (begins-first dash c.args.part.now) ∙ c.in_default-strip_prefix.ensures.cases, sym c.contains.ensures.value ∙ c.if-not-contains.false, ← c.at_first.ensures.before, ← c.at_first.ensures.behind)
     c.assignment_of_value.ensures
