@@ -354,9 +354,6 @@ unfolding reading
 reads d [] s h = absurd (err_ok s Empty h)
 reads d (b ∷ m) s h = reads_at d b m s d.literal (bytes_eq (b ∷ m) (colon ∷ [])) (b == colon) refl refl refl (sym (reading_at d (b ∷ m) d.literal (bytes_eq (b ∷ m) (colon ∷ [])) (b == colon) (not_nil b m) refl refl refl) ∙ h)
 
-nothing_alone : bytes_eq (colon ∷ []) (colon ∷ []) ≡ true
-nothing_alone = refl
-
 pub plain_alone : (text : List ℕ) → first_is is_colon text ≡ false → bytes_eq text (colon ∷ []) ≡ false
 plain_alone text f = not_colon text (λ e. both_ways (first_is is_colon text) f (ap (first_is is_colon) e))
 

@@ -89,6 +89,22 @@ body_begins_with_colon_long : long (codes ":(attr:a=one b=):path") ≡ Ok (codes
 unfolding long
 body_begins_with_colon_long = refl
 
+comma_behind_one_backslash : parse (codes ":(a\\,b)x") ≡ Err (InvalidKeyword (codes "a\\,b"))
+unfolding parse
+comma_behind_one_backslash = refl
+
+comma_behind_two_backslashes : parse (codes ":(a\\\\,b)x") ≡ Err (InvalidKeyword (codes "a\\\\"))
+unfolding parse
+comma_behind_two_backslashes = refl
+
+comma_behind_three_backslashes : parse (codes ":(a\\\\\\,b)x") ≡ Err (InvalidKeyword (codes "a\\\\\\,b"))
+unfolding parse
+comma_behind_three_backslashes = refl
+
+list_of_spaces_then_list : parse (codes ":(attr: ,attr:a)x") ≡ Ok (spec_with (codes "x") 0 ShellGlob (assigned (codes "a") Set ∷ []))
+unfolding parse
+list_of_spaces_then_list = refl
+
 second_list_behind_spaces : long (codes ":(attr: ,attr:a)x") ≡ Ok (codes ":(attr:a)x")
 unfolding long
 second_list_behind_spaces = refl
@@ -96,6 +112,18 @@ second_list_behind_spaces = refl
 second_list : parse (codes ":(attr:a,attr:b)x") ≡ Err (SecondAttributes (codes "attr:b"))
 unfolding parse
 second_list = refl
+
+second_list_before_its_faults : parse (codes ":(attr:a,attr:--x)p") ≡ Err (SecondAttributes (codes "attr:--x"))
+unfolding parse
+second_list_before_its_faults = refl
+
+second_name : parse (codes ":(attr:a b)x") ≡ Ok (spec_with (codes "x") 0 ShellGlob (assigned (codes "a") Set ∷ assigned (codes "b") Set ∷ []))
+unfolding parse
+second_name = refl
+
+other_second_name : parse (codes ":(attr:a c)x") ≡ Ok (spec_with (codes "x") 0 ShellGlob (assigned (codes "a") Set ∷ assigned (codes "c") Set ∷ []))
+unfolding parse
+other_second_name = refl
 
 empty_list : parse (codes ":(attr:)x") ≡ Err EmptyAttributes
 unfolding parse

@@ -13,7 +13,7 @@ use Rattle.gix_pathspec.specs.Faults.Fault.{EmptyAttributes, InvalidName, Invali
 abbrev pub name_of : List ℕ → Result (List ℕ) Fault
 name_of name = if is_attribute_name name then Ok name else Err (InvalidName name)
 
--- A value as it is written is a row of units: a byte, a backslash with the byte behind it, or a backslash that nothing follows.
+-- A value as it is written is a row of units: a byte, a backslash with the byte after it, or a backslash that nothing follows.
 pub data Written : Type 0 where
   Plain : (byte : ℕ) → Written
   Escaped : (byte : ℕ) → Written
@@ -23,7 +23,7 @@ pub data Written : Type 0 where
 abbrev pub plain_before : ℕ → List Written → List Written
 plain_before b units = if b == backslash then units else Plain b ∷ units
 
--- the units of a text, behind a backslash or not
+-- the units of a text, after a backslash or not
 abbrev pub units_from : Bool → List ℕ → List Written
 units_from false [] = []
 units_from true [] = LoneBackslash ∷ []
@@ -34,10 +34,14 @@ units_from true (b ∷ bs) = Escaped b ∷ units_from false bs
 abbrev pub is_value_byte : ℕ → Bool
 is_value_byte b = is_ascii_alphanumeric b || is_one_of (codes ",-_") b
 
+-- the byte, or its fault
+abbrev pub checked_byte : ℕ → Result ℕ Fault
+checked_byte b = if is_value_byte b then Ok b else Err (InvalidValueByte b)
+
 -- the byte that a unit stands for, or its fault
 abbrev pub byte_of : List ℕ → Written → Result ℕ Fault
-byte_of written (Plain b) = if is_value_byte b then Ok b else Err (InvalidValueByte b)
-byte_of written (Escaped b) = if is_value_byte b then Ok b else Err (InvalidValueByte b)
+byte_of written (Plain b) = checked_byte b
+byte_of written (Escaped b) = checked_byte b
 byte_of written LoneBackslash = Err (TrailingEscape written)
 
 -- the value that a text writes, or the fault of its first unit at fault

@@ -12,46 +12,46 @@ pub enum Error {
     /// The text is empty.
     #[error("an empty string is not a valid pathspec")]
     Empty,
-    /// A byte of short magic that git keeps free for later.
+    /// A byte of short magic that git keeps free for later: the byte.
     #[error("unimplemented short keyword: {:?}", char::from(*.0))]
     UnimplementedShort(u8),
-    /// Long magic without its closing parenthesis: the whole text.
+    /// Long magic without its closing parenthesis: the whole text, from its `:` on.
     #[error("missing ')' at the end of pathspec magic in {}", BStr::new(.0.as_slice()))]
     MissingParen(Vec<u8>),
-    /// No keyword of long magic.
+    /// No keyword of long magic: the whole piece, as it stands between the commas that cut.
     #[error("found an unknown keyword in long magic: {}", BStr::new(.0.as_slice()))]
     InvalidKeyword(Vec<u8>),
-    /// `literal` behind `glob`, or the other way round: the second of them.
+    /// `literal` after `glob`, or the other way round: the second of them.
     #[error("'literal' and 'glob' are incompatible: {}", BStr::new(.0.as_slice()))]
     LiteralWithGlob(Vec<u8>),
-    /// A second list of attributes: its keyword.
+    /// A second list of attributes: its whole piece, with its `attr:`.
     #[error("only one attribute list is allowed: {}", BStr::new(.0.as_slice()))]
     SecondAttributes(Vec<u8>),
-    /// `attr:` without a list.
+    /// `attr:` without a list: nothing follows its colon.
     #[error("attribute list is empty")]
     EmptyAttributes,
-    /// No name of an attribute.
+    /// No name of an attribute: the name without the mark `-` or `!` before it, and without `=` and a value.
     #[error("invalid attribute name: {}", BStr::new(.0.as_slice()))]
     InvalidName(Vec<u8>),
-    /// A byte that no value of an attribute holds.
+    /// A byte that no value of an attribute holds: the byte, without a backslash before it.
     #[error("invalid byte in attribute value: {:?}", char::from(*.0))]
     InvalidValueByte(u8),
-    /// A value that ends within an escape, as it is written.
+    /// A value that ends with the backslash of an escape: the whole value as it is written, backslashes and all.
     #[error("escape at the end of attribute value: {}", BStr::new(.0.as_slice()))]
     TrailingEscape(Vec<u8>),
-    /// An absolute path that doesn't lie in the root.
+    /// An absolute path that doesn't lie in the root: the path as it was before the call.
     #[error("path is not inside of the repository: {}", BStr::new(.0.as_slice()))]
     OutsideRoot(Vec<u8>),
-    /// A path that climbs out of the repository.
+    /// A path that climbs out of the repository: the path as it was before the call, without the prefix.
     #[error("path leaves the repository: {}", BStr::new(.0.as_slice()))]
     LeavesRepository(Vec<u8>),
-    /// No word of truth.
+    /// No word of truth: the word.
     #[error("not a boolean: {}", BStr::new(.0.as_slice()))]
     NotTruth(Vec<u8>),
     /// Glob and no-glob are both asked for.
     #[error("glob and no-glob settings are incompatible")]
     GlobAndNoGlob,
-    /// Memory was wanted, and refused.
+    /// Memory ran out.
     #[error("out of memory")]
     Memory,
 }

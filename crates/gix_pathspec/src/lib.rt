@@ -87,6 +87,7 @@ pub enum SearchMode {
 #[cfg(test)]
 mod tests {
     use super::*;
+    use std::hash::{DefaultHasher, Hash, Hasher};
 
     #[test]
     fn four_flags_have_a_bit_each(rt: HostRuntime) {
@@ -103,13 +104,48 @@ mod tests {
         assert!(rt; MagicSignature::from_bits(256).is_none());
     }
 
+    fn hash_of<T: Hash>(value: &T) -> u64 {
+        let mut hasher = DefaultHasher::new();
+        value.hash(&mut hasher);
+        hasher.finish()
+    }
+
     #[test]
-    fn defaults_ask_for_nothing(rt: HostRuntime) {
-        let defaults = Defaults::default();
-        assert_eq!(rt; defaults.signature, MagicSignature::empty());
-        assert_eq!(rt; defaults.search_mode, SearchMode::ShellGlob);
-        assert!(rt; !defaults.literal);
-        assert!(rt; SearchMode::ShellGlob < SearchMode::Literal);
-        assert!(rt; SearchMode::Literal < SearchMode::PathAwareGlob);
+    fn signatures_are_ordered_by_their_bits(rt: HostRuntime) {
+        let rising = [
+            MagicSignature::empty(),
+            MagicSignature::TOP,
+            MagicSignature::ICASE,
+            MagicSignature::TOP.union(MagicSignature::ICASE),
+            MagicSignature::EXCLUDE,
+            MagicSignature::MUST_BE_DIR,
+            MagicSignature::from_bits_retain(256),
+        ];
+        for (at, one) in rising.iter().enumerate() {
+            for (place, other) in rising.iter().enumerate() {
+                assert_eq!(rt; one == other, at == place, "{at} == {place}");
+                assert_eq!(rt; one < other, at < place, "{at} < {place}");
+                let same_hash = hash_of(one) == hash_of(other);
+                assert_eq!(rt; same_hash, at == place, "hash of {at} and {place}");
+            }
+        }
+    }
+
+    #[test]
+    fn modes_are_ordered_by_their_place(rt: HostRuntime) {
+        let rising = [
+            SearchMode::ShellGlob,
+            SearchMode::Literal,
+            SearchMode::PathAwareGlob,
+        ];
+        for (at, one) in rising.iter().enumerate() {
+            for (place, other) in rising.iter().enumerate() {
+                assert_eq!(rt; one == other, at == place, "{at} == {place}");
+                assert_eq!(rt; one < other, at < place, "{at} < {place}");
+                let same_hash = hash_of(one) == hash_of(other);
+                assert_eq!(rt; same_hash, at == place, "hash of {at} and {place}");
+            }
+        }
+        assert_eq!(rt; SearchMode::default(), SearchMode::ShellGlob);
     }
 }

@@ -11,7 +11,7 @@ use pathspec_parts::split;
 use std::alloc::Global;
 use std::marker::Model;
 
-/// The parts of a text with magic, behind its `:`.
+/// The parts of a text with magic, after its `:`.
 #[derive(Drop)]
 pub(super) struct Cut<'t> {
     /// A word over `/`, `^` and `!`.
@@ -83,7 +83,7 @@ fn free_byte(rest: &[u8]) -> Option<u8>
     }
 }
 
-/// Short magic, and what stands behind it.
+/// Short magic, and what follows it.
 fn split_short(magic: &[u8]) -> (&[u8], &[u8])
     ensures short { result.0.now ≡ take_while is_short magic.now }
     ensures rest { result.1.now ≡ drop (prefix_len is_short magic.now) magic.now }
@@ -99,13 +99,13 @@ fn short_len(magic: &[u8]) -> usize
     magic.iter().take_while(|byte| is_short(**byte)).count()
 }
 
-/// Whether an end mark stands in front, and what stands behind it.
+/// Whether an end mark stands in front, and what follows it.
 fn split_mark(rest: &[u8]) -> (bool, &[u8])
     ensures ended { result.0 ≡ first_is is_colon rest.now }
-    ensures behind { result.1.now ≡ behind_mark rest.now }
+    ensures rest { result.1.now ≡ behind_mark rest.now }
 {
     match rest {
-        [b':', behind @ ..] => (true, behind),
+        [b':', others @ ..] => (true, others),
         _ => (false, rest),
     }
 }

@@ -15,7 +15,7 @@ use std::alloc::Global;
 /// Reads a list of attributes, as `attr:` takes it (gitglossary, "pathspec"): parts between spaces, of which empty ones
 /// don't count. `name` sets an attribute, `-name` unsets it and `!name` leaves it unspecified. `name=value`, cut at its
 /// first `=`, gives it a value of ASCII letters, digits, `,`, `-` and `_`, in which a backslash stands for the byte
-/// behind it.
+/// after it.
 ///
 /// It looks at each byte a fixed number of times, and takes memory for the assignments with their names and values, or
 /// for the bytes that an error carries.
@@ -32,11 +32,11 @@ pub fn attributes(alloc: Global, list: &[u8]) -> Result<Vec<Assignment>, Error>
     let mut assignments = Vec::new(alloc);
     let mut rest = list;
     while !rest.is_empty() {
-        let (part, behind) = split::at_first(rest, b' ');
+        let (part, others) = split::at_first(rest, b' ');
         if !part.is_empty() {
             assignments.push(assignment(alloc, part)?)?;
         }
-        rest = behind;
+        rest = others;
     }
     Ok(assignments)
 }

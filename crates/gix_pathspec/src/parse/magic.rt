@@ -13,7 +13,7 @@ use pathspec_parts::attributes::Assignment;
 use std::alloc::Global;
 use std::marker::Model;
 
-/// What magic has said so far.
+/// What the magic that has been read asks for.
 #[derive(Drop)]
 pub(super) struct Magic {
     pub(super) signature: MagicSignature,
@@ -72,7 +72,7 @@ fn is_same_mode(mode: SearchMode, other: SearchMode) -> bool
 }
 
 impl Magic {
-    /// Magic that says nothing.
+    /// Magic that asks for nothing.
     pub(super) fn none(alloc: Global) -> Magic
         ensures { result ≡ no_magic }
     {
@@ -83,7 +83,7 @@ impl Magic {
         }
     }
 
-    /// With the mode that a piece picks; a mode may be picked again, and not beside another.
+    /// The same with the mode that a piece picks; a mode may be picked again, and not beside another.
     fn with_mode(self, alloc: Global, piece: &[u8], mode: SearchMode) -> Result<Magic, Error>
         ensures { IsAnswer (picked self piece.now mode) result }
     {
@@ -96,7 +96,7 @@ impl Magic {
         })
     }
 
-    /// With the attributes that a piece lists; only one list may stand, unless the one before was of spaces alone.
+    /// The same with the attributes that a piece lists; a second list is refused, unless the first was of spaces alone.
     fn with_attributes(self, alloc: Global, piece: &[u8], list: &[u8]) -> Result<Magic, Error>
         ensures { IsAnswer (listed self piece.now list.now) result }
     {
@@ -109,7 +109,7 @@ impl Magic {
         })
     }
 
-    /// With what a piece asks for.
+    /// The same with what a piece asks for.
     fn with_piece(self, alloc: Global, piece: &[u8]) -> Result<Magic, Error>
         ensures { IsAnswer (after_piece self piece.now (keyword_of piece.now)) result }
     {
@@ -129,18 +129,19 @@ impl Magic {
 /// What the pieces of long magic make of the magic before them. It looks at each byte a fixed number of times.
 ///
 /// # Errors
-/// [`Error::InvalidKeyword`] and [`Error::LiteralWithGlob`] for the first piece at fault, [`Error::Memory`].
+/// For the first piece at fault [`Error::InvalidKeyword`], [`Error::LiteralWithGlob`], [`Error::SecondAttributes`] or
+/// the error of its list, as [`lists::attributes`] gives it; [`Error::Memory`].
 pub(super) fn after_long(alloc: Global, short: Magic, long: &[u8]) -> Result<Magic, Error>
     ensures { IsAnswer (after_pieces short (long_pieces long.now)) result }
 {
     let mut magic = short;
     let mut rest = Some(long);
     while let Some(text) = rest {
-        let (piece, behind) = pieces::split_piece(text);
+        let (piece, others) = pieces::split_piece(text);
         if !piece.is_empty() {
             magic = magic.with_piece(alloc, piece)?;
         }
-        rest = behind;
+        rest = others;
     }
     Ok(magic)
 }

@@ -11,17 +11,17 @@ pub returns-in_default-strip_prefix : goal.returns-in_default-strip_prefix
 returns-in_default-strip_prefix c =
     let short = c.split_short.ensures.short ∙ rw c.after_first.ensures refl in
     let rest = c.split_short.ensures.rest ∙ rw c.after_first.ensures refl in
-    cut-body c.args.text.now _ _ short rest c.in_default.ensures.none _ _ c.split_mark-ended.ensures.ended c.split_mark-ended.ensures.behind (sym (begins-first open_paren c.split_mark-ended.result.1.now) ∙ c.in_default-strip_prefix.ensures.cases)
+    cut-body c.args.text.now _ _ short rest c.in_default.ensures.none _ _ c.split_mark-ended.ensures.ended c.split_mark-ended.ensures.rest (sym (begins-first open_paren c.split_mark-ended.result.1.now) ∙ c.in_default-strip_prefix.ensures.cases)
 
 pub returns-then-not-contains : goal.returns-then-not-contains
 returns-then-not-contains c =
     let short = c.split_short.ensures.short ∙ rw c.after_first.ensures refl in
     let rest = c.split_short.ensures.rest ∙ rw c.after_first.ensures refl in
-    rw (c.in_ok-copied.ensures.ok) (cut-open c.args.text.now _ _ short rest c.in_default.ensures.none _ _ c.split_mark-ended.ensures.ended c.split_mark-ended.ensures.behind _ (begins-whole open_paren _ _ c.in-Some-strip_prefix.ensures.cases.0 c.in-Some-strip_prefix.ensures.cases.1) (sym c.contains.ensures.value ∙ c.if-not-contains.true))
+    rw (c.in_ok-copied.ensures.ok) (cut-open c.args.text.now _ _ short rest c.in_default.ensures.none _ _ c.split_mark-ended.ensures.ended c.split_mark-ended.ensures.rest _ (begins-whole open_paren _ _ c.in-Some-strip_prefix.ensures.cases.0 c.in-Some-strip_prefix.ensures.cases.1) (sym c.contains.ensures.value ∙ c.if-not-contains.true))
 
 pub returns : goal.returns
 returns c =
     let short = c.split_short.ensures.short ∙ rw c.after_first.ensures refl in
     let rest = c.split_short.ensures.rest ∙ rw c.after_first.ensures refl in
-    let closed = cut-closed c.args.text.now _ _ short rest c.in_default.ensures.none _ _ c.split_mark-ended.ensures.ended c.split_mark-ended.ensures.behind _ (begins-whole open_paren _ _ c.in-Some-strip_prefix.ensures.cases.0 c.in-Some-strip_prefix.ensures.cases.1) (sym c.contains.ensures.value ∙ c.if-not-contains.false) in
+    let closed = cut-closed c.args.text.now _ _ short rest c.in_default.ensures.none _ _ c.split_mark-ended.ensures.ended c.split_mark-ended.ensures.rest _ (begins-whole open_paren _ _ c.in-Some-strip_prefix.ensures.cases.0 c.in-Some-strip_prefix.ensures.cases.1) (sym c.contains.ensures.value ∙ c.if-not-contains.false) in
     rw (c.at_first.ensures.before, c.at_first.ensures.behind) closed
