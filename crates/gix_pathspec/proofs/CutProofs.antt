@@ -37,11 +37,11 @@ cut_long-body : (text short : List ℕ) (ended : Bool) (rest : List ℕ) → fir
 cut_long-body text short ended [] h = refl
 cut_long-body text short ended (b ∷ bs) h = rw h refl
 
--- a text, its short magic, and what stands behind that
-module _ (text short rest : List ℕ) (s : short ≡ take_while is_short (drop 1 text)) (r : rest ≡ drop (prefix_len is_short (drop 1 text)) (drop 1 text)) where
+-- a text, what follows its first byte, its short magic, and what follows that
+module _ (text magic short rest : List ℕ) (m : magic ≡ drop 1 text) (s : short ≡ take_while is_short magic) (r : rest ≡ drop (prefix_len is_short magic) magic) where
   cut_of-end : cut_of text ≡ cut_end text short rest
   unfolding cut_of
-  cut_of-end = rw (s, r) refl
+  cut_of-end = rw (s, r, m) refl
 
   pub cut-free : (b : ℕ) → rest ≡ b ∷ drop 1 rest → is_unimplemented b ≡ true → cut_of text ≡ Err (UnimplementedShort b)
   cut-free b h u =
@@ -49,9 +49,9 @@ module _ (text short rest : List ℕ) (s : short ≡ take_while is_short (drop 1
       cut_of-end ∙ (ap (cut_end text short) h ∙ end)
 
   -- the end mark, and what stands behind it
-  module _ (kept : first_is is_unimplemented rest ≡ false) (ended : Bool) (behind : List ℕ) (e : ended ≡ first_is is_colon rest) (m : behind ≡ behind_mark rest) where
+  module _ (kept : first_is is_unimplemented rest ≡ false) (ended : Bool) (behind : List ℕ) (e : ended ≡ first_is is_colon rest) (b : behind ≡ behind_mark rest) where
     cut_of-long : cut_of text ≡ cut_long text short ended behind
-    cut_of-long = cut_of-end ∙ (cut_end-long text short rest kept ∙ rw (e, m) refl)
+    cut_of-long = cut_of-end ∙ (cut_end-long text short rest kept ∙ rw (e, b) refl)
 
     pub cut-body : first_is (λ b. b == open_paren) behind ≡ false → cut_of text ≡ Ok (record { short = short; ended = ended; long = None; body = behind })
     cut-body h = cut_of-long ∙ cut_long-body text short ended behind h

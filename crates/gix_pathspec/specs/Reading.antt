@@ -16,7 +16,7 @@ use Rattle.gix_pathspec.specs.Specs.{Spec, top, icase, exclude, must_be_dir}
 
 -- ---- the pieces of long magic
 
--- how many backslashes stand directly before the byte behind b, where n stand before b
+-- how many backslashes stand directly before the byte after b, where n stand before b
 abbrev pub backslashes_after : ℕ → ℕ → ℕ
 backslashes_after n b = if b == backslash then n + 1 else 0
 
@@ -67,7 +67,7 @@ keyword_of piece =
     else if begins_with piece (codes "attr:") then Lists (drop 5 piece)
     else Unknown
 
--- what magic has said so far
+-- what the magic that has been read asks for
 pub record Magic : Type 0 where
   pub signature : ℕ
   pub mode : Option SearchMode
@@ -150,7 +150,7 @@ abbrev pub holds_close : Option (List ℕ) → Bool
 holds_close None = false
 holds_close (Some long) = list_any (λ b. b == close_paren) long
 
--- A body behind short magic alone does not begin with a byte that short magic would take, nor one behind its end mark with `(`.
+-- A body after short magic alone does not begin with a byte that short magic would take, nor one after its end mark with `(`.
 abbrev pub may_begin : Bool → Option (List ℕ) → ℕ → Bool
 may_begin ended (Some long) b = true
 may_begin true None b = not (b == open_paren)
@@ -162,20 +162,20 @@ pub record IsCut (cut : Cut) : Type 0 where
   pub long : IsFalse (holds_close cut.long)
   pub body : IsFalse (first_is (λ b. not (may_begin cut.ended cut.long b)) cut.body)
 
--- the cut of a text with this short magic and end mark, and these bytes behind its `(`
+-- the cut of a text with this short magic and end mark, and these bytes after its `(`
 abbrev pub cut_paren : List ℕ → List ℕ → Bool → List ℕ → Result Cut Fault
 cut_paren text short ended rest =
     if list_any (λ b. b == close_paren) rest then Ok (record { short = short; ended = ended; long = Some (before_first (λ b. b == close_paren) rest); body = after_first (λ b. b == close_paren) rest })
     else Err (MissingParen text)
 
--- the same with these bytes behind its end mark
+-- the same with these bytes after its end mark
 abbrev pub cut_long : List ℕ → List ℕ → Bool → List ℕ → Result Cut Fault
 cut_long text short ended [] = Ok (record { short = short; ended = ended; long = None; body = [] })
 cut_long text short ended (b ∷ bs) =
     if b == open_paren then cut_paren text short ended bs
     else Ok (record { short = short; ended = ended; long = None; body = b ∷ bs })
 
--- the same with these bytes behind its short magic
+-- the same with these bytes after its short magic
 abbrev pub cut_end : List ℕ → List ℕ → List ℕ → Result Cut Fault
 cut_end text short [] = Ok (record { short = short; ended = false; long = None; body = [] })
 cut_end text short (b ∷ bs) =
@@ -187,7 +187,7 @@ cut_end text short (b ∷ bs) =
 unfoldable pub cut_of : List ℕ → Result Cut Fault
 cut_of text = let magic = drop 1 text in cut_end text (take_while is_short magic) (drop (prefix_len is_short magic) magic)
 
--- what stands behind an end mark, if there is one
+-- what follows an end mark, if there is one
 abbrev pub behind_mark : List ℕ → List ℕ
 behind_mark [] = []
 behind_mark (b ∷ bs) = if b == colon then bs else b ∷ bs
@@ -214,7 +214,7 @@ spec_of defaults magic body =
       prefix_length = 0;
     }
 
--- magic that says nothing
+-- magic that asks for nothing
 abbrev pub no_magic : Magic
 no_magic = record { signature = 0; mode = None; attributes = [] }
 
@@ -241,7 +241,7 @@ pub data Reads (defaults : Defaults) (text : List ℕ) (spec : Spec) : Type 0 wh
   -- it does not begin with `:`, and is all body
   plain : IsFalse defaults.literal → text ≢ [] → IsFalse (first_is is_colon text) → spec ≡ spec_of defaults no_magic text → Reads defaults text spec
   -- it is cut into magic and a body
-  magic : IsFalse defaults.literal → text ≢ colon ∷ [] → (cut : Cut) → IsCut cut → text ≡ text_of cut → (said : Magic) → magic_of cut ≡ Ok said → spec ≡ spec_of defaults said cut.body → Reads defaults text spec
+  magic : IsFalse defaults.literal → text ≢ colon ∷ [] → (cut : Cut) → IsCut cut → text ≡ text_of cut → (asked : Magic) → magic_of cut ≡ Ok asked → spec ≡ spec_of defaults asked cut.body → Reads defaults text spec
 
 -- The text says no spec, and this is why.
 pub data IsRefused (defaults : Defaults) (text : List ℕ) (fault : Fault) : Type 0 where
@@ -256,7 +256,7 @@ pub data IsRefused (defaults : Defaults) (text : List ℕ) (fault : Fault) : Typ
 
 -- what a text with magic says
 abbrev pub magic_says : Defaults → List ℕ → Result Spec Fault
-magic_says defaults text = cut_of text >>= λ cut. magic_of cut >>= λ said. Ok (spec_of defaults said cut.body)
+magic_says defaults text = cut_of text >>= λ cut. magic_of cut >>= λ asked. Ok (spec_of defaults asked cut.body)
 
 -- The spec that a text says, or why it says none: the same as a function.
 unfoldable pub reading : Defaults → List ℕ → Result Spec Fault

@@ -150,19 +150,19 @@ mod tests {
             ("A.b-c_9", "A.b-c_9 is set; "),
         ];
         for (list, want) in rows {
-            let mut said = Vec::new(rt.alloc());
+            let mut told = Vec::new(rt.alloc());
             for assignment in &attributes(rt.alloc(), list.as_bytes())? {
-                said.extend_from_slice(assignment.name.as_bytes().as_bytes())?;
-                said.extend_from_slice(b" is ")?;
-                said.extend_from_slice(match assignment.state.as_ref() {
+                told.extend_from_slice(assignment.name.as_bytes().as_bytes())?;
+                told.extend_from_slice(b" is ")?;
+                told.extend_from_slice(match assignment.state.as_ref() {
                     StateRef::Set => b"set",
                     StateRef::Unset => b"unset",
                     StateRef::Value(value) => value,
                     StateRef::Unspecified => b"unspecified",
                 })?;
-                said.extend_from_slice(b"; ")?;
+                told.extend_from_slice(b"; ")?;
             }
-            assert_eq!(rt; said.as_slice(), want.as_bytes(), "{list}");
+            assert_eq!(rt; told.as_slice(), want.as_bytes(), "{list}");
         }
         Ok(())
     }

@@ -2,7 +2,6 @@
 use super::*;
 use crate::SearchMode;
 use bstr::BStr;
-use std::alloc::AllocError;
 use std::test::Fail;
 
 #[test]
@@ -139,49 +138,65 @@ fn defaults_fill_in(rt: HostRuntime) -> Result<(), Fail> {
     Ok(())
 }
 
-fn bytes(alloc: Global, text: &str) -> Result<Vec<u8>, AllocError> {
-    Vec::from_slice(alloc, text.as_bytes())
-}
-
 #[test]
-#[rattlefmt::skip]
-fn texts_are_refused_by_their_first_fault(rt: HostRuntime) -> Result<(), Fail> {
-    let alloc = rt.alloc();
+fn texts_are_refused_with_a_byte_or_none(rt: HostRuntime) {
     let rows = [
         ("", Error::Empty),
         (":#x", Error::UnimplementedShort(b'#')),
         (":/-x", Error::UnimplementedShort(b'-')),
         (":!!\"", Error::UnimplementedShort(b'"')),
         (":~", Error::UnimplementedShort(b'~')),
-        (":(top", Error::MissingParen(bytes(alloc, ":(top")?)),
-        (":!(", Error::MissingParen(bytes(alloc, ":!(")?)),
-        (":(foo)x", Error::InvalidKeyword(bytes(alloc, "foo")?)),
-        (":(foo,attr:)x", Error::InvalidKeyword(bytes(alloc, "foo")?)),
-        (":( top)x", Error::InvalidKeyword(bytes(alloc, " top")?)),
-        (":(Top)x", Error::InvalidKeyword(bytes(alloc, "Top")?)),
-        (":(attr :a)x", Error::InvalidKeyword(bytes(alloc, "attr :a")?)),
-        (":(a\\,b)x", Error::InvalidKeyword(bytes(alloc, "a\\,b")?)),
-        (":(a\\\\,b)x", Error::InvalidKeyword(bytes(alloc, "a\\\\")?)),
-        (":(a\\\\\\,b)x", Error::InvalidKeyword(bytes(alloc, "a\\\\\\,b")?)),
-        (":(literal,glob)x", Error::LiteralWithGlob(bytes(alloc, "glob")?)),
-        (":(glob,literal)x", Error::LiteralWithGlob(bytes(alloc, "literal")?)),
-        (":(attr:a,attr:b)x", Error::SecondAttributes(bytes(alloc, "attr:b")?)),
-        (":(attr:a,attr:)x", Error::SecondAttributes(bytes(alloc, "attr:")?)),
-        (":(attr:a,attr:--x)p", Error::SecondAttributes(bytes(alloc, "attr:--x")?)),
         (":(attr:)x", Error::EmptyAttributes),
-        (":(attr:--1)x", Error::InvalidName(bytes(alloc, "-1")?)),
-        (":(attr:!a=b)x", Error::InvalidName(bytes(alloc, "a=b")?)),
-        (":(attr:-x=\\)y", Error::InvalidName(bytes(alloc, "x=\\")?)),
         (":(attr:a=b=c)x", Error::InvalidValueByte(b'=')),
         (":(attr:a=x\\\\,y)p", Error::InvalidValueByte(b'\\')),
         (":(attr:a=é)x", Error::InvalidValueByte(195)),
-        (":(attr:a=x\\)y", Error::TrailingEscape(bytes(alloc, "x\\")?)),
     ];
-    for (text, want) in rows.iter() {
-        let fault = parse(alloc, text.as_bytes(), Defaults::default()).err();
-        assert!(rt; fault.as_ref() == Some(want), "parse of {text}");
-        let same = Pattern::from_bytes(alloc, text.as_bytes(), Defaults::default()).err();
-        assert!(rt; same.as_ref() == Some(want), "from_bytes of {text}");
+    for (text, want) in rows {
+        let fault = Pattern::from_bytes(rt.alloc(), text.as_bytes(), Defaults::default()).err();
+        assert_eq!(rt; fault, Some(want), "{text}");
+    }
+}
+
+#[test]
+#[rattlefmt::skip]
+fn texts_are_refused_with_their_bytes(rt: HostRuntime) -> Result<(), Fail> {
+    let rows = [
+        (":(top", "MissingParen", ":(top"),
+        (":!(", "MissingParen", ":!("),
+        (":(foo)x", "InvalidKeyword", "foo"),
+        (":(foo,attr:)x", "InvalidKeyword", "foo"),
+        (":( top)x", "InvalidKeyword", " top"),
+        (":(Top)x", "InvalidKeyword", "Top"),
+        (":(attr :a)x", "InvalidKeyword", "attr :a"),
+        (":(a\\,b)x", "InvalidKeyword", "a\\,b"),
+        (":(a\\\\,b)x", "InvalidKeyword", "a\\\\"),
+        (":(a\\\\\\,b)x", "InvalidKeyword", "a\\\\\\,b"),
+        (":(literal,glob)x", "LiteralWithGlob", "glob"),
+        (":(glob,literal)x", "LiteralWithGlob", "literal"),
+        (":(attr:a,attr:b)x", "SecondAttributes", "attr:b"),
+        (":(attr:a,attr:)x", "SecondAttributes", "attr:"),
+        (":(attr:a,attr:--x)p", "SecondAttributes", "attr:--x"),
+        (":(attr:--1)x", "InvalidName", "-1"),
+        (":(attr:!a=b)x", "InvalidName", "a=b"),
+        (":(attr:-x=\\)y", "InvalidName", "x=\\"),
+        (":(attr:a=x\\)y", "TrailingEscape", "x\\"),
+    ];
+    for (text, kind, carried) in rows {
+        let Err(error) = Pattern::from_bytes(rt.alloc(), text.as_bytes(), Defaults::default()) else {
+            return Err("read".into());
+        };
+        assert_eq!(rt; error.kind(), kind, "{text}");
+        match &error {
+            Error::MissingParen(bytes)
+            | Error::InvalidKeyword(bytes)
+            | Error::LiteralWithGlob(bytes)
+            | Error::SecondAttributes(bytes)
+            | Error::InvalidName(bytes)
+            | Error::TrailingEscape(bytes) => {
+                assert_eq!(rt; bytes.as_slice(), carried.as_bytes(), "{text}");
+            }
+            _ => return Err("another error".into()),
+        }
     }
     Ok(())
 }
