@@ -1,5 +1,5 @@
 -- What a spec means from a folder of the repository: its path from the root, resolved (normalising).
-use Rattle.std.specs.Prelude.{ℕ, ◌-◌, min, max, Bool, true, not, ◌&&◌, ◌||◌, List, [], ◌∷◌, ◌++◌, length, take, map, filter, codes, ◌==◌, if◌then◌else◌, Option, Some, None, Result, Ok, Err}
+use Rattle.std.specs.Prelude.{◌≡◌, ℕ, ◌-◌, min, max, Bool, true, not, ◌&&◌, ◌||◌, List, [], ◌∷◌, ◌++◌, length, take, map, filter, codes, ◌==◌, if◌then◌else◌, Option, Some, None, Result, Ok, Err}
 use Rattle.pathspec_parts.specs.Bytes.{is_empty}
 use Rattle.pathspec_parts.specs.Paths.{components, joined, is_up, is_absolute, after_root}
 use Rattle.gix_pathspec.specs.Faults.{Fault}
@@ -82,3 +82,7 @@ resolve prefix s (Some cs) = if climb cs == 0 then Ok (resolved prefix s cs (sur
 -- The spec as it is meant from a clean prefix, in a repository with this root, or why it lies outside.
 unfoldable pub normal_form : List ℕ → List ℕ → Spec → Result Spec Fault
 normal_form prefix root s = resolve prefix s (walked prefix root s)
+
+-- A spec that is its own normal form: without a prefix, under whatever root, only its prefix length becomes 0.
+abbrev pub IsNormal : Spec → Type 0
+IsNormal s = (root : List ℕ) → normal_form [] root s ≡ Ok (record s { prefix_length = 0 })

@@ -1,9 +1,13 @@
 -- What a clause reads of a `Pattern`.
-use Rattle.std.specs.Prelude.{map}
+use Rattle.std.specs.Prelude.{map, Result}
+use Rattle.bstr.specs.declared.BStr.{BStr}
+use Rattle.bstr.specs.BStr.{bstr_bytes}
 use Rattle.pathspec_parts.specs.AttributeStates.{attribute_of}
 use Rattle.gix_pathspec.specs.declared.pattern.Pattern.{Pattern}
 use Rattle.gix_pathspec.specs.Signatures.{signature_bits}
 use Rattle.gix_pathspec.specs.Specs.{Spec}
+use Rattle.gix_pathspec.specs.Faults.{Fault}
+use Rattle.gix_pathspec.specs.NormalForm.{normal_form}
 
 -- the spec that a pattern is
 abbrev pub pattern_spec : Pattern → Spec
@@ -16,3 +20,7 @@ pattern_spec p =
       nil = p.nil;
       prefix_length = p.prefix_length;
     }
+
+-- the normal form of a pattern under a prefix, in a repository with this root
+abbrev pub pattern_normal_form : BStr → BStr → Pattern → Result Spec Fault
+pattern_normal_form prefix root p = normal_form (bstr_bytes prefix) (bstr_bytes root) (pattern_spec p)

@@ -26,13 +26,25 @@ is_set _ = false
 abbrev pub is_sayable_assignment : Assignment → Bool
 is_sayable_assignment a = is_attribute_name a.name && is_written_state a.state && not (is_set a.state && is_empty a.name)
 
--- A spec that a text can say: only known bits, no prefix directory, assignments that lists can say, no last slash in the path unless a directory is wanted, and where it is nil, nothing else.
-pub record IsSayable (s : Spec) : Type 0 where
+-- the same of an assignment whose name is known to be one
+abbrev pub is_sayable_state : Assignment → Bool
+is_sayable_state a = is_written_state a.state && not (is_set a.state && is_empty a.name)
+
+-- A spec that a text can say, where the test tells which assignments a list can say: only known bits, no prefix directory, no last slash in the path unless a directory is wanted, and where it is nil, nothing else.
+pub record IsSayableBy (can_say : Assignment → Bool) (s : Spec) : Type 0 where
   pub bits : s.signature < 16
   pub prefix : s.prefix_length ≡ 0
-  pub assignments : IsTrue (list_all is_sayable_assignment s.attributes)
+  pub assignments : IsTrue (list_all can_say s.attributes)
   pub path : IsTrue (wants_directory s) ⊎ IsFalse (ends_with_slash s.path)
   pub nil : IsTrue s.nil → s ≡ nil_spec
+
+-- A spec that a text can say.
+abbrev pub IsSayable : Spec → Type 0
+IsSayable = IsSayableBy is_sayable_assignment
+
+-- The spec of a pattern that a text can say: a pattern's attributes have valid names.
+abbrev pub IsSayablePattern : Spec → Type 0
+IsSayablePattern = IsSayableBy is_sayable_state
 
 -- The long text of a sayable spec reads as the spec.
 abbrev pub RoundTrip : Type 0

@@ -1,8 +1,8 @@
 //! A pathspec as it is read from a text, and its normal form.
-ghost use Rattle.std.specs.Prelude.{◌≡◌, map, Ok, Err, IfOk, IfErr, MatchResult};
+ghost use Rattle.std.specs.Prelude.{◌≡◌, map, IfOk, IfErr};
 ghost use Rattle.bstr.specs.BStr.{bstr_bytes};
 ghost use Rattle.pathspec_parts.specs.AttributeStates.{attribute_of};
-ghost use Rattle.gix_pathspec.specs.Errors.{IsMemory, IsMemoryOr};
+ghost use Rattle.gix_pathspec.specs.Errors.{IsMemory, IsMemoryOr, Computes};
 ghost use Rattle.gix_pathspec.specs.Signatures.{signature_bits};
 ghost use Rattle.gix_pathspec.specs.Specs.{is_exclude, always_matches, has_wildcard, is_glob};
 ghost use Rattle.gix_pathspec.specs.Reading.{empty_spec, nil_spec, literal_spec, Reads, IsRefused, reading};
@@ -59,8 +59,8 @@ impl Pattern {
     /// Those of [`parse::parse`].
     pub fn from_bytes(alloc: Global, input: &[u8], defaults: Defaults) -> Result<Pattern, Error>
         ensures reads { IfOk result (λ p. Reads defaults input.now (pattern_spec p)) }
-        ensures refused { IfErr result (λ e. IsMemoryOr e (λ fault. IsRefused defaults input.now fault)) }
-        ensures exact { MatchResult result (λ p. reading defaults input.now ≡ Ok (pattern_spec p)) (λ e. IsMemoryOr e (λ fault. reading defaults input.now ≡ Err fault)) }
+        ensures refused { IfErr result (λ e. IsMemoryOr e (IsRefused defaults input.now)) }
+        ensures exact { Computes pattern_spec (reading defaults input.now) result }
     {
         parse::parse(alloc, input, defaults)
     }
@@ -74,7 +74,9 @@ impl Pattern {
         path: &[u8],
         signature: MagicSignature,
     ) -> Result<Pattern, Error>
-        ensures ok { IfOk result (λ p. pattern_spec p ≡ literal_spec (signature_bits signature) path.now) }
+        ensures ok {
+            IfOk result (λ p. pattern_spec p ≡ literal_spec (signature_bits signature) path.now)
+        }
         ensures err { IfErr result IsMemory }
     {
         Ok(Pattern {
@@ -182,6 +184,7 @@ fn cloned(alloc: Global, assignments: &[Assignment]) -> Result<Vec<Assignment>, 
 #[cfg(test)]
 mod tests {
     use super::*;
+    use std::hash::{DefaultHasher, Hash, Hasher};
     use std::test::Fail;
 
     #[test]
@@ -209,20 +212,53 @@ mod tests {
         Ok(())
     }
 
-    #[test]
-    #[rattlefmt::skip]
-    fn patterns_are_compared_field_by_field(rt: HostRuntime) -> Result<(), Fail> {
-        let alloc = rt.alloc();
-        let texts = ["::", ":", "a", ":(attr:a)a", ":(attr:b)a", ":(literal)a", ":(glob)a", ":!a", "a/", "b"];
-        let mut rising = Vec::new(alloc);
-        for text in texts {
-            rising.push(Pattern::from_bytes(alloc, text.as_bytes(), Defaults::default())?)?;
+    /// A pattern that has the higher of two values in one field, and the lower in the others.
+    fn raised(alloc: Global, field: &str) -> Result<Pattern, Error> {
+        let text: &[u8] = if field == "attributes" {
+            b":(top,attr:a b)a"
+        } else {
+            b":(top,attr:a a)a"
+        };
+        let mut pattern = Pattern::from_bytes(alloc, text, Defaults::default())?;
+        match field {
+            "path" => pattern.path = Vec::from_slice(alloc, b"b")?,
+            "signature" => pattern.signature = MagicSignature::EXCLUDE,
+            "search mode" => pattern.search_mode = SearchMode::Literal,
+            "nil" => pattern.nil = true,
+            "prefix length" => pattern.prefix_length = 1,
+            _ => {}
         }
-        for (at, pattern) in rising.iter().enumerate() {
-            assert_eq!(rt; pattern, &pattern.try_clone()?);
-            for (place, other) in rising.iter().enumerate() {
-                assert_eq!(rt; pattern == other, at == place, "{at} and {place}");
-                assert_eq!(rt; pattern < other, at < place, "{at} and {place}");
+        Ok(pattern)
+    }
+
+    fn hash_of(pattern: &Pattern) -> u64 {
+        let mut hasher = DefaultHasher::new();
+        pattern.hash(&mut hasher);
+        hasher.finish()
+    }
+
+    #[test]
+    fn patterns_are_compared_field_by_field(rt: HostRuntime) -> Result<(), Fail> {
+        let rising = [
+            "none",
+            "prefix length",
+            "nil",
+            "attributes",
+            "search mode",
+            "signature",
+            "path",
+        ];
+        for (place, field) in rising.iter().enumerate() {
+            let pattern = raised(rt.alloc(), field)?;
+            for (other_place, other_field) in rising.iter().enumerate() {
+                let other = raised(rt.alloc(), other_field)?;
+                let order = place.cmp(&other_place);
+                let is_same = place == other_place;
+                assert_eq!(rt; pattern == other, is_same, "{field} == {other_field}");
+                assert_eq!(rt; pattern.cmp(&other), order, "{field} cmp {other_field}");
+                assert_eq!(rt; pattern < other, order.is_lt(), "{field} < {other_field}");
+                let is_same_hash = hash_of(&pattern) == hash_of(&other);
+                assert_eq!(rt; is_same_hash, is_same, "hash of {field}, of {other_field}");
             }
         }
         Ok(())

@@ -8,7 +8,7 @@ ghost use Rattle.gix_pathspec.specs.Errors.{IsMemory};
 ghost use Rattle.gix_pathspec.specs.Signatures.{signature_bits};
 ghost use Rattle.gix_pathspec.specs.Reading.{Reads, no_defaults};
 ghost use Rattle.gix_pathspec.specs.LongText.{long_text, keywords, bit_text, mode_text, attributes_text, list_text, assignment_text, with_escapes, HoldsWords};
-ghost use Rattle.gix_pathspec.specs.RoundTrips.{IsSayable, RoundTripIsExact, LongTextsTell, SaidIsSayable, SaidComesBack};
+ghost use Rattle.gix_pathspec.specs.RoundTrips.{IsSayablePattern, RoundTripIsExact, LongTextsTell, SaidIsSayable, SaidComesBack};
 
 use crate::{Error, MagicSignature, Pattern, SearchMode};
 use bitflags::Flags;
@@ -31,7 +31,10 @@ impl Pattern {
     pub fn to_bstring(&self) -> Result<BString, Error>
         ensures text { IfOk result (λ text. bstring_bytes text ≡ long_text (pattern_spec self.now)) }
         ensures err { IfErr result IsMemory }
-        ensures comes_back { IfOk result (λ text. IsSayable (pattern_spec self.now) → Reads no_defaults (bstring_bytes text) (pattern_spec self.now)) }
+        ensures comes_back {
+            IsSayablePattern (pattern_spec self.now)
+                → IfOk result (λ text. Reads no_defaults (bstring_bytes text) (pattern_spec self.now))
+        }
         // Only sayable specs come back, and their texts tell them apart; what a text says is sayable.
         ensures laws { RoundTripIsExact × LongTextsTell × SaidIsSayable × SaidComesBack }
     {

@@ -6,8 +6,8 @@ ghost use Rattle.pathspec_parts.specs.Bytes.{slash};
 ghost use Rattle.pathspec_parts.specs.Paths.{components, joined, is_up, is_absolute, is_clean_prefix, after_root};
 ghost use Rattle.pathspec_parts.specs.Components.{components_left};
 ghost use Rattle.gix_pathspec.specs.Faults.Fault.{LeavesRepository};
-ghost use Rattle.gix_pathspec.specs.Errors.{IsMemory, IsMemoryOr};
-ghost use Rattle.gix_pathspec.specs.NormalForm.{normal_form, climb, survivors, ups, is_joined, kept, stays_empty, resolved};
+ghost use Rattle.gix_pathspec.specs.Errors.{IsMemory, IsMemoryOr, Computes};
+ghost use Rattle.gix_pathspec.specs.NormalForm.{IsNormal, climb, survivors, ups, is_joined, kept, stays_empty, resolved};
 ghost use Rattle.gix_pathspec.specs.Heights.{ClimbByHeight, SurvivorsByHeight, KeptIsLeastHeight};
 ghost use Rattle.gix_pathspec.specs.Resolving.{can_put, put_on};
 
@@ -26,7 +26,7 @@ struct Resolved {
 }
 
 impl Pattern {
-    ghost use Rattle.gix_pathspec.specs.Patterns.{pattern_spec};
+    ghost use Rattle.gix_pathspec.specs.Patterns.{pattern_spec, pattern_normal_form};
     ghost use Rattle.gix_pathspec.specs.Resolving.{resolved_spec, kept_on, directory_len, with_names};
 
     /// Normalises the path to what it means from the top of the repository, when it is given in the directory `prefix`
@@ -50,8 +50,11 @@ impl Pattern {
     pub fn normalize(&mut self, prefix: BStr<'_>, root: BStr<'_>) -> Result<&mut Pattern, Error>
         requires { IsTrue (is_clean_prefix (bstr_bytes prefix)) }
         ensures same { IfOk result (λ p. p.ghost_name ≡ self.entry.ghost_name) }
-        ensures ok { IfOk result (λ p. normal_form (bstr_bytes prefix.entry) (bstr_bytes root.entry) (pattern_spec self.entry.now) ≡ Ok (pattern_spec p.now)) }
-        ensures refused { IfErr result (λ e. IsMemoryOr e (λ fault. normal_form (bstr_bytes prefix.entry) (bstr_bytes root.entry) (pattern_spec self.entry.now) ≡ Err fault)) }
+        ensures form {
+            Computes (λ p. pattern_spec p.now)
+                (pattern_normal_form prefix.entry root.entry self.entry.now) result
+        }
+        ensures idempotent { IfOk result (λ p. IsNormal (pattern_spec p.now)) }
     {
         self.resolve(prefix, root)?;
         Ok(self)
@@ -63,13 +66,14 @@ impl Pattern {
     /// Those of [`Pattern::normalize`]; the pattern is then as it was.
     pub fn resolve(&mut self, prefix: BStr<'_>, root: BStr<'_>) -> Result<(), Error>
         requires { IsTrue (is_clean_prefix (bstr_bytes prefix)) }
-        ensures ok { OnOk result (normal_form (bstr_bytes prefix.entry) (bstr_bytes root.entry) (pattern_spec self.old) ≡ Ok (pattern_spec self.new)) }
+        ensures form {
+            Computes (λ _. pattern_spec self.new)
+                (pattern_normal_form prefix.entry root.entry self.old) result
+        }
         ensures unchanged { OnErr result (pattern_spec self.new ≡ pattern_spec self.old) }
-        ensures refused { IfErr result (λ e. IsMemoryOr e (λ fault. normal_form (bstr_bytes prefix.entry) (bstr_bytes root.entry) (pattern_spec self.old) ≡ Err fault)) }
-        // What is normalised stays: without a prefix, it is its own normal form.
-        ensures settled { OnOk result ((other : List ℕ) → normal_form [] other (pattern_spec self.new) ≡ Ok (record (pattern_spec self.new) { prefix_length = 0 })) }
-        // The same in the words of heights: when a path leaves, which names survive, and how many are kept.
-        ensures heights { ClimbByHeight × SurvivorsByHeight × KeptIsLeastHeight }
+        ensures idempotent { OnOk result (IsNormal (pattern_spec self.new)) }
+        // In the words of heights: when a path leaves, which names survive, and how many are kept.
+        ensures by_heights { ClimbByHeight × SurvivorsByHeight × KeptIsLeastHeight }
     {
         let resolved = self.resolved(prefix, root)?;
         self.path = resolved.path;
@@ -81,7 +85,10 @@ impl Pattern {
     /// What normalising changes.
     fn resolved(&self, prefix: BStr<'_>, root: BStr<'_>) -> Result<Resolved, Error>
         requires { IsTrue (is_clean_prefix (bstr_bytes prefix)) }
-        ensures { MatchResult result (λ r. normal_form (bstr_bytes prefix.entry) (bstr_bytes root.entry) (pattern_spec self.now) ≡ Ok (resolved_spec (pattern_spec self.now) r)) (λ e. IsMemoryOr e (λ fault. normal_form (bstr_bytes prefix.entry) (bstr_bytes root.entry) (pattern_spec self.now) ≡ Err fault)) }
+        ensures {
+            Computes (resolved_spec (pattern_spec self.now))
+                (pattern_normal_form prefix.entry root.entry self.now) result
+        }
     {
         let alloc = *self.path.allocator();
         let Some(own) = self.own_components(root) else {

@@ -5,11 +5,11 @@ use Rattle.gix_pathspec.proofs.HeightProofs.{climb_by_height, survivors_by_heigh
 use Rattle.gix_pathspec.proofs.StaysProofs.{normal_form_again}
 use Rattle.gix_pathspec.proofs.pattern.Pattern.resolve.Goals as goal
 
-pub returns-in_err-resolved-clause-heights : goal.returns-in_err-resolved-clause-heights
-returns-in_err-resolved-clause-heights c = (climb_by_height, survivors_by_height, kept_is_least_height)
+pub returns-in_err-resolved-clause-by_heights : goal.returns-in_err-resolved-clause-by_heights
+returns-in_err-resolved-clause-by_heights c = (climb_by_height, survivors_by_height, kept_is_least_height)
 
-pub returns-clause-settled : goal.returns-clause-settled
-returns-clause-settled c other = normal_form_again (bstr_bytes c.args.prefix) (bstr_bytes c.args.root) other (pattern_spec c.args.self.now) _ c.in_ok-resolved.ensures
+pub returns-clause-idempotent : goal.returns-clause-idempotent
+returns-clause-idempotent c other = normal_form_again (bstr_bytes c.args.prefix) (bstr_bytes c.args.root) other (pattern_spec c.args.self.now) _ c.in_ok-resolved.ensures
 
-pub returns-clause-heights : goal.returns-clause-heights
-returns-clause-heights c = (climb_by_height, survivors_by_height, kept_is_least_height)
+pub returns-clause-by_heights : goal.returns-clause-by_heights
+returns-clause-by_heights c = (climb_by_height, survivors_by_height, kept_is_least_height)

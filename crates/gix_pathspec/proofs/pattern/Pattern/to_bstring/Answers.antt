@@ -1,14 +1,37 @@
--- The text reads back, and the laws hold of all long texts.
+-- The text reads back, since a pattern's attributes have valid names; and the laws hold of all long texts.
+use Rattle.std.proofs.Common.{◌≡◌, true, not, ◌&&◌, refl, List, [], ◌∷◌, map}
+use Rattle.std.proofs.lemmas.Bool.{and_parts, and_from}
+use Rattle.std.specs.List.{list_all}
+use Rattle.pathspec_parts.specs.Bytes.{is_empty}
+use Rattle.pathspec_parts.specs.Attributes.{is_attribute_name}
+use Rattle.pathspec_parts.specs.AttributeStates.{attribute_of}
+use Rattle.pathspec_parts.specs.declared.attributes.state.Assignment.{Assignment}
 use Rattle.gix_pathspec.specs.Patterns.{pattern_spec}
+use Rattle.gix_pathspec.specs.RoundTrips.{is_written_state, is_set, is_sayable_assignment, is_sayable_state, IsSayable}
 use Rattle.gix_pathspec.proofs.RoundTripProofs.{long_text_reads, long_texts_tell}
 use Rattle.gix_pathspec.proofs.SaidProofs.{round_trip_is_exact, said_is_sayable, said_comes_back}
 use Rattle.gix_pathspec.proofs.pattern.Pattern.to_bstring.Goals as goal
+
+-- a name is valid by its type
+sayable-named : (assignments : List Assignment) → list_all is_sayable_state (map attribute_of assignments) ≡ true → list_all is_sayable_assignment (map attribute_of assignments) ≡ true
+sayable-named [] h = refl
+sayable-named (a ∷ rest) h =
+    let name = (attribute_of a).name in
+    let state = (attribute_of a).state in
+    let fits = not (is_set state && is_empty name) in
+    let p = and_parts (is_written_state state && fits) (list_all is_sayable_state (map attribute_of rest)) h in
+    let q = and_parts (is_written_state state) fits p.0 in
+    and_from (is_sayable_assignment (attribute_of a)) (list_all is_sayable_assignment (map attribute_of rest))
+    (and_from (is_attribute_name name && is_written_state state) fits (and_from (is_attribute_name name) (is_written_state state) a.name.is_name q.0) q.1)
+    (sayable-named rest p.1)
 
 pub returns-in_err-long_text-clause-laws : goal.returns-in_err-long_text-clause-laws
 returns-in_err-long_text-clause-laws c = (round_trip_is_exact, long_texts_tell, said_is_sayable, said_comes_back)
 
 pub returns-clause-comes_back : goal.returns-clause-comes_back
-returns-clause-comes_back c sayable = rw (c.new.ensures, c.in_ok-long_text.ensures) (long_text_reads (pattern_spec c.args.self.now) sayable)
+returns-clause-comes_back c sayable =
+    let named : IsSayable (pattern_spec c.args.self.now) = record { bits = sayable.bits; prefix = sayable.prefix; assignments = sayable-named c.args.self.now.attributes.items sayable.assignments; path = sayable.path; nil = sayable.nil } in
+    rw (c.new.ensures, c.in_ok-long_text.ensures) (long_text_reads (pattern_spec c.args.self.now) named)
 
 pub returns-clause-laws : goal.returns-clause-laws
 returns-clause-laws c = (round_trip_is_exact, long_texts_tell, said_is_sayable, said_comes_back)
