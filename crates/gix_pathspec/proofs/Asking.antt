@@ -1,5 +1,5 @@
 -- The questions that the rows ask, each as one function that computes.
-use Rattle.std.proofs.Common.{ℕ, Bool, false, List, [], Option, Result, Ok}
+use Rattle.std.proofs.Common.{ℕ, Bool, true, false, List, [], Option, Result, Ok}
 use Rattle.std.specs.Option.{option_and_then}
 use Rattle.std.specs.Result.{result_ok}
 use Rattle.pathspec_parts.specs.Attributes.{State, Assignment}
@@ -41,6 +41,11 @@ long text = parse text >>= λ s. Ok (long_text s)
 unfoldable pub normal : List ℕ → List ℕ → List ℕ → Result (List ℕ × List ℕ × Bool) Fault
 unfolding parse normal_form climb
 normal prefix root text = parse text >>= λ s. normal_form prefix root s >>= λ n. Ok (n.path, prefix_directory n, n.nil)
+
+-- the same of a text under defaults that ask for a literal spec
+unfoldable pub normal_literal : List ℕ → List ℕ → Result (List ℕ × List ℕ × Bool) Fault
+unfolding reading normal_form climb
+normal_literal prefix text = reading (record no_defaults { literal = true }) text >>= λ s. normal_form prefix [] s >>= λ n. Ok (n.path, prefix_directory n, n.nil)
 
 -- how a spec fits a path
 unfoldable pub fitted : List ℕ → List ℕ → Bool → Option MatchKind

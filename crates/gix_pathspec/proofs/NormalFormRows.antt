@@ -2,7 +2,7 @@
 use Rattle.std.proofs.Common.{◌≡◌, true, false, refl, [], Ok, Err}
 use Rattle.std.specs.Prelude.{codes}
 use Rattle.gix_pathspec.specs.Faults.Fault.{OutsideRoot, LeavesRepository}
-use Rattle.gix_pathspec.proofs.Asking.{normal}
+use Rattle.gix_pathspec.proofs.Asking.{normal, normal_literal}
 
 double_slash : normal [] [] (codes "a//") ≡ Ok ((codes "a"), [], false)
 unfolding normal
@@ -115,3 +115,15 @@ colon_body_empty_under_prefix = refl
 top_and_empty : normal (codes "a") [] (codes ":/") ≡ Ok ([], [], false)
 unfolding normal
 top_and_empty = refl
+
+nil_under_prefix_of_two : normal (codes "a/b") [] (codes ":") ≡ Ok ((codes "a/b"), [], true)
+unfolding normal
+nil_under_prefix_of_two = refl
+
+up_in_absolute : normal [] (codes "/r") (codes "/r/a/../b") ≡ Ok ((codes "b"), [], false)
+unfolding normal
+up_in_absolute = refl
+
+literal_colon : normal_literal (codes "a") (codes ":") ≡ Ok ((codes "a/:"), (codes "a"), false)
+unfolding normal_literal
+literal_colon = refl

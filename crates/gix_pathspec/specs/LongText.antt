@@ -1,5 +1,6 @@
 -- The long text of a spec (`to_bstring` of gix-pathspec): what reads back as the spec.
-use Rattle.std.specs.Prelude.{◌≡◌, IsTrue, not, ℕ, List, [], ◌∷◌, ◌++◌, map, codes, ◌==◌, if◌then◌else◌}
+use Rattle.std.specs.Prelude.{◌≡◌, IsTrue, not, ℕ, List, [], ◌∷◌, ◌++◌, map, codes, ◌==◌, if◌then◌else◌, Result, OnOk, encode_utf8_all}
+use Rattle.bstr.specs.Utf8.{lossy_chars}
 use Rattle.std.specs.List.{join_with_byte, flat_map, list_all}
 use Rattle.gix_pathspec.specs.declared.SearchMode.{SearchMode}
 use Rattle.gix_pathspec.specs.declared.SearchMode.TheVariants.{ShellGlob, Literal, PathAwareGlob}
@@ -53,8 +54,24 @@ pub record HoldsWords (text : List ℕ) (words : List (List ℕ)) : Type 0 where
   pub joined : text ≡ codes ":(" ++ join_with_byte comma words
   pub filled : IsTrue (list_all (λ word. not (is_empty word)) words)
 
+-- Words are written after those that a text holds, unless memory runs out.
+abbrev pub AddsWords : {A E : Type 0} → List ℕ → List ℕ → List (List ℕ) → Result A E → Type 0
+AddsWords old new more result = (words : List (List ℕ)) → HoldsWords old words → OnOk result (HoldsWords new (words ++ more))
+
+-- Bytes are written after those of a text, unless memory runs out.
+abbrev pub AddsBytes : {A E : Type 0} → List ℕ → List ℕ → List ℕ → Result A E → Type 0
+AddsBytes old new more result = OnOk result (new ≡ old ++ more)
+
+-- `:(` and the keywords of a spec
+abbrev pub opening : Spec → List ℕ
+opening s = codes ":(" ++ join_with_byte comma (keywords s)
+
 -- `:` for a nil spec, else `:(`, the keywords with commas between them, `)`, the path, and a slash where it wants a directory
 unfoldable pub long_text : Spec → List ℕ
 long_text s =
     if s.nil then codes ":"
     else codes ":(" ++ join_with_byte comma (keywords s) ++ codes ")" ++ s.path ++ (if wants_directory s then slash ∷ [] else [])
+
+-- what `{}` writes: the characters of the long text, with U+FFFD where its bytes are none
+abbrev pub printed_text : Spec → List ℕ
+printed_text s = encode_utf8_all (lossy_chars (long_text s))

@@ -1,5 +1,5 @@
 -- What a clause reads of a `Pattern`.
-use Rattle.std.specs.Prelude.{map, Result}
+use Rattle.std.specs.Prelude.{◌≡◌, ◌↔◌, Bool, IsTrue, map, Result}
 use Rattle.bstr.specs.declared.BStr.{BStr}
 use Rattle.bstr.specs.BStr.{bstr_bytes}
 use Rattle.pathspec_parts.specs.AttributeStates.{attribute_of}
@@ -24,3 +24,7 @@ pattern_spec p =
 -- the normal form of a pattern under a prefix, in a repository with this root
 abbrev pub pattern_normal_form : BStr → BStr → Pattern → Result Spec Fault
 pattern_normal_form prefix root p = normal_form (bstr_bytes prefix) (bstr_bytes root) (pattern_spec p)
+
+-- A test of two patterns holds just where their specs are equal.
+abbrev pub ComparesSpecs : (Pattern → Pattern → Bool) → Type 0
+ComparesSpecs eq = (p q : Pattern) → IsTrue (eq p q) ↔ (pattern_spec p ≡ pattern_spec q)

@@ -37,7 +37,7 @@ pub struct Pattern {
 }
 
 impl Pattern {
-    ghost use Rattle.gix_pathspec.specs.Patterns.{pattern_spec};
+    ghost use Rattle.gix_pathspec.specs.Patterns.{pattern_spec, ComparesSpecs};
 
     /// The spec with an empty path, no magic and mode [`SearchMode::ShellGlob`]. It takes no memory.
     pub fn new(alloc: Global) -> Pattern
@@ -106,6 +106,8 @@ impl Pattern {
     pub fn try_clone(&self) -> Result<Pattern, Error>
         ensures ok { IfOk result (λ p. pattern_spec p ≡ pattern_spec self.now) }
         ensures err { IfErr result IsMemory }
+        // So the copy equals the pattern: `==` compares just what the spec holds.
+        ensures equal { ComparesSpecs ⟦<Pattern as PartialEq>⟧.eq }
     {
         Ok(Pattern {
             path: self.path.clone()?,

@@ -1,13 +1,13 @@
 //! The long text of a pathspec, which reads back as the same pathspec.
-ghost use Rattle.std.specs.Prelude.{◌≡◌, ◌∷◌, [], ◌++◌, ◌==◌, List, ℕ, codes, length, map, nat_lt, if◌then◌else◌, IsFalse, IfOk, IfErr, OnOk};
-ghost use Rattle.std.specs.List.{join_with_byte};
+ghost use Rattle.std.specs.Prelude.{◌≡◌, ◌∷◌, [], ◌==◌, length, map, nat_lt, if◌then◌else◌, IsFalse, IfOk, IfErr};
+ghost use Rattle.std.specs.Str.{IsUtf8};
 ghost use Rattle.bstr.specs.Owned.{bstring_bytes};
 ghost use Rattle.pathspec_parts.specs.Bytes.{comma, space, is_empty};
 ghost use Rattle.pathspec_parts.specs.AttributeStates.{attribute_of};
 ghost use Rattle.gix_pathspec.specs.Errors.{IsMemory};
 ghost use Rattle.gix_pathspec.specs.Signatures.{signature_bits};
 ghost use Rattle.gix_pathspec.specs.Reading.{Reads, no_defaults};
-ghost use Rattle.gix_pathspec.specs.LongText.{long_text, keywords, bit_text, mode_text, attributes_text, list_text, assignment_text, with_escapes, HoldsWords};
+ghost use Rattle.gix_pathspec.specs.LongText.{long_text, opening, bit_text, mode_text, attributes_text, list_text, assignment_text, with_escapes, printed_text, AddsWords, AddsBytes};
 ghost use Rattle.gix_pathspec.specs.RoundTrips.{IsSayablePattern, RoundTripIsExact, LongTextsTell, SaidIsSayable, SaidComesBack};
 
 use crate::{Error, MagicSignature, Pattern, SearchMode};
@@ -35,6 +35,11 @@ impl Pattern {
             IsSayablePattern (pattern_spec self.now)
                 → IfOk result (λ text. Reads no_defaults (bstring_bytes text) (pattern_spec self.now))
         }
+        // Text that is UTF-8 is printed as it is.
+        ensures printed {
+            IfOk result (λ text. IsUtf8 (bstring_bytes text)
+                → printed_text (pattern_spec self.now) ≡ bstring_bytes text)
+        }
         // Only sayable specs come back, and their texts tell them apart; what a text says is sayable.
         ensures laws { RoundTripIsExact × LongTextsTell × SaidIsSayable × SaidComesBack }
     {
@@ -60,7 +65,7 @@ impl Pattern {
 
     /// `:(` and the keywords.
     fn opening(&self) -> Result<Vec<u8>, AllocError>
-        ensures { IfOk result (λ text. text.items ≡ codes ":(" ++ join_with_byte comma (keywords (pattern_spec self.now))) }
+        ensures { IfOk result (λ text. text.items ≡ opening (pattern_spec self.now)) }
     {
         let mut text = Vec::from_slice(*self.path.allocator(), b":(")?;
         self.write_bit(&mut text, MagicSignature::TOP, b"top")?;
@@ -79,7 +84,10 @@ impl Pattern {
         word: &[u8],
     ) -> Result<(), AllocError>
         requires { IsFalse (is_empty word.now) }
-        ensures { (words : List (List ℕ)) → HoldsWords text.old.items words → OnOk result (HoldsWords text.new.items (words ++ bit_text (signature_bits flag) (pattern_spec self.now).signature word.now)) }
+        ensures {
+            AddsWords text.old.items text.new.items
+                (bit_text (signature_bits flag) (pattern_spec self.now).signature word.now) result
+        }
     {
         if !self.signature.contains(flag) {
             return Ok(());
@@ -90,7 +98,7 @@ impl Pattern {
 
 /// Writes the keyword of a mode, if it has one.
 fn write_mode(text: &mut Vec<u8>, mode: SearchMode) -> Result<(), AllocError>
-    ensures { (words : List (List ℕ)) → HoldsWords text.old.items words → OnOk result (HoldsWords text.new.items (words ++ mode_text mode)) }
+    ensures { AddsWords text.old.items text.new.items (mode_text mode) result }
 {
     match mode {
         SearchMode::ShellGlob => Ok(()),
@@ -102,7 +110,7 @@ fn write_mode(text: &mut Vec<u8>, mode: SearchMode) -> Result<(), AllocError>
 /// Writes a keyword behind those before it.
 fn write_word(text: &mut Vec<u8>, word: &[u8]) -> Result<(), AllocError>
     requires { IsFalse (is_empty word.now) }
-    ensures { (words : List (List ℕ)) → HoldsWords text.old.items words → OnOk result (HoldsWords text.new.items (words ++ word.now ∷ [])) }
+    ensures { AddsWords text.old.items text.new.items (word.now ∷ []) result }
 {
     write_comma(text)?;
     text.extend_from_slice(word)?;
@@ -111,7 +119,10 @@ fn write_word(text: &mut Vec<u8>, word: &[u8]) -> Result<(), AllocError>
 
 /// Writes a comma, unless nothing stands behind `:(` yet.
 fn write_comma(text: &mut Vec<u8>) -> Result<(), AllocError>
-    ensures { OnOk result (text.new.items ≡ text.old.items ++ (if nat_lt 2 (length text.old.items) then comma ∷ [] else [])) }
+    ensures {
+        AddsBytes text.old.items text.new.items
+            (if nat_lt 2 (length text.old.items) then comma ∷ [] else []) result
+    }
 {
     if text.len() > 2 {
         text.push(b',')?;
@@ -121,7 +132,10 @@ fn write_comma(text: &mut Vec<u8>) -> Result<(), AllocError>
 
 /// Writes `attr:` and the assignments, with a space between each two, if there are any.
 fn write_attributes(text: &mut Vec<u8>, assignments: &[Assignment]) -> Result<(), AllocError>
-    ensures { (words : List (List ℕ)) → HoldsWords text.old.items words → OnOk result (HoldsWords text.new.items (words ++ attributes_text (map attribute_of assignments.now))) }
+    ensures {
+        AddsWords text.old.items text.new.items
+            (attributes_text (map attribute_of assignments.now)) result
+    }
 {
     if assignments.is_empty() {
         return Ok(());
@@ -133,7 +147,10 @@ fn write_attributes(text: &mut Vec<u8>, assignments: &[Assignment]) -> Result<()
 
 /// Writes assignments, with a space between each two.
 fn write_assignments(text: &mut Vec<u8>, assignments: &[Assignment]) -> Result<(), AllocError>
-    ensures { OnOk result (text.new.items ≡ text.old.items ++ list_text (map attribute_of assignments.now)) }
+    ensures {
+        AddsBytes text.old.items text.new.items
+            (list_text (map attribute_of assignments.now)) result
+    }
 {
     for (place, assignment) in assignments.iter().enumerate() {
         write_space(text, place)?;
@@ -144,7 +161,9 @@ fn write_assignments(text: &mut Vec<u8>, assignments: &[Assignment]) -> Result<(
 
 /// Writes a space, unless it would stand in front of the first.
 fn write_space(text: &mut Vec<u8>, place: usize) -> Result<(), AllocError>
-    ensures { OnOk result (text.new.items ≡ text.old.items ++ (if place == 0 then [] else space ∷ [])) }
+    ensures {
+        AddsBytes text.old.items text.new.items (if place == 0 then [] else space ∷ []) result
+    }
 {
     if place > 0 {
         text.push(b' ')?;
@@ -154,7 +173,9 @@ fn write_space(text: &mut Vec<u8>, place: usize) -> Result<(), AllocError>
 
 /// Writes `a`, `-a`, `!a` or `a=v`, with a backslash in front of each comma.
 fn write_assignment(text: &mut Vec<u8>, assignment: &Assignment) -> Result<(), AllocError>
-    ensures { OnOk result (text.new.items ≡ text.old.items ++ assignment_text (attribute_of assignment.now)) }
+    ensures {
+        AddsBytes text.old.items text.new.items (assignment_text (attribute_of assignment.now)) result
+    }
 {
     match &assignment.state {
         State::Set => write_escaped(text, assignment.name.as_bytes().as_bytes()),
@@ -176,7 +197,7 @@ fn write_assignment(text: &mut Vec<u8>, assignment: &Assignment) -> Result<(), A
 
 /// Writes bytes, with a backslash in front of each comma.
 fn write_escaped(text: &mut Vec<u8>, bytes: &[u8]) -> Result<(), AllocError>
-    ensures { OnOk result (text.new.items ≡ text.old.items ++ with_escapes bytes.now) }
+    ensures { AddsBytes text.old.items text.new.items (with_escapes bytes.now) result }
 {
     for byte in bytes {
         if *byte == b',' {
@@ -188,12 +209,11 @@ fn write_escaped(text: &mut Vec<u8>, bytes: &[u8]) -> Result<(), AllocError>
 }
 
 impl fmt::Display for Pattern {
-    ghost use Rattle.std.specs.Prelude.{Some, encode_utf8_all};
-    ghost use Rattle.bstr.specs.Utf8.{lossy_chars};
-    ghost use Rattle.gix_pathspec.specs.LongText.{long_text};
+    ghost use Rattle.std.specs.Prelude.{Some};
+    ghost use Rattle.gix_pathspec.specs.LongText.{printed_text};
     ghost use Rattle.gix_pathspec.specs.Patterns.{pattern_spec};
 
-    ghost output = { λ p. Some (encode_utf8_all (lossy_chars (long_text (pattern_spec p)))) };
+    ghost output = { λ p. Some (printed_text (pattern_spec p)) };
 
     fn fmt<W: fmt::Write>(&self, f: &mut fmt::Formatter<W>) -> fmt::Result {
         match self.long_text() {

@@ -364,6 +364,7 @@ mod tests {
             ("a", "..", ".", "", true),
             ("sub", ".", "sub", "", false),
             ("a", ":", "a", "", true),
+            ("a/b", ":", "a/b", "", true),
             ("a", ":/b", "b", "", false),
             ("a", ":(top)b/", "b", "", false),
             ("a", "b", "a/b", "a", false),
@@ -396,6 +397,7 @@ mod tests {
             ("/r", "/r", "", "", false),
             ("/r", "/r/a/..", ".", "", true),
             ("/r", "/r/a/b/", "a/b", "a/b", false),
+            ("/r", "/r/a/../b", "b", "", false),
             ("/", "/a", "a", "", false),
         ];
         for (root, text, path, directory, nil) in rows {
@@ -425,20 +427,45 @@ mod tests {
         for (prefix, root, text, kind) in rows {
             let mut pattern = Pattern::from_bytes(rt.alloc(), text.as_bytes(), Defaults::default())?;
             let before = pattern.try_clone()?;
-            let prefix = BStr::new(prefix.as_bytes());
+            let (prefix, root) = (BStr::new(prefix.as_bytes()), BStr::new(root.as_bytes()));
             assert!(rt; path::is_clean_prefix(prefix), "prefix of {text}");
-            let Err(error) = pattern.resolve(prefix, BStr::new(root.as_bytes())) else {
+            let Err(error) = pattern.normalize(prefix, root) else {
                 return Err("normalised".into());
             };
-            assert_eq!(rt; error.kind(), kind, "{text}");
-            match &error {
-                Error::OutsideRoot(path) | Error::LeavesRepository(path) => {
-                    assert_eq!(rt; path.as_slice(), before.path().as_bytes(), "{text}");
-                }
-                _ => return Err("another error".into()),
-            }
-            assert_eq!(rt; pattern, before, "{text}");
+            assert_eq!(rt; error.kind(), kind, "normalize {text}");
+            assert_eq!(rt; told_path(&error), Some(text.as_bytes()), "path of normalize {text}");
+            assert_eq!(rt; pattern, before, "pattern after normalize {text}");
+            let Err(error) = pattern.resolve(prefix, root) else {
+                return Err("resolved".into());
+            };
+            assert_eq!(rt; error.kind(), kind, "resolve {text}");
+            assert_eq!(rt; told_path(&error), Some(text.as_bytes()), "path of resolve {text}");
+            assert_eq!(rt; pattern, before, "pattern after resolve {text}");
         }
+        Ok(())
+    }
+
+    /// The path that a refusal tells.
+    fn told_path(error: &Error) -> Option<&[u8]> {
+        match error {
+            Error::OutsideRoot(path) | Error::LeavesRepository(path) => Some(path.as_slice()),
+            _ => None,
+        }
+    }
+
+    #[test]
+    fn a_literal_colon_is_a_path(rt: HostRuntime) -> Result<(), Fail> {
+        let defaults = Defaults {
+            literal: true,
+            ..Defaults::default()
+        };
+        let mut pattern = Pattern::from_bytes(rt.alloc(), b":", defaults)?;
+        let prefix = BStr::new(b"a");
+        assert!(rt; path::is_clean_prefix(prefix));
+        let normal = pattern.normalize(prefix, BStr::new(b""))?;
+        assert_eq!(rt; normal.path().as_bytes(), b"a/:".as_slice());
+        assert_eq!(rt; normal.prefix_directory().as_bytes(), b"a".as_slice());
+        assert!(rt; !normal.is_nil());
         Ok(())
     }
 }

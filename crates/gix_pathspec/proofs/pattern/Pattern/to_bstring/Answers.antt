@@ -1,12 +1,16 @@
 -- The text reads back, since a pattern's attributes have valid names; and the laws hold of all long texts.
-use Rattle.std.proofs.Common.{◌≡◌, true, not, ◌&&◌, refl, List, [], ◌∷◌, map}
+use Rattle.std.proofs.Common.{◌≡◌, true, not, ◌&&◌, refl, sym, ◌∙◌, subst, List, [], ◌∷◌, map}
 use Rattle.std.proofs.lemmas.Bool.{and_parts, and_from}
+use Rattle.std.proofs.lemmas.Str.{utf8_lossy-IsUtf8}
 use Rattle.std.specs.List.{list_all}
+use Rattle.std.specs.Str.{IsUtf8}
+use Rattle.bstr.proofs.lemmas.LossyLemmas.{lossy_chars-utf8_lossy}
 use Rattle.pathspec_parts.specs.Bytes.{is_empty}
 use Rattle.pathspec_parts.specs.Attributes.{is_attribute_name}
 use Rattle.pathspec_parts.specs.AttributeStates.{attribute_of}
 use Rattle.pathspec_parts.specs.declared.attributes.state.Assignment.{Assignment}
 use Rattle.gix_pathspec.specs.Patterns.{pattern_spec}
+use Rattle.gix_pathspec.specs.LongText.{long_text}
 use Rattle.gix_pathspec.specs.RoundTrips.{is_written_state, is_set, is_sayable_assignment, is_sayable_state, IsSayable}
 use Rattle.gix_pathspec.proofs.RoundTripProofs.{long_text_reads, long_texts_tell}
 use Rattle.gix_pathspec.proofs.SaidProofs.{round_trip_is_exact, said_is_sayable, said_comes_back}
@@ -32,6 +36,12 @@ pub returns-clause-comes_back : goal.returns-clause-comes_back
 returns-clause-comes_back c sayable =
     let named : IsSayable (pattern_spec c.args.self.now) = record { bits = sayable.bits; prefix = sayable.prefix; assignments = sayable-named c.args.self.now.attributes.items sayable.assignments; path = sayable.path; nil = sayable.nil } in
     rw (c.new.ensures, c.in_ok-long_text.ensures) (long_text_reads (pattern_spec c.args.self.now) named)
+
+pub returns-clause-printed : goal.returns-clause-printed
+returns-clause-printed c utf8 =
+    let text = c.new.ensures ∙ c.in_ok-long_text.ensures in
+    let is_text = subst IsUtf8 text utf8 in
+    lossy_chars-utf8_lossy (long_text (pattern_spec c.args.self.now)) ∙ (utf8_lossy-IsUtf8 (long_text (pattern_spec c.args.self.now)) is_text ∙ sym text)
 
 pub returns-clause-laws : goal.returns-clause-laws
 returns-clause-laws c = (round_trip_is_exact, long_texts_tell, said_is_sayable, said_comes_back)
