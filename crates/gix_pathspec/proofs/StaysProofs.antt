@@ -1,15 +1,16 @@
 -- A second normalising without a prefix leaves the path: the components of joined names are those names, and names by themselves all survive.
-use Rattle.std.proofs.Common.{◌≡◌, ℕ, min, zero, suc, ◌-◌, Bool, true, false, not, ◌&&◌, cond, refl, sym, ◌∙◌, ap, subst, List, [], ◌∷◌, ◌++◌, length, drop, arith, ◌==◌, inl, inr, Option, Some, None, Ok}
+use Rattle.std.proofs.Common.{◌≡◌, ℕ, min, zero, suc, ◌-◌, Bool, true, false, not, ◌&&◌, ◌||◌, cond, refl, sym, ◌∙◌, ap, subst, List, [], ◌∷◌, ◌++◌, length, drop, arith, ◌==◌, inl, inr, Option, Some, None, Ok}
 use Rattle.std.proofs.lemmas.Bool.{cases_Bool, cond_both, and_parts, or_parts, or_from, not-true, and_left, ne_eqb, eqb-false}
 use Rattle.std.proofs.lemmas.List.{append-nil}
 use Rattle.std.proofs.lemmas.List.Splits.{slice_split_none, slice_split_at}
 use Rattle.std.proofs.lemmas.List.Elements.{All-from_recursion}
 use Rattle.std.specs.Prelude.{codes, filter}
 use Rattle.std.specs.List.{list_any, onto_first, AllByRecursion}
-use Rattle.pathspec_parts.specs.Bytes.{slash}
-use Rattle.pathspec_parts.specs.Paths.{pieces, is_component, is_up, components, joined, is_absolute, after_root, behind_front}
-use Rattle.gix_pathspec.specs.Specs.{Spec, wants_directory}
-use Rattle.gix_pathspec.specs.NormalForm.{new_prefix_length, climb, survivors, walked, resolved, resolve, normal_form, is_joined, stays_empty}
+use Rattle.pathspec_parts.specs.Bytes.{slash, is_empty}
+use Rattle.pathspec_parts.specs.Paths.{pieces, is_component, is_up, components, joined, is_absolute, behind_front}
+use Rattle.gix_pathspec.specs.Specs.{Spec, top, has, wants_directory}
+use Rattle.gix_pathspec.specs.NormalForm.{Base, base, base_names, own_components, is_inside, new_prefix_length, climb, survivors, walked, resolved, resolve, normal_form, IsNormal, stays_empty}
+use Rattle.gix_pathspec.specs.NormalForm.Base.{Root, Prefix, Top}
 use Rattle.gix_pathspec.proofs.NormalFormProofs.{climb-name}
 
 -- no byte of the text is a slash
@@ -74,13 +75,22 @@ AllParts-cond : (b : Bool) (x y : Option (List (List ℕ))) → AllParts x → A
 AllParts-cond true x y p q = p
 AllParts-cond false x y p q = q
 
--- what is resolved are components
-walked-parts : (prefix root : List ℕ) (s : Spec) → AllParts (walked prefix root s)
-walked-parts prefix root s =
-    let own = components-parts s.path in
-    AllParts-cond (is_absolute s.path) (after_root root s.path) (cond (is_joined prefix s) (Some (components prefix ++ components s.path)) (Some (components s.path)))
-    (AllParts-cond (is_absolute root && is_absolute s.path) (behind_front (components root) (components s.path)) None (AllParts-cond _ (Some (drop (length (components root)) (components s.path))) None (AllByRecursion-drop IsPart (length (components root)) (components s.path) own) tt) tt)
-    (AllParts-cond (is_joined prefix s) (Some (components prefix ++ components s.path)) (Some (components s.path)) (AllByRecursion-append IsPart (components prefix) (components s.path) (components-parts prefix) own) own)
+-- the names that a path stands on are components
+base-parts : (prefix : List ℕ) (s : Spec) → AllByRecursion IsPart (base_names (base prefix s))
+base-parts prefix s = elim (cases_Bool (is_absolute s.path)) [
+  | inl a ↦ rw a tt
+  | inr r ↦ elim (cases_Bool (is_empty prefix || has top s.signature)) [
+    | inl t ↦ rw (r, t) tt
+    | inr j ↦ rw (r, j) (components-parts prefix)
+  ]
+]
+
+-- so are its own
+own-parts : (b : Base) (root path : List ℕ) → AllParts (own_components b root path)
+own-parts Root root path =
+    AllParts-cond (is_absolute root && is_absolute path) (behind_front (components root) (components path)) None (AllParts-cond _ (Some (drop (length (components root)) (components path))) None (AllByRecursion-drop IsPart (length (components root)) (components path) (components-parts path)) tt) tt
+own-parts (Prefix names) root path = components-parts path
+own-parts Top root path = components-parts path
 
 -- ---- survivors are names
 
@@ -141,7 +151,7 @@ settled-relative n (here e nil) = ap is_absolute e
 settled-relative n (named name more a e) = ap is_absolute e ∙ is_absolute-joined name more a.0
 
 -- a relative path is resolved by its own components
-normal_form-relative : (root : List ℕ) (n : Spec) (cs : List (List ℕ)) → is_absolute n.path ≡ false → components n.path ≡ cs → climb cs ≡ 0 → normal_form [] root n ≡ Ok (resolved [] n cs (survivors cs))
+normal_form-relative : (root : List ℕ) (n : Spec) (cs : List (List ℕ)) → is_absolute n.path ≡ false → components n.path ≡ cs → climb cs ≡ 0 → normal_form [] root n ≡ Ok (resolved Top n cs (survivors cs))
 unfolding normal_form
 normal_form-relative root n cs r e c = rw (r, e, c) refl
 
@@ -150,22 +160,22 @@ with_path : (n : Spec) (path : List ℕ) (nil : Bool) (len : ℕ) → path ≡ n
 with_path n path nil len e f g = rw (e, f, g) refl
 
 -- without a prefix nothing is kept for one
-no_prefix : (n : Spec) (left : List (List ℕ)) → is_absolute n.path ≡ false → new_prefix_length [] n left ≡ 0
-no_prefix n left r =
+no_prefix : (n : Spec) (own left : List (List ℕ)) → new_prefix_length Top n own left ≡ 0
+no_prefix n own left =
     let none : min 0 (length left - cond (wants_directory n) 0 1) ≡ 0 = omega arith in
-    rw (r, none) (cond_both n.nil 0 0 (λ k. k ≡ 0) (λ e. refl) (λ e. refl))
+    rw none (cond_both n.nil 0 0 (λ k. k ≡ 0) (λ e. refl) (λ e. refl))
 
 -- an empty path stays empty
-resolved-empty : (n : Spec) → n.path ≡ [] → resolved [] n [] [] ≡ record n { prefix_length = 0 }
+resolved-empty : (n : Spec) → n.path ≡ [] → resolved Top n [] [] ≡ record n { prefix_length = 0 }
 resolved-empty n e = rw e refl
 
 -- nil stays nil
-resolved-here : (n : Spec) → n.path ≡ codes "." → n.nil ≡ true → resolved [] n [] [] ≡ record n { prefix_length = 0 }
+resolved-here : (n : Spec) → n.path ≡ codes "." → n.nil ≡ true → resolved Top n [] [] ≡ record n { prefix_length = 0 }
 resolved-here n e nil = rw (e, nil) refl
 
 -- names stay
-resolved-names : (n : Spec) (name : List ℕ) (more : List (List ℕ)) → is_absolute n.path ≡ false → n.path ≡ joined (name ∷ more) → resolved [] n (name ∷ more) (name ∷ more) ≡ record n { prefix_length = 0 }
-resolved-names n name more r e = with_path n (joined (name ∷ more)) n.nil (new_prefix_length [] n (name ∷ more)) (sym e) refl (no_prefix n (name ∷ more) r)
+resolved-names : (n : Spec) (name : List ℕ) (more : List (List ℕ)) → n.path ≡ joined (name ∷ more) → resolved Top n (name ∷ more) (name ∷ more) ≡ record n { prefix_length = 0 }
+resolved-names n name more e = with_path n (joined (name ∷ more)) n.nil (new_prefix_length Top n (name ∷ more) (name ∷ more)) (sym e) refl (no_prefix n (name ∷ more) (name ∷ more))
 
 -- what stands in normal form stays
 again : (root : List ℕ) (n : Spec) → IsSettled n → normal_form [] root n ≡ Ok (record n { prefix_length = 0 })
@@ -176,29 +186,32 @@ again root n (named name more a e) =
     let names = name ∷ more in
     let r = settled-relative n (named name more a e) in
     normal_form-relative root n names r (ap components e ∙ components-joined names a) (climb-names names a)
-    ∙ ap Ok (ap (λ left. resolved [] n names left) (survivors-names names a) ∙ resolved-names n name more r e)
+    ∙ ap Ok (ap (λ left. resolved Top n names left) (survivors-names names a) ∙ resolved-names n name more e)
 
 -- what is resolved stands in normal form
-resolved-settled : (prefix : List ℕ) (s : Spec) (cs left : List (List ℕ)) → AllByRecursion IsWholeName left → IsSettled (resolved prefix s cs left)
-resolved-settled prefix s cs [] a = elim (cases_Bool (stays_empty prefix s cs)) [
+resolved-settled : (b : Base) (s : Spec) (own left : List (List ℕ)) → AllByRecursion IsWholeName left → IsSettled (resolved b s own left)
+resolved-settled b s own [] a = elim (cases_Bool (stays_empty b s own)) [
   | inl y ↦ rw y (empty refl)
   | inr n ↦ rw n (here refl refl)
 ]
-resolved-settled prefix s cs (name ∷ more) a = named name more a refl
+resolved-settled b s own (name ∷ more) a = named name more a refl
 
 -- the same where it does not climb out
-resolve-settled : (prefix : List ℕ) (s n : Spec) (found : Option (List (List ℕ))) → AllParts found → resolve prefix s found ≡ Ok n → IsSettled n
-resolve-settled prefix s n None a h = cc
-resolve-settled prefix s n (Some cs) a h = elim (cases_Bool (climb cs == 0)) [
-  | inl y ↦ let e : resolved prefix s cs (survivors cs) ≡ n = (let k = rw y at h in cc) in subst IsSettled e (resolved-settled prefix s cs (survivors cs) (survivors-whole cs a))
+resolve-settled : (b : Base) (s n : Spec) (found : Option (List (List ℕ))) → AllByRecursion IsPart (base_names b) → AllParts found → resolve b s found ≡ Ok n → IsSettled n
+resolve-settled b s n None f a h = cc
+resolve-settled b s n (Some own) f a h = elim (cases_Bool (is_inside b own)) [
+  | inl y ↦
+      let e : resolved b s own (survivors (walked b own)) ≡ n = (let k = rw y at h in cc) in
+      let whole = survivors-whole (walked b own) (AllByRecursion-append IsPart (base_names b) own f a) in
+      subst IsSettled e (resolved-settled b s own (survivors (walked b own)) whole)
   | inr up ↦ let k = rw up at h in cc
 ]
 
 -- the same of the whole call
 settled : (prefix root : List ℕ) (s n : Spec) → normal_form prefix root s ≡ Ok n → IsSettled n
 unfolding normal_form
-settled prefix root s n h = resolve-settled prefix s n (walked prefix root s) (walked-parts prefix root s) h
+settled prefix root s n h = resolve-settled (base prefix s) s n (own_components (base prefix s) root s.path) (base-parts prefix s) (own-parts (base prefix s) root s.path) h
 
 -- A second normalising without a prefix, with whatever root, leaves all but the prefix length, which becomes 0.
-pub normal_form_again : (prefix root other : List ℕ) (s n : Spec) → normal_form prefix root s ≡ Ok n → normal_form [] other n ≡ Ok (record n { prefix_length = 0 })
-normal_form_again prefix root other s n h = again other n (settled prefix root s n h)
+pub normal_form_again : (prefix root : List ℕ) (s n : Spec) → normal_form prefix root s ≡ Ok n → IsNormal n
+normal_form_again prefix root s n h other = again other n (settled prefix root s n h)

@@ -1,5 +1,5 @@
 -- What a spec means from a folder of the repository: its path from the root, resolved (normalising).
-use Rattle.std.specs.Prelude.{◌≡◌, ℕ, ◌-◌, min, max, Bool, true, not, ◌&&◌, ◌||◌, List, [], ◌∷◌, ◌++◌, length, take, map, filter, codes, ◌==◌, if◌then◌else◌, Option, Some, None, Result, Ok, Err}
+use Rattle.std.specs.Prelude.{◌≡◌, ℕ, ◌-◌, min, max, Bool, true, false, not, ◌&&◌, ◌||◌, List, [], ◌∷◌, ◌++◌, length, take, map, filter, codes, ◌==◌, if◌then◌else◌, Option, Some, None, Result, Ok, Err}
 use Rattle.pathspec_parts.specs.Bytes.{is_empty}
 use Rattle.pathspec_parts.specs.Paths.{components, joined, is_up, is_absolute, after_root}
 use Rattle.gix_pathspec.specs.Faults.{Fault}
@@ -35,53 +35,78 @@ abbrev pub survivors : List (List ℕ) → List (List ℕ)
 survivors [] = []
 survivors (c ∷ cs) = let others = survivors cs in if not (is_up c) && climb cs == 0 then c ∷ others else others
 
+-- ---- what a path stands on
+
+-- what a path stands on: the root of the repository, names of a prefix, or the top of the repository
+pub data Base : Type 0 where
+  Root : Base
+  Prefix : (front : List (List ℕ)) → Base
+  Top : Base
+
+-- An absolute path stands on the root. A relative one stands on a prefix that is not empty, unless the spec is for the top.
+abbrev pub base : List ℕ → Spec → Base
+base prefix s =
+    if is_absolute s.path then Root
+    else if is_empty prefix || has top s.signature then Top
+    else Prefix (components prefix)
+
+-- the names that a path stands on
+abbrev pub base_names : Base → List (List ℕ)
+base_names Root = []
+base_names (Prefix front) = front
+base_names Top = []
+
+-- A path's own components: on the root those after the root's, outside which it may lie.
+abbrev pub own_components : Base → List ℕ → List ℕ → Option (List (List ℕ))
+own_components Root root path = after_root root path
+own_components (Prefix front) root path = Some (components path)
+own_components Top root path = Some (components path)
+
+-- What is resolved: the names that a path stands on, and then its own components.
+abbrev pub walked : Base → List (List ℕ) → List (List ℕ)
+walked b own = base_names b ++ own
+
+-- A path lies inside the repository where it does not climb above what it stands on.
+abbrev pub is_inside : Base → List (List ℕ) → Bool
+is_inside b own = climb (walked b own) == 0
+
 -- ---- the normal form
 
--- A relative path is joined to a prefix that is not empty, unless the spec is for the top.
-abbrev pub is_joined : List ℕ → Spec → Bool
-is_joined prefix s = not (is_empty prefix || is_absolute s.path || has top s.signature)
+-- How many of the survivors are kept for the prefix directory: on a prefix as many as it has names that the path never climbs above, on the root all.
+abbrev pub kept : Base → List (List ℕ) → List (List ℕ) → ℕ
+kept Root own left = length left
+kept (Prefix front) own left = length front - climb own
+kept Top own left = 0
 
--- What is resolved: the components behind the root, or the prefix's where it is joined and then the path's own. An absolute path may lie outside the root.
-abbrev pub walked : List ℕ → List ℕ → Spec → Option (List (List ℕ))
-walked prefix root s =
-    if is_absolute s.path then after_root root s.path
-    else if is_joined prefix s then Some (components prefix ++ components s.path)
-    else Some (components s.path)
-
--- How many of the survivors are kept for the prefix directory: of a joined prefix those that the path never climbs above, of an absolute path all.
-abbrev pub kept : List ℕ → Spec → List (List ℕ) → ℕ
-kept prefix s left =
-    if is_absolute s.path then length left
-    else if is_joined prefix s then length (components prefix) - climb (components s.path)
-    else 0
-
--- the kept survivors, without the last of all unless a directory is wanted
-abbrev pub directory : List ℕ → Spec → List (List ℕ) → List (List ℕ)
-directory prefix s left = take (min (kept prefix s left) (length left - (if wants_directory s then 0 else 1))) left
+-- how many of them are the prefix directory: the kept ones, without the last of all unless a directory is wanted
+abbrev pub directory_count : Base → Spec → List (List ℕ) → List (List ℕ) → ℕ
+directory_count b s own left = min (kept b own left) (length left - (if wants_directory s then 0 else 1))
 
 -- the prefix length of a spec whose path becomes these survivors
-abbrev pub new_prefix_length : List ℕ → Spec → List (List ℕ) → ℕ
-new_prefix_length prefix s left = if s.nil then 0 else length (joined (directory prefix s left))
+abbrev pub new_prefix_length : Base → Spec → List (List ℕ) → List (List ℕ) → ℕ
+new_prefix_length b s own left = if s.nil then 0 else length (joined (take (directory_count b s own left) left))
 
--- whether a path that leaves nothing stays an empty path: it was empty and no prefix was joined, or it is the root itself
-abbrev pub stays_empty : List ℕ → Spec → List (List ℕ) → Bool
-stays_empty prefix s cs = if is_absolute s.path then ups cs == 0 else is_empty s.path && not (is_joined prefix s)
+-- Whether a path that leaves nothing stays an empty path: it is the root itself, or it was empty and stands on the top.
+abbrev pub stays_empty : Base → Spec → List (List ℕ) → Bool
+stays_empty Root s own = ups own == 0
+stays_empty (Prefix front) s own = false
+stays_empty Top s own = is_empty s.path
 
 -- the spec with these survivors for its path; where there is none, an empty path, or the nil spec `.`
-abbrev pub resolved : List ℕ → Spec → List (List ℕ) → List (List ℕ) → Spec
-resolved prefix s cs [] =
-    if stays_empty prefix s cs then record s { path = []; prefix_length = 0 }
+abbrev pub resolved : Base → Spec → List (List ℕ) → List (List ℕ) → Spec
+resolved b s own [] =
+    if stays_empty b s own then record s { path = []; prefix_length = 0 }
     else record s { path = codes "."; nil = true; prefix_length = 0 }
-resolved prefix s cs (name ∷ more) = record s { path = joined (name ∷ more); prefix_length = new_prefix_length prefix s (name ∷ more) }
+resolved b s own (name ∷ more) = record s { path = joined (name ∷ more); prefix_length = new_prefix_length b s own (name ∷ more) }
 
 -- the resolved spec, or why the path lies outside
-abbrev pub resolve : List ℕ → Spec → Option (List (List ℕ)) → Result Spec Fault
-resolve prefix s None = Err (OutsideRoot s.path)
-resolve prefix s (Some cs) = if climb cs == 0 then Ok (resolved prefix s cs (survivors cs)) else Err (LeavesRepository s.path)
+abbrev pub resolve : Base → Spec → Option (List (List ℕ)) → Result Spec Fault
+resolve b s None = Err (OutsideRoot s.path)
+resolve b s (Some own) = if is_inside b own then Ok (resolved b s own (survivors (walked b own))) else Err (LeavesRepository s.path)
 
 -- The spec as it is meant from a clean prefix, in a repository with this root, or why it lies outside.
 unfoldable pub normal_form : List ℕ → List ℕ → Spec → Result Spec Fault
-normal_form prefix root s = resolve prefix s (walked prefix root s)
+normal_form prefix root s = let b = base prefix s in resolve b s (own_components b root s.path)
 
 -- A spec that is its own normal form: without a prefix, under whatever root, only its prefix length becomes 0.
 abbrev pub IsNormal : Spec → Type 0

@@ -1,21 +1,40 @@
 //! Normalising: the path of a pathspec from the top of the repository, without `.` and `..`.
-ghost use Rattle.std.specs.Prelude.{◌≡◌, ◌∷◌, [], ◌++◌, ◌==◌, ◌≤◌, ◌-◌, ℕ, Ok, Err, Some, true, false, not, List, length, min, take, if◌then◌else◌, IsTrue, IfOk, IfErr, OnOk, OnErr, MatchResult};
+ghost use Rattle.std.specs.Prelude.{◌≡◌, ◌≢◌, ◌∷◌, [], ◌++◌, ◌==◌, ◌≤◌, ◌-◌, not, length, min, take, if◌then◌else◌, is_some, IsTrue, IfSome, IfOk, IfErr, OnOk, OnErr};
 ghost use Rattle.std.specs.Option.{option_map};
 ghost use Rattle.bstr.specs.BStr.{bstr_bytes};
 ghost use Rattle.pathspec_parts.specs.Bytes.{slash};
-ghost use Rattle.pathspec_parts.specs.Paths.{components, joined, is_up, is_absolute, is_clean_prefix, after_root};
+ghost use Rattle.pathspec_parts.specs.Paths.{joined, is_up, is_clean_prefix};
 ghost use Rattle.pathspec_parts.specs.Components.{components_left};
-ghost use Rattle.gix_pathspec.specs.Faults.Fault.{LeavesRepository};
-ghost use Rattle.gix_pathspec.specs.Errors.{IsMemory, IsMemoryOr, Computes};
-ghost use Rattle.gix_pathspec.specs.NormalForm.{IsNormal, climb, survivors, ups, is_joined, kept, stays_empty, resolved};
+ghost use Rattle.gix_pathspec.specs.Errors.{IsMemory, Computes};
+ghost use Rattle.gix_pathspec.specs.NormalForm.{IsNormal, base, base_names, own_components, is_inside, climb, survivors, ups, kept, directory_count, stays_empty, resolved};
 ghost use Rattle.gix_pathspec.specs.Heights.{ClimbByHeight, SurvivorsByHeight, KeptIsLeastHeight};
-ghost use Rattle.gix_pathspec.specs.Resolving.{can_put, put_on};
+ghost use Rattle.gix_pathspec.specs.Resolving.{base_of, IsLeft, can_put, put_on};
 
 use crate::{Error, MagicSignature, Pattern, error};
 use bitflags::Flags;
 use bstr::BStr;
 use pathspec_parts::path::{self, Components, Stack};
 use std::alloc::{AllocError, Global};
+
+/// What a path stands on.
+#[derive(Clone, Copy)]
+enum Base<'p> {
+    /// The root of the repository: the path is absolute.
+    Root,
+    /// A prefix that isn't empty, by its components.
+    Prefix(Components<'p>),
+    /// The top of the repository.
+    Top,
+}
+
+/// A path's own components, and what is left of them on what the path stands on, with each `..` resolved.
+#[derive(Drop)]
+struct Walk<'p> {
+    base: Base<'p>,
+    own: Components<'p>,
+    stack: Stack<'p>,
+    ghost left: { IsLeft (base_of base) (components_left own) stack },
+}
 
 /// What normalising changes.
 #[derive(Drop)]
@@ -27,7 +46,7 @@ struct Resolved {
 
 impl Pattern {
     ghost use Rattle.gix_pathspec.specs.Patterns.{pattern_spec, pattern_normal_form};
-    ghost use Rattle.gix_pathspec.specs.Resolving.{resolved_spec, kept_on, directory_len, with_names};
+    ghost use Rattle.gix_pathspec.specs.Resolving.{resolved_spec};
 
     /// Normalises the path to what it means from the top of the repository, when it is given in the directory `prefix`
     /// of a repository that lies at `root`. The prefix must be clean: names joined by single slashes, or empty.
@@ -91,118 +110,56 @@ impl Pattern {
         }
     {
         let alloc = *self.path.allocator();
-        let Some(own) = self.own_components(root) else {
+        let base = self.base(prefix);
+        let Some(own) = self.own_components(base, root) else {
             return Err(Error::OutsideRoot(error::copied(alloc, self.path.as_slice())?));
         };
-        let front = self.joined_prefix(prefix);
-        let stack = self.stacked(path::components(front), own)?;
-        self.with_components(prefix, own, &stack)
-    }
-
-    /// The components that the path adds to a prefix: its own, or for an absolute path those behind the root, if it
-    /// lies there.
-    fn own_components(&self, root: BStr<'_>) -> Option<Components<'_>>
-        ensures { option_map components_left result ≡ (if is_absolute (pattern_spec self.now).path then after_root (bstr_bytes root.entry) (pattern_spec self.now).path else Some (components (pattern_spec self.now).path)) }
-    {
-        if path::is_absolute(self.path()) {
-            path::strip_root(self.path(), root)
-        } else {
-            Some(path::components(self.path()))
-        }
-    }
-
-    /// Whether a prefix is joined to the path.
-    fn is_joined(&self, prefix: BStr<'_>) -> bool
-        ensures { result ≡ is_joined (bstr_bytes prefix.entry) (pattern_spec self.now) }
-    {
-        let stands_alone = prefix.as_bytes().is_empty()
-            || path::is_absolute(self.path())
-            || self.signature.contains(MagicSignature::TOP);
-        !stands_alone
-    }
-
-    /// The prefix where it is joined, and else the empty one.
-    fn joined_prefix<'p>(&self, prefix: BStr<'p>) -> BStr<'p>
-        ensures { bstr_bytes result ≡ (if is_joined (bstr_bytes prefix.entry) (pattern_spec self.now) then bstr_bytes prefix.entry else []) }
-    {
-        if self.is_joined(prefix) {
-            prefix
-        } else {
-            BStr::new(b"")
-        }
-    }
-
-    /// Whether a path of which nothing is left stays an empty path: it was empty and no prefix was joined, or it is
-    /// the root itself, without `..`.
-    fn stays_empty(&self, prefix: BStr<'_>, own: Components<'_>) -> bool
-        ensures { result ≡ stays_empty (bstr_bytes prefix.entry) (pattern_spec self.now) (components_left own.entry) }
-    {
-        if path::is_absolute(self.path()) {
-            !climbs(own)
-        } else {
-            self.path.is_empty() && !self.is_joined(prefix)
-        }
-    }
-
-    /// The components of a prefix, and then the path's own, with each `..` resolved; the stack is marked between them.
-    fn stacked<'p>(&self, prefix: Components<'p>, own: Components<'p>) -> Result<Stack<'p>, Error>
-        requires { ups (components_left prefix) ≡ 0 }
-        ensures { MatchResult result (λ stack. (climb (components_left prefix.entry ++ components_left own.entry) ≡ 0) × (stack.names ≡ survivors (components_left prefix.entry ++ components_left own.entry)) × (stack.least ≡ length (components_left prefix.entry) - climb (components_left own.entry))) (λ e. IsMemoryOr e (λ fault. (fault ≡ LeavesRepository (pattern_spec self.now).path) × ((climb (components_left prefix.entry ++ components_left own.entry) == 0) ≡ false))) }
-    {
-        let alloc = *self.path.allocator();
-        let mut stack = Stack::new(alloc);
-        if !put_both(&mut stack, prefix, own)? {
+        let Some(walk) = Walk::new(alloc, base, own)? else {
             return Err(Error::LeavesRepository(error::copied(alloc, self.path.as_slice())?));
-        }
-        Ok(stack)
+        };
+        self.resolved_along(&walk)
     }
 
-    /// How many of the components are kept for the prefix directory: of a joined prefix those that the path never
-    /// climbs above, of an absolute path all.
-    fn kept(&self, stack: &Stack<'_>) -> usize
-        requires { stack.now.least ≤ length stack.now.names }
-        ensures count { result ≡ kept_on (pattern_spec self.now) stack.now }
-        ensures within { result ≤ length stack.now.names }
+    /// What the path stands on, where it is given in the directory `prefix`.
+    fn base<'p>(&self, prefix: BStr<'p>) -> Base<'p>
+        ensures { base_of result ≡ base (bstr_bytes prefix.entry) (pattern_spec self.now) }
     {
         if path::is_absolute(self.path()) {
-            stack.len()
+            Base::Root
+        } else if prefix.as_bytes().is_empty() || self.signature.contains(MagicSignature::TOP) {
+            Base::Top
         } else {
-            stack.least()
+            Base::Prefix(path::components(prefix))
         }
     }
 
-    /// How many of the components are the prefix directory: the kept ones, without the last of all unless a directory
-    /// is wanted.
-    fn directory_len(&self, stack: &Stack<'_>) -> usize
-        requires { stack.now.least ≤ length stack.now.names }
-        ensures count { result ≡ directory_len (pattern_spec self.now) stack.now }
-        ensures within { result ≤ length stack.now.names }
+    /// The path's own components: on the root those after the root's, or None if it doesn't lie there.
+    fn own_components(&self, base: Base<'_>, root: BStr<'_>) -> Option<Components<'_>>
+        ensures {
+            option_map components_left result
+                ≡ own_components (base_of base.entry) (bstr_bytes root.entry) (pattern_spec self.now).path
+        }
     {
-        let most = if self.signature.contains(MagicSignature::MUST_BE_DIR) {
-            stack.len()
-        } else {
-            stack.len().saturating_sub(1)
-        };
-        self.kept(stack).min(most)
+        match base {
+            Base::Root => path::strip_root(self.path(), root),
+            Base::Prefix(_) | Base::Top => Some(path::components(self.path())),
+        }
     }
 
-    /// What the components on a stack make of the pattern, where its own are these and the others a prefix's.
-    fn with_components(
-        &self,
-        prefix: BStr<'_>,
-        own: Components<'_>,
-        stack: &Stack<'_>,
-    ) -> Result<Resolved, Error>
-        requires least { stack.now.least ≤ length stack.now.names }
-        requires kept { kept_on (pattern_spec self.now) stack.now ≡ kept (bstr_bytes prefix) (pattern_spec self.now) stack.now.names }
-        ensures ok { IfOk result (λ r. resolved_spec (pattern_spec self.now) r ≡ resolved (bstr_bytes prefix.entry) (pattern_spec self.now) (components_left own.entry) stack.now.names) }
+    /// What a walk makes of the pattern.
+    fn resolved_along(&self, walk: &Walk<'_>) -> Result<Resolved, Error>
+        ensures ok {
+            IfOk result (λ r. resolved_spec (pattern_spec self.now) r
+                ≡ resolved (base_of walk.now.base) (pattern_spec self.now)
+                    (components_left walk.now.own) walk.now.stack.names)
+        }
         ensures err { IfErr result IsMemory }
     {
-        if !stack.is_empty() {
-            return self.with_names(stack);
+        if !walk.stack.is_empty() {
+            return self.with_names(walk);
         }
         let alloc = *self.path.allocator();
-        if self.stays_empty(prefix, own) {
+        if self.stays_empty(walk) {
             return Ok(self.empty());
         }
         Ok(Resolved {
@@ -212,17 +169,36 @@ impl Pattern {
         })
     }
 
-    /// What at least one component makes of the pattern.
-    fn with_names(&self, stack: &Stack<'_>) -> Result<Resolved, Error>
-        requires least { stack.now.least ≤ length stack.now.names }
-        ensures ok { IfOk result (λ r. resolved_spec (pattern_spec self.now) r ≡ with_names (pattern_spec self.now) stack.now) }
+    /// Whether a path of which nothing is left stays an empty path: it is the root itself, without `..`, or it was
+    /// empty and stands on the top.
+    fn stays_empty(&self, walk: &Walk<'_>) -> bool
+        ensures {
+            result ≡ stays_empty (base_of walk.now.base) (pattern_spec self.now)
+                (components_left walk.now.own)
+        }
+    {
+        match walk.base {
+            Base::Root => !climbs(walk.own),
+            Base::Prefix(_) => false,
+            Base::Top => self.path.is_empty(),
+        }
+    }
+
+    /// What at least one name makes of the pattern.
+    fn with_names(&self, walk: &Walk<'_>) -> Result<Resolved, Error>
+        requires { walk.now.stack.names ≢ [] }
+        ensures ok {
+            IfOk result (λ r. resolved_spec (pattern_spec self.now) r
+                ≡ resolved (base_of walk.now.base) (pattern_spec self.now)
+                    (components_left walk.now.own) walk.now.stack.names)
+        }
         ensures err { IfErr result IsMemory }
     {
         let mut path = Vec::new(*self.path.allocator());
-        let count = self.directory_len(stack);
-        write_names(&mut path, stack, 0, count)?;
+        let count = self.directory_count(walk);
+        write_names(&mut path, &walk.stack, 0, count)?;
         let prefix_length = if self.nil { 0 } else { path.len() };
-        write_names(&mut path, stack, count, stack.len())?;
+        write_names(&mut path, &walk.stack, count, walk.stack.len())?;
         Ok(Resolved {
             path,
             nil: self.nil,
@@ -230,14 +206,91 @@ impl Pattern {
         })
     }
 
+    /// How many of the names are the prefix directory: the kept ones, without the last of all unless a directory is
+    /// wanted.
+    fn directory_count(&self, walk: &Walk<'_>) -> usize
+        ensures count {
+            result ≡ directory_count (base_of walk.now.base) (pattern_spec self.now)
+                (components_left walk.now.own) walk.now.stack.names
+        }
+        ensures within { result ≤ length walk.now.stack.names }
+    {
+        let most = if self.signature.contains(MagicSignature::MUST_BE_DIR) {
+            walk.stack.len()
+        } else {
+            walk.stack.len().saturating_sub(1)
+        };
+        walk.kept().min(most)
+    }
+
     /// The pattern with an empty path. It takes no memory.
     fn empty(&self) -> Resolved
-        ensures { resolved_spec (pattern_spec self.now) result ≡ record (pattern_spec self.now) { path = []; prefix_length = 0 } }
+        ensures {
+            resolved_spec (pattern_spec self.now) result
+                ≡ record (pattern_spec self.now) { path = []; prefix_length = 0 }
+        }
     {
         Resolved {
             path: Vec::new(*self.path.allocator()),
             nil: self.nil,
             prefix_length: 0,
+        }
+    }
+}
+
+impl<'p> Base<'p> {
+    /// The names that a path stands on.
+    fn names(self) -> Components<'p>
+        ensures { components_left result ≡ base_names (base_of self.entry) }
+    {
+        match self {
+            Base::Prefix(names) => names,
+            Base::Root | Base::Top => path::components(BStr::new(b"")),
+        }
+    }
+}
+
+impl<'p> Walk<'p> {
+    /// Walks a path's own components from what it stands on, or gives None where they climb out.
+    ///
+    /// # Errors
+    /// Want of memory.
+    fn new(
+        alloc: Global,
+        base: Base<'p>,
+        own: Components<'p>,
+    ) -> Result<Option<Walk<'p>>, AllocError>
+        requires { ups (base_names (base_of base)) ≡ 0 }
+        ensures inside {
+            IfOk result (λ walk. is_some walk
+                ≡ is_inside (base_of base.entry) (components_left own.entry))
+        }
+        ensures parts {
+            IfOk result (λ walk. IfSome walk (λ w. (w.base ≡ base.entry) × (w.own ≡ own.entry)))
+        }
+    {
+        let mut stack = Stack::new(alloc);
+        if !push_components(&mut stack, base.names())? {
+            return Ok(None);
+        }
+        stack.mark();
+        if !push_components(&mut stack, own)? {
+            return Ok(None);
+        }
+        Ok(Some(Walk { base, own, stack }))
+    }
+
+    /// How many of the names are kept for the prefix directory: on a prefix as many as it has names that the path
+    /// never climbs above, on the root all.
+    fn kept(&self) -> usize
+        ensures count {
+            result ≡ kept (base_of self.now.base) (components_left self.now.own) self.now.stack.names
+        }
+        ensures within { result ≤ length self.now.stack.names }
+    {
+        match self.base {
+            Base::Root => self.stack.len(),
+            Base::Prefix(_) | Base::Top => self.stack.least(),
         }
     }
 }
@@ -261,29 +314,9 @@ fn is_up(component: BStr<'_>) -> bool
     component.as_bytes() == b"..".as_slice()
 }
 
-/// Puts the components of a prefix, and then a path's own, on an empty stack, and marks it between them. Answers
-/// whether they don't climb out.
-fn put_both<'p>(
-    stack: &mut Stack<'p>,
-    prefix: Components<'p>,
-    own: Components<'p>,
-) -> Result<bool, AllocError>
-    requires empty { stack.old ≡ record { names = []; least = 0 } }
-    requires names { ups (components_left prefix) ≡ 0 }
-    ensures inside { IfOk result (λ inside. inside ≡ (climb (components_left prefix.entry ++ components_left own.entry) == 0)) }
-    ensures left { IfOk result (λ inside. IsTrue inside → stack.new.names ≡ survivors (components_left prefix.entry ++ components_left own.entry)) }
-    ensures least { IfOk result (λ inside. IsTrue inside → stack.new.least ≡ length (components_left prefix.entry) - climb (components_left own.entry)) }
-{
-    if !put_all(stack, prefix)? {
-        return Ok(false);
-    }
-    stack.mark();
-    put_all(stack, own)
-}
-
 /// Puts components on a stack: a name goes on top, and `..` takes the top off. Answers whether there always was one
 /// to take.
-fn put_all<'p>(stack: &mut Stack<'p>, components: Components<'p>) -> Result<bool, AllocError>
+fn push_components<'p>(stack: &mut Stack<'p>, components: Components<'p>) -> Result<bool, AllocError>
     requires names { ups stack.old.names ≡ 0 }
     requires least { stack.old.least ≤ length stack.old.names }
     ensures inside { IfOk result (λ inside. inside ≡ (climb (stack.old.names ++ components_left components.entry) == 0)) }
@@ -291,7 +324,7 @@ fn put_all<'p>(stack: &mut Stack<'p>, components: Components<'p>) -> Result<bool
     ensures least { IfOk result (λ inside. IsTrue inside → stack.new.least ≡ min stack.old.least (length stack.old.names - climb (components_left components.entry))) }
 {
     for component in components {
-        if !put(stack, component)? {
+        if !push_component(stack, component)? {
             return Ok(false);
         }
     }
@@ -299,7 +332,7 @@ fn put_all<'p>(stack: &mut Stack<'p>, components: Components<'p>) -> Result<bool
 }
 
 /// Puts one component on a stack, and answers whether that could be done.
-fn put<'p>(stack: &mut Stack<'p>, component: BStr<'p>) -> Result<bool, AllocError>
+fn push_component<'p>(stack: &mut Stack<'p>, component: BStr<'p>) -> Result<bool, AllocError>
     ensures { IfOk result (λ inside. (inside ≡ can_put stack.old (bstr_bytes component.entry)) × (stack.new ≡ put_on stack.old (bstr_bytes component.entry))) }
 {
     if is_up(component) {
@@ -433,13 +466,13 @@ mod tests {
                 return Err("normalised".into());
             };
             assert_eq!(rt; error.kind(), kind, "normalize {text}");
-            assert_eq!(rt; told_path(&error), Some(text.as_bytes()), "path of normalize {text}");
+            assert_eq!(rt; told_path(&error), Some(before.path().as_bytes()), "path of normalize {text}");
             assert_eq!(rt; pattern, before, "pattern after normalize {text}");
             let Err(error) = pattern.resolve(prefix, root) else {
                 return Err("resolved".into());
             };
             assert_eq!(rt; error.kind(), kind, "resolve {text}");
-            assert_eq!(rt; told_path(&error), Some(text.as_bytes()), "path of resolve {text}");
+            assert_eq!(rt; told_path(&error), Some(before.path().as_bytes()), "path of resolve {text}");
             assert_eq!(rt; pattern, before, "pattern after resolve {text}");
         }
         Ok(())

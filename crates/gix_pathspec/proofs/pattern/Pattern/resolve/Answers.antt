@@ -9,7 +9,7 @@ pub returns-in_err-resolved-clause-by_heights : goal.returns-in_err-resolved-cla
 returns-in_err-resolved-clause-by_heights c = (climb_by_height, survivors_by_height, kept_is_least_height)
 
 pub returns-clause-idempotent : goal.returns-clause-idempotent
-returns-clause-idempotent c other = normal_form_again (bstr_bytes c.args.prefix) (bstr_bytes c.args.root) other (pattern_spec c.args.self.now) _ c.in_ok-resolved.ensures
+returns-clause-idempotent c = normal_form_again (bstr_bytes c.args.prefix) (bstr_bytes c.args.root) (pattern_spec c.args.self.now) _ c.in_ok-resolved.ensures
 
 pub returns-clause-by_heights : goal.returns-clause-by_heights
 returns-clause-by_heights c = (climb_by_height, survivors_by_height, kept_is_least_height)
