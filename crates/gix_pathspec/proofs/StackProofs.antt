@@ -1,13 +1,14 @@
 -- What stands on a stack and what is still to come lead to the same survivors, step by step.
-use Rattle.std.proofs.Common.{◌≡◌, ℕ, zero, suc, ◌+◌, ◌-◌, ◌≤◌, min, true, false, refl, sym, ◌∙◌, ap, List, [], ◌∷◌, ◌++◌, length, take, arith, ◌==◌, inl, inr, append_assoc, length-append}
-use Rattle.std.proofs.lemmas.Bool.{cases_Bool, eq-eqb, ne_eqb}
+use Rattle.std.proofs.Common.{◌≡◌, ℕ, zero, suc, ◌+◌, ◌-◌, ◌≤◌, ◌<◌, min, Bool, true, false, not, ◌&&◌, cond, refl, sym, ◌∙◌, ap, subst, List, [], ◌∷◌, ◌++◌, length, take, arith, ◌==◌, inl, inr, append_assoc, length-append}
+use Rattle.std.specs.Prelude.{◌↔◌, IsTrue}
+use Rattle.std.proofs.lemmas.Bool.{cases_Bool, both_ways, eq-eqb, ne_eqb}
 use Rattle.std.proofs.lemmas.List.{append-nil, length-take}
 use Rattle.std.proofs.Math.Numerals.{sub-one}
 use Rattle.pathspec_parts.specs.Bytes.{is_empty}
 use Rattle.pathspec_parts.specs.Paths.{is_up}
 use Rattle.pathspec_parts.specs.Stacks.{Stacked}
 use Rattle.gix_pathspec.specs.NormalForm.{ups, climb, survivors}
-use Rattle.gix_pathspec.specs.Resolving.{can_put, put_on}
+use Rattle.gix_pathspec.specs.Resolving.{IsPushed}
 use Rattle.gix_pathspec.proofs.NormalFormProofs.{climb-name, climb-up, climb-nil}
 use Rattle.gix_pathspec.proofs.HeightProofs.{ups-append, no_up-parts}
 
@@ -55,6 +56,18 @@ ups-take : (k : ℕ) (names : List (List ℕ)) → ups names ≡ 0 → ups (take
 ups-take zero names n = refl
 ups-take (suc k) [] n = refl
 ups-take (suc k) (c ∷ cs) n = let q = no_up-parts c cs n in rw q.0 (ups-take k cs q.1)
+
+-- ---- one component
+
+-- `..` can be put on a stack where there is a name to take off
+abbrev can_put : Stacked → List ℕ → Bool
+can_put stack c = not (is_up c && is_empty stack.names)
+
+-- a stack with a name put on it, or taken off by `..`
+abbrev put_on : Stacked → List ℕ → Stacked
+put_on stack c =
+    cond (is_up c) (record { names = without_last stack.names; least = min stack.least (length stack.names - 1) })
+    (record { names = stack.names ++ c ∷ []; least = stack.least })
 
 -- ---- from a stack and components to come to another
 
@@ -105,7 +118,7 @@ module _ (old : Stacked) (cs : List (List ℕ)) (now : Stacked) (c : List ℕ) (
       }
 
   -- the next component can be put
-  pub leads-on : can_put now c ≡ true → LeadsOn old cs (put_on now c) rest
+  leads-on : can_put now c ≡ true → LeadsOn old cs (put_on now c) rest
   leads-on can = elim (cases_Bool (is_up c)) [
     | inl u ↦
         let f : is_empty now.names ≡ false = elim (cases_Bool (is_empty now.names)) [
@@ -117,7 +130,7 @@ module _ (old : Stacked) (cs : List (List ℕ)) (now : Stacked) (c : List ℕ) (
   ]
 
   -- it can't
-  pub leads-out : can_put now c ≡ false → false ≡ (climb (old.names ++ cs) == 0)
+  leads-out : can_put now c ≡ false → false ≡ (climb (old.names ++ cs) == 0)
   leads-out cannot = elim (cases_Bool (is_up c)) [
     | inl u ↦ elim (cases_Bool (is_empty now.names)) [
       | inl e ↦ sym (ne_eqb (climb (old.names ++ cs)) 0 (λ z. let none = from_empty now.names e in let k = sym (ap (λ ns. climb (ns ++ c ∷ rest)) none) ∙ (l.climbs ∙ z) in let higher = climb-up c rest u in omega (arith, k, higher)))
@@ -140,6 +153,75 @@ module _ (old : Stacked) (cs : List (List ℕ)) (now : Stacked) (l : LeadsOn old
 
   pub end-least : now.least ≡ min old.least (length old.names - climb cs)
   end-least = let w = l.within in let e = l.least in let z = climb-nil in omega (arith, w, e, z)
+
+-- ---- what is pushed
+
+-- stacks with equal parts are equal
+stack-same : (a b : Stacked) → a.names ≡ b.names → a.least ≡ b.least → a ≡ b
+stack-same a b n l = ap (λ names. record { names = names; least = a.least }) n ∙ ap (λ least. record { names = b.names; least = least }) l
+
+-- one component that is put on a stack is pushed
+put-pushed : (old : Stacked) (c : List ℕ) → ups old.names ≡ 0 → old.least ≤ length old.names → IsPushed old (c ∷ []) (put_on old c) (can_put old c)
+put-pushed old c n w =
+    let start = leads-itself old (c ∷ []) n w in
+    elim (cases_Bool (can_put old c)) [
+    | inl can ↦
+        let next = leads-on old (c ∷ []) old c [] start can in
+        record {
+          inside = can ∙ end-inside old (c ∷ []) (put_on old c) next;
+          left = λ t. end-left old (c ∷ []) (put_on old c) next;
+          least = λ t. end-least old (c ∷ []) (put_on old c) next;
+        }
+    | inr cannot ↦ record {
+        inside = cannot ∙ leads-out old (c ∷ []) old c [] start cannot;
+        left = λ t. absurd (both_ways (can_put old c) cannot t);
+        least = λ t. absurd (both_ways (can_put old c) cannot t);
+      }
+  ]
+
+-- and what one component is pushed on is that stack
+pushed-is : (old new : Stacked) (c : List ℕ) (inside : Bool) → ups old.names ≡ 0 → old.least ≤ length old.names → IsPushed old (c ∷ []) new inside → (inside ≡ can_put old c) × (inside ≡ true → new ≡ put_on old c)
+pushed-is old new c inside n w p =
+    let q = put-pushed old c n w in
+    let same = p.inside ∙ sym q.inside in
+    (same, λ t. let can = sym same ∙ t in stack-same new (put_on old c) (p.left t ∙ sym (q.left can)) (p.least t ∙ sym (q.least can)))
+
+module _ (old : Stacked) (cs : List (List ℕ)) (now : Stacked) (c : List ℕ) (rest : List (List ℕ)) (l : LeadsOn old cs now (c ∷ rest)) (next : Stacked) (inside : Bool) (p : IsPushed now (c ∷ []) next inside) where
+  -- the next component stays inside
+  pub pushed-on : inside ≡ true → LeadsOn old cs next rest
+  pushed-on t = let q = pushed-is now next c inside l.names l.within p in subst (λ stack. LeadsOn old cs stack rest) (sym (q.1 t)) (leads-on old cs now c rest l (sym q.0 ∙ t))
+
+  -- it climbs out
+  pub pushed-out : inside ≡ false → false ≡ (climb (old.names ++ cs) == 0)
+  pushed-out f = let q = pushed-is now next c inside l.names l.within p in leads-out old cs now c rest l (sym q.0 ∙ f)
+
+module _ (old new : Stacked) (c : List ℕ) (n : ups old.names ≡ 0) (w : old.least ≤ length old.names) where
+  as_put : (inside : Bool) → inside ≡ can_put old c → new ≡ put_on old c → IsPushed old (c ∷ []) new inside
+  as_put inside i e = subst (λ b. IsPushed old (c ∷ []) new b) (sym i) (subst (λ stack. IsPushed old (c ∷ []) stack (can_put old c)) (sym e) (put-pushed old c n w))
+
+  -- a name goes on top
+  pub push-pushed : is_up c ≡ false → new ≡ record { names = old.names ++ c ∷ []; least = old.least } → IsPushed old (c ∷ []) new true
+  push-pushed u e = as_put true (rw u refl) (e ∙ (rw u refl))
+
+  popped-can : (popped : Bool) → is_up c ≡ true → (popped ≡ true) ↔ (0 < length old.names) → popped ≡ can_put old c
+  popped-can popped u p = elim (cases_Bool (is_empty old.names)) [
+    | inl e ↦ elim (cases_Bool popped) [
+      | inl t ↦ let some = p.0 t in let none = empty-length old.names e in absurd (omega (arith, some, none))
+      | inr f ↦ rw (u, e) f
+    ]
+    | inr f ↦ let some = last-length old.names f in rw (u, f) (p.1 (omega (arith, some)))
+  ]
+    where
+      empty-length : (xs : List (List ℕ)) → is_empty xs ≡ true → length xs ≡ 0
+      empty-length [] h = refl
+      empty-length (x ∷ xs) h = cc
+
+  -- `..` takes the top off
+  pub pop-pushed : (popped : Bool) → is_up c ≡ true → (popped ≡ true) ↔ (0 < length old.names) → new.names ≡ without_last old.names → new.least ≡ min old.least (length new.names) → IsPushed old (c ∷ []) new popped
+  pop-pushed popped u p names least =
+      let size = ap length names ∙ length-take (length old.names - 1) old.names in
+      let lower : new.least ≡ min old.least (length old.names - 1) = omega (arith, least, size) in
+      as_put popped (popped-can popped u p) (stack-same new (record { names = without_last old.names; least = min old.least (length old.names - 1) }) names lower ∙ (rw u refl))
 
 -- ---- a prefix on an empty stack
 

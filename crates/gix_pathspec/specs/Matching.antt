@@ -1,4 +1,4 @@
--- What a spec means for a path (gitglossary, "pathspec"). Paths here are not empty, and a path is a directory or a file.
+-- Whether a spec matches a path (gitglossary, "pathspec"). Paths here are not empty, and a path is a directory or a file.
 use Rattle.std.specs.Prelude.{ℕ, Bool, true, false, not, ◌&&◌, ◌||◌, ◌⊎◌, List, [], ◌∷◌, take, map, bytes_eq, if◌then◌else◌, Option, Some, None, is_some, IsTrue, IsFalse, Contains}
 use Rattle.std.specs.List.{list_any}
 use Rattle.gix_pathspec.specs.declared.SearchMode.{SearchMode}
@@ -95,13 +95,13 @@ unfoldable pub has_attributes : Table → Spec → List ℕ → Bool → Bool
 has_attributes table s path is_dir =
     let reply = table (question s path is_dir) in is_empty s.attributes || reply.found && are_left reply.states s.attributes
 
--- A spec means a path where it fits and the look-up says what it lists.
+-- A spec matches a path where it fits and the look-up says what it lists.
 unfoldable pub means : Table → Spec → List ℕ → Bool → Bool
 means table s path is_dir = fits s path is_dir && has_attributes table s path is_dir
 
 -- ---- chosen
 
--- A path is chosen where no exclude means it, and some include means it or there is no include.
+-- A path is chosen where no exclude matches it, and some include matches it or there is no include.
 pub record IsChosen (table : Table) (specs : List Spec) (path : List ℕ) (is_dir : Bool) : Type 0 where
   pub not_excluded : (s : Spec) → Contains specs s → IsTrue (is_exclude s) → IsFalse (means table s path is_dir)
   pub included : ((s : Spec) × Contains specs s × IsTrue (is_include s) × IsTrue (means table s path is_dir)) ⊎ ((s : Spec) → Contains specs s → IsTrue (is_exclude s))

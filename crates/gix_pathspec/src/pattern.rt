@@ -126,8 +126,9 @@ impl Pattern {
         BStr::new(self.path.as_slice())
     }
 
-    /// The part of the path that came from the prefix under which it was normalised, without a last slash: a spec
-    /// without case compares it with case. It is empty before [`Pattern::normalize`].
+    /// The front of the path that [`Pattern::normalize`] took from the prefix, without a last slash: a spec without
+    /// case compares it with case. Of an absolute path it is all but the last component, and all of it where a
+    /// directory is wanted. It is empty before the path is normalised.
     pub fn prefix_directory(&self) -> BStr<'_>
         ensures { bstr_bytes result ≡ prefix_directory (pattern_spec self.now) }
     {

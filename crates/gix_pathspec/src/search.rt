@@ -1,4 +1,4 @@
-//! Asking specs about paths.
+//! Whether specs match paths.
 pub mod matching;
 
 /// How a spec came to match a path. The order is that of the variants.

@@ -107,7 +107,7 @@ fn write_mode(text: &mut Vec<u8>, mode: SearchMode) -> Result<(), AllocError>
     }
 }
 
-/// Writes a keyword behind those before it.
+/// Writes a keyword after those before it.
 fn write_word(text: &mut Vec<u8>, word: &[u8]) -> Result<(), AllocError>
     requires { IsFalse (is_empty word.now) }
     ensures { AddsWords text.old.items text.new.items (word.now ∷ []) result }
@@ -117,7 +117,7 @@ fn write_word(text: &mut Vec<u8>, word: &[u8]) -> Result<(), AllocError>
     Ok(())
 }
 
-/// Writes a comma, unless nothing stands behind `:(` yet.
+/// Writes a comma, unless nothing stands after `:(` yet.
 fn write_comma(text: &mut Vec<u8>) -> Result<(), AllocError>
     ensures {
         AddsBytes text.old.items text.new.items

@@ -6,9 +6,10 @@ ghost use Rattle.pathspec_parts.specs.Bytes.{slash};
 ghost use Rattle.pathspec_parts.specs.Paths.{joined, is_up, is_clean_prefix};
 ghost use Rattle.pathspec_parts.specs.Components.{components_left};
 ghost use Rattle.gix_pathspec.specs.Errors.{IsMemory, Computes};
-ghost use Rattle.gix_pathspec.specs.NormalForm.{IsNormal, base, base_names, own_components, is_inside, climb, survivors, ups, kept, directory_count, stays_empty, resolved};
+ghost use Rattle.gix_pathspec.specs.NormalForm.{IsNormal, base, base_names, own_components, is_inside, ups, kept, directory_count, stays_empty, resolved};
 ghost use Rattle.gix_pathspec.specs.Heights.{ClimbByHeight, SurvivorsByHeight, KeptIsLeastHeight};
-ghost use Rattle.gix_pathspec.specs.Resolving.{base_of, IsLeft, can_put, put_on};
+ghost use Rattle.gix_pathspec.specs.Resolving.{base_of, IsLeft, IsPushed};
+ghost use Rattle.gix_pathspec.specs.LongText.{AddsBytes};
 
 use crate::{Error, MagicSignature, Pattern, error};
 use bitflags::Flags;
@@ -53,11 +54,12 @@ impl Pattern {
     ///
     /// An absolute path loses the root's components. A relative one gets the prefix in front, unless the pattern has
     /// [`MagicSignature::TOP`]. Then each `..` takes off the component before it, and what is left is joined by
-    /// slashes. Where nothing is left, an empty path stays empty, as long as no prefix was joined, and so does the root
-    /// itself; any other becomes the path `.` of a pattern that is nil.
+    /// slashes. Where nothing is left, the root itself becomes an empty path, and an empty path stays empty if no prefix
+    /// stands in front of it; any other becomes the path `.` of a pattern that is nil.
     ///
-    /// The part of the prefix that the path never left is the new [`Pattern::prefix_directory`], and of an absolute
-    /// path all; its last component is no part of that, unless the pattern has [`MagicSignature::MUST_BE_DIR`].
+    /// The new [`Pattern::prefix_directory`] has the names of the prefix that the path never climbs above, and of an
+    /// absolute path all its names. The last name of the new path is no part of it, unless the pattern has
+    /// [`MagicSignature::MUST_BE_DIR`]: of `/r/a/b` in the root `/r` it is `a`. A nil pattern has none.
     ///
     /// It looks at each byte of the path, of the prefix and of the root a fixed number of times, and takes as much
     /// memory as they are long, and some for each component.
@@ -314,14 +316,11 @@ fn is_up(component: BStr<'_>) -> bool
     component.as_bytes() == b"..".as_slice()
 }
 
-/// Puts components on a stack: a name goes on top, and `..` takes the top off. Answers whether there always was one
-/// to take.
+/// Pushes components on a stack, where `..` pops a name. Answers whether there always was one to pop.
 fn push_components<'p>(stack: &mut Stack<'p>, components: Components<'p>) -> Result<bool, AllocError>
     requires names { ups stack.old.names ≡ 0 }
     requires least { stack.old.least ≤ length stack.old.names }
-    ensures inside { IfOk result (λ inside. inside ≡ (climb (stack.old.names ++ components_left components.entry) == 0)) }
-    ensures left { IfOk result (λ inside. IsTrue inside → stack.new.names ≡ survivors (stack.old.names ++ components_left components.entry)) }
-    ensures least { IfOk result (λ inside. IsTrue inside → stack.new.least ≡ min stack.old.least (length stack.old.names - climb (components_left components.entry))) }
+    ensures { IfOk result (IsPushed stack.old (components_left components.entry) stack.new) }
 {
     for component in components {
         if !push_component(stack, component)? {
@@ -331,9 +330,11 @@ fn push_components<'p>(stack: &mut Stack<'p>, components: Components<'p>) -> Res
     Ok(true)
 }
 
-/// Puts one component on a stack, and answers whether that could be done.
+/// Pushes a component on a stack, or pops a name for `..`. Answers whether there was one to pop.
 fn push_component<'p>(stack: &mut Stack<'p>, component: BStr<'p>) -> Result<bool, AllocError>
-    ensures { IfOk result (λ inside. (inside ≡ can_put stack.old (bstr_bytes component.entry)) × (stack.new ≡ put_on stack.old (bstr_bytes component.entry))) }
+    requires names { ups stack.old.names ≡ 0 }
+    requires least { stack.old.least ≤ length stack.old.names }
+    ensures { IfOk result (IsPushed stack.old (bstr_bytes component.entry ∷ []) stack.new) }
 {
     if is_up(component) {
         return Ok(stack.pop());
@@ -342,7 +343,7 @@ fn push_component<'p>(stack: &mut Stack<'p>, component: BStr<'p>) -> Result<bool
     Ok(true)
 }
 
-/// Writes the names on a stack from one place to another behind those before them, with a slash between each two.
+/// Writes the names on a stack from one place to another after those before them, with a slash between each two.
 fn write_names(
     path: &mut Vec<u8>,
     stack: &Stack<'_>,
@@ -364,7 +365,10 @@ fn write_names(
 
 /// Writes the name that has this place, with a slash in front where it isn't the first.
 fn write_name(path: &mut Vec<u8>, place: usize, name: BStr<'_>) -> Result<(), AllocError>
-    ensures { OnOk result (path.new.items ≡ path.old.items ++ (if place == 0 then bstr_bytes name.entry else slash ∷ bstr_bytes name.entry)) }
+    ensures {
+        AddsBytes path.old.items path.new.items
+            (if place == 0 then bstr_bytes name.entry else slash ∷ bstr_bytes name.entry) result
+    }
 {
     if place > 0 {
         path.push(b'/')?;

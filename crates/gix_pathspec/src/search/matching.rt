@@ -1,4 +1,4 @@
-//! Whether a spec means a path, and how (gitglossary, "pathspec").
+//! Whether a spec matches a path, and how (gitglossary, "pathspec").
 ghost use Rattle.std.specs.Prelude.{◌≡◌, IsTrue, IsFalse, is_some, bytes_eq};
 ghost use Rattle.bstr.specs.BStr.{bstr_bytes};
 ghost use Rattle.pathspec_parts.specs.Bytes.{folded, is_empty};
@@ -13,10 +13,10 @@ use crate::{MagicSignature, Pattern};
 use bitflags::Flags;
 use bstr::BStr;
 
-/// How a pattern that isn't a glob means a path that isn't empty and is a directory or a file, if it does:
+/// How a pattern that isn't a glob matches a path that isn't empty and is a directory or a file, if it does:
 /// always, or since the path is the pattern's or lies below it.
 ///
-/// A pattern without case that has a prefix directory means only what lies below that directory, and the directory
+/// A pattern without case that has a prefix directory matches only what lies below that directory, and the directory
 /// itself, both compared with case.
 ///
 /// It looks at each byte of the pattern's path a fixed number of times, and takes no memory.
@@ -116,7 +116,7 @@ mod tests {
     use std::test::Fail;
 
     #[test]
-    fn specs_mean_paths_in_three_ways(rt: HostRuntime) -> Result<(), Fail> {
+    fn specs_match_paths_in_three_ways(rt: HostRuntime) -> Result<(), Fail> {
         let rows = [
             ("dir", "dirt", false, None),
             ("dir", "dir/a", false, Some(MatchKind::Prefix)),

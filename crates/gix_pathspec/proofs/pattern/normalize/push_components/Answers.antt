@@ -1,26 +1,29 @@
--- Each component leads on; where one can't be put, they climb out.
+-- Each component leads on; where one climbs out, they all do.
 use Rattle.std.proofs.Common.{sym, ◌∙◌, subst}
 use Rattle.bstr.specs.BStr.{bstr_bytes}
 use Rattle.pathspec_parts.specs.Components.{components_left}
-use Rattle.gix_pathspec.proofs.StackProofs.{LeadsOn, leads-on, leads-out, end-inside, end-left, end-least}
+use Rattle.gix_pathspec.proofs.StackProofs.{LeadsOn, pushed-on, pushed-out, end-inside, end-left, end-least}
 use Rattle.gix_pathspec.proofs.pattern.normalize.push_components.Goals as goal
 
-pub returns-then-not-branch-clause-inside : goal.returns-then-not-branch-clause-inside
-returns-then-not-branch-clause-inside c =
+pub push_component-requires : goal.push_component-requires
+push_component-requires c = record { names = c.loop-component.invariant.names; least = c.loop-component.invariant.within }
+
+pub returns-then-not-branch : goal.returns-then-not-branch
+returns-then-not-branch c =
     let here = subst (LeadsOn c.args.stack.now (components_left c.args.components) c.loop-component.stack) c.in-Some.ensures.steps c.loop-component.invariant in
-    leads-out c.args.stack.now (components_left c.args.components) c.loop-component.stack (bstr_bytes c.in-Some.component) _ here (sym c.in_ok-push_component.ensures.0 ∙ c.if-not-branch.true)
+    let out = pushed-out c.args.stack.now (components_left c.args.components) c.loop-component.stack (bstr_bytes c.in-Some.component) _ here _ _ c.in_ok-push_component.ensures c.if-not-branch.true in
+    record { inside = out; left = λ t. cc; least = λ t. cc }
 
 pub loop-component-preserved : goal.loop-component-preserved
 loop-component-preserved c =
     let here = subst (LeadsOn c.args.stack.now (components_left c.args.components) c.loop-component.stack) c.in-Some.ensures.steps c.loop-component.invariant in
-    let next = leads-on c.args.stack.now (components_left c.args.components) c.loop-component.stack (bstr_bytes c.in-Some.component) _ here (sym c.in_ok-push_component.ensures.0 ∙ c.if-not-branch.false) in
-    subst (λ stack. LeadsOn c.args.stack.now (components_left c.args.components) stack (components_left c.next.new.self)) (sym c.in_ok-push_component.ensures.1) next
+    pushed-on c.args.stack.now (components_left c.args.components) c.loop-component.stack (bstr_bytes c.in-Some.component) _ here _ _ c.in_ok-push_component.ensures c.if-not-branch.false
 
-pub returns-clause-inside : goal.returns-clause-inside
-returns-clause-inside c = end-inside c.args.stack.now (components_left c.args.components) c.loop-component.stack (subst (LeadsOn c.args.stack.now (components_left c.args.components) c.loop-component.stack) c.in-None.ensures.steps.0 c.loop-component.invariant)
-
-pub returns-clause-left : goal.returns-clause-left
-returns-clause-left c t = end-left c.args.stack.now (components_left c.args.components) c.loop-component.stack (subst (LeadsOn c.args.stack.now (components_left c.args.components) c.loop-component.stack) c.in-None.ensures.steps.0 c.loop-component.invariant)
-
-pub returns-clause-least : goal.returns-clause-least
-returns-clause-least c t = end-least c.args.stack.now (components_left c.args.components) c.loop-component.stack (subst (LeadsOn c.args.stack.now (components_left c.args.components) c.loop-component.stack) c.in-None.ensures.steps.0 c.loop-component.invariant)
+pub returns : goal.returns
+returns c =
+    let end = subst (LeadsOn c.args.stack.now (components_left c.args.components) c.loop-component.stack) c.in-None.ensures.steps.0 c.loop-component.invariant in
+    record {
+      inside = end-inside c.args.stack.now (components_left c.args.components) c.loop-component.stack end;
+      left = λ t. end-left c.args.stack.now (components_left c.args.components) c.loop-component.stack end;
+      least = λ t. end-least c.args.stack.now (components_left c.args.components) c.loop-component.stack end;
+    }
