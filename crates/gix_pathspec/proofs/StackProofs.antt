@@ -1,6 +1,6 @@
 -- What stands on a stack and what is still to come lead to the same survivors, step by step.
 use Rattle.std.proofs.Common.{◌≡◌, ℕ, zero, suc, ◌+◌, ◌-◌, ◌≤◌, ◌<◌, min, Bool, true, false, not, ◌&&◌, cond, refl, sym, ◌∙◌, ap, subst, List, [], ◌∷◌, ◌++◌, length, take, arith, ◌==◌, inl, inr, append_assoc, length-append}
-use Rattle.std.specs.Prelude.{◌↔◌, IsTrue}
+use Rattle.std.specs.Prelude.{◌↔◌}
 use Rattle.std.proofs.lemmas.Bool.{cases_Bool, both_ways, eq-eqb, ne_eqb}
 use Rattle.std.proofs.lemmas.List.{append-nil, length-take}
 use Rattle.std.proofs.Math.Numerals.{sub-one}
@@ -165,19 +165,19 @@ put-pushed : (old : Stacked) (c : List ℕ) → ups old.names ≡ 0 → old.leas
 put-pushed old c n w =
     let start = leads-itself old (c ∷ []) n w in
     elim (cases_Bool (can_put old c)) [
-    | inl can ↦
-        let next = leads-on old (c ∷ []) old c [] start can in
-        record {
-          inside = can ∙ end-inside old (c ∷ []) (put_on old c) next;
-          left = λ t. end-left old (c ∷ []) (put_on old c) next;
-          least = λ t. end-least old (c ∷ []) (put_on old c) next;
-        }
-    | inr cannot ↦ record {
+      | inl can ↦
+          let next = leads-on old (c ∷ []) old c [] start can in
+          record {
+            inside = can ∙ end-inside old (c ∷ []) (put_on old c) next;
+            left = λ t. end-left old (c ∷ []) (put_on old c) next;
+            least = λ t. end-least old (c ∷ []) (put_on old c) next;
+          }
+      | inr cannot ↦ record {
         inside = cannot ∙ leads-out old (c ∷ []) old c [] start cannot;
         left = λ t. absurd (both_ways (can_put old c) cannot t);
         least = λ t. absurd (both_ways (can_put old c) cannot t);
       }
-  ]
+    ]
 
 -- and what one component is pushed on is that stack
 pushed-is : (old new : Stacked) (c : List ℕ) (inside : Bool) → ups old.names ≡ 0 → old.least ≤ length old.names → IsPushed old (c ∷ []) new inside → (inside ≡ can_put old c) × (inside ≡ true → new ≡ put_on old c)

@@ -74,9 +74,8 @@ impl Pattern {
         path: &[u8],
         signature: MagicSignature,
     ) -> Result<Pattern, Error>
-        ensures ok {
-            IfOk result (λ p. pattern_spec p ≡ literal_spec (signature_bits signature) path.now)
-        }
+        ensures ok { IfOk result (λ p. pattern_spec p
+            ≡ literal_spec (signature_bits signature) path.now) }
         ensures err { IfErr result IsMemory }
     {
         Ok(Pattern {

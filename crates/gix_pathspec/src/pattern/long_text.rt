@@ -29,17 +29,14 @@ impl Pattern {
     /// # Errors
     /// [`Error::Memory`] alone.
     pub fn to_bstring(&self) -> Result<BString, Error>
-        ensures text { IfOk result (λ text. bstring_bytes text ≡ long_text (pattern_spec self.now)) }
+        ensures text { IfOk result (λ text.
+            bstring_bytes text ≡ long_text (pattern_spec self.now)) }
         ensures err { IfErr result IsMemory }
-        ensures comes_back {
-            IsSayablePattern (pattern_spec self.now)
-                → IfOk result (λ text. Reads no_defaults (bstring_bytes text) (pattern_spec self.now))
-        }
+        ensures comes_back { IsSayablePattern (pattern_spec self.now)
+            → IfOk result (λ text. Reads no_defaults (bstring_bytes text) (pattern_spec self.now)) }
         // Text that is UTF-8 is printed as it is.
-        ensures printed {
-            IfOk result (λ text. IsUtf8 (bstring_bytes text)
-                → printed_text (pattern_spec self.now) ≡ bstring_bytes text)
-        }
+        ensures printed { IfOk result (λ text. IsUtf8 (bstring_bytes text)
+            → printed_text (pattern_spec self.now) ≡ bstring_bytes text) }
         // Only sayable specs come back, and their texts tell them apart; what a text says is sayable.
         ensures laws { RoundTripIsExact × LongTextsTell × SaidIsSayable × SaidComesBack }
     {
@@ -84,10 +81,8 @@ impl Pattern {
         word: &[u8],
     ) -> Result<(), AllocError>
         requires { IsFalse (is_empty word.now) }
-        ensures {
-            AddsWords text.old.items text.new.items
-                (bit_text (signature_bits flag) (pattern_spec self.now).signature word.now) result
-        }
+        ensures { AddsWords text.old.items text.new.items
+            (bit_text (signature_bits flag) (pattern_spec self.now).signature word.now) result }
     {
         if !self.signature.contains(flag) {
             return Ok(());
@@ -119,10 +114,8 @@ fn write_word(text: &mut Vec<u8>, word: &[u8]) -> Result<(), AllocError>
 
 /// Writes a comma, unless nothing stands after `:(` yet.
 fn write_comma(text: &mut Vec<u8>) -> Result<(), AllocError>
-    ensures {
-        AddsBytes text.old.items text.new.items
-            (if nat_lt 2 (length text.old.items) then comma ∷ [] else []) result
-    }
+    ensures { AddsBytes text.old.items text.new.items
+        (if nat_lt 2 (length text.old.items) then comma ∷ [] else []) result }
 {
     if text.len() > 2 {
         text.push(b',')?;
@@ -132,10 +125,8 @@ fn write_comma(text: &mut Vec<u8>) -> Result<(), AllocError>
 
 /// Writes `attr:` and the assignments, with a space between each two, if there are any.
 fn write_attributes(text: &mut Vec<u8>, assignments: &[Assignment]) -> Result<(), AllocError>
-    ensures {
-        AddsWords text.old.items text.new.items
-            (attributes_text (map attribute_of assignments.now)) result
-    }
+    ensures { AddsWords text.old.items text.new.items
+        (attributes_text (map attribute_of assignments.now)) result }
 {
     if assignments.is_empty() {
         return Ok(());
@@ -147,10 +138,8 @@ fn write_attributes(text: &mut Vec<u8>, assignments: &[Assignment]) -> Result<()
 
 /// Writes assignments, with a space between each two.
 fn write_assignments(text: &mut Vec<u8>, assignments: &[Assignment]) -> Result<(), AllocError>
-    ensures {
-        AddsBytes text.old.items text.new.items
-            (list_text (map attribute_of assignments.now)) result
-    }
+    ensures { AddsBytes text.old.items text.new.items
+        (list_text (map attribute_of assignments.now)) result }
 {
     for (place, assignment) in assignments.iter().enumerate() {
         write_space(text, place)?;
@@ -161,9 +150,8 @@ fn write_assignments(text: &mut Vec<u8>, assignments: &[Assignment]) -> Result<(
 
 /// Writes a space, unless it would stand in front of the first.
 fn write_space(text: &mut Vec<u8>, place: usize) -> Result<(), AllocError>
-    ensures {
-        AddsBytes text.old.items text.new.items (if place == 0 then [] else space ∷ []) result
-    }
+    ensures { AddsBytes text.old.items text.new.items
+        (if place == 0 then [] else space ∷ []) result }
 {
     if place > 0 {
         text.push(b' ')?;
@@ -173,9 +161,8 @@ fn write_space(text: &mut Vec<u8>, place: usize) -> Result<(), AllocError>
 
 /// Writes `a`, `-a`, `!a` or `a=v`, with a backslash in front of each comma.
 fn write_assignment(text: &mut Vec<u8>, assignment: &Assignment) -> Result<(), AllocError>
-    ensures {
-        AddsBytes text.old.items text.new.items (assignment_text (attribute_of assignment.now)) result
-    }
+    ensures { AddsBytes text.old.items text.new.items
+        (assignment_text (attribute_of assignment.now)) result }
 {
     match &assignment.state {
         State::Set => write_escaped(text, assignment.name.as_bytes().as_bytes()),

@@ -71,10 +71,8 @@ impl Pattern {
     pub fn normalize(&mut self, prefix: BStr<'_>, root: BStr<'_>) -> Result<&mut Pattern, Error>
         requires { IsTrue (is_clean_prefix (bstr_bytes prefix)) }
         ensures same { IfOk result (λ p. p.ghost_name ≡ self.entry.ghost_name) }
-        ensures form {
-            Computes (λ p. pattern_spec p.now)
-                (pattern_normal_form prefix.entry root.entry self.entry.now) result
-        }
+        ensures form { Computes (λ p. pattern_spec p.now)
+            (pattern_normal_form prefix.entry root.entry self.entry.now) result }
         ensures idempotent { IfOk result (λ p. IsNormal (pattern_spec p.now)) }
     {
         self.resolve(prefix, root)?;
@@ -87,10 +85,8 @@ impl Pattern {
     /// Those of [`Pattern::normalize`]; the pattern is then as it was.
     pub fn resolve(&mut self, prefix: BStr<'_>, root: BStr<'_>) -> Result<(), Error>
         requires { IsTrue (is_clean_prefix (bstr_bytes prefix)) }
-        ensures form {
-            Computes (λ _. pattern_spec self.new)
-                (pattern_normal_form prefix.entry root.entry self.old) result
-        }
+        ensures form { Computes (λ _. pattern_spec self.new)
+            (pattern_normal_form prefix.entry root.entry self.old) result }
         ensures unchanged { OnErr result (pattern_spec self.new ≡ pattern_spec self.old) }
         ensures idempotent { OnOk result (IsNormal (pattern_spec self.new)) }
         // In the words of heights: when a path leaves, which names survive, and how many are kept.
@@ -106,10 +102,8 @@ impl Pattern {
     /// What normalising changes.
     fn resolved(&self, prefix: BStr<'_>, root: BStr<'_>) -> Result<Resolved, Error>
         requires { IsTrue (is_clean_prefix (bstr_bytes prefix)) }
-        ensures {
-            Computes (resolved_spec (pattern_spec self.now))
-                (pattern_normal_form prefix.entry root.entry self.now) result
-        }
+        ensures { Computes (resolved_spec (pattern_spec self.now))
+            (pattern_normal_form prefix.entry root.entry self.now) result }
     {
         let alloc = *self.path.allocator();
         let base = self.base(prefix);
@@ -137,10 +131,9 @@ impl Pattern {
 
     /// The path's own components: on the root those after the root's, or None if it doesn't lie there.
     fn own_components(&self, base: Base<'_>, root: BStr<'_>) -> Option<Components<'_>>
-        ensures {
-            option_map components_left result
-                ≡ own_components (base_of base.entry) (bstr_bytes root.entry) (pattern_spec self.now).path
-        }
+        ensures { option_map components_left result
+            ≡ own_components (base_of base.entry) (bstr_bytes root.entry)
+            (pattern_spec self.now).path }
     {
         match base {
             Base::Root => path::strip_root(self.path(), root),
@@ -150,11 +143,9 @@ impl Pattern {
 
     /// What a walk makes of the pattern.
     fn resolved_along(&self, walk: &Walk<'_>) -> Result<Resolved, Error>
-        ensures ok {
-            IfOk result (λ r. resolved_spec (pattern_spec self.now) r
-                ≡ resolved (base_of walk.now.base) (pattern_spec self.now)
-                    (components_left walk.now.own) walk.now.stack.names)
-        }
+        ensures ok { IfOk result (λ r. resolved_spec (pattern_spec self.now) r
+            ≡ resolved (base_of walk.now.base) (pattern_spec self.now)
+            (components_left walk.now.own) walk.now.stack.names) }
         ensures err { IfErr result IsMemory }
     {
         if !walk.stack.is_empty() {
@@ -174,10 +165,8 @@ impl Pattern {
     /// Whether a path of which nothing is left stays an empty path: it is the root itself, without `..`, or it was
     /// empty and stands on the top.
     fn stays_empty(&self, walk: &Walk<'_>) -> bool
-        ensures {
-            result ≡ stays_empty (base_of walk.now.base) (pattern_spec self.now)
-                (components_left walk.now.own)
-        }
+        ensures { result ≡ stays_empty (base_of walk.now.base) (pattern_spec self.now)
+            (components_left walk.now.own) }
     {
         match walk.base {
             Base::Root => !climbs(walk.own),
@@ -189,11 +178,9 @@ impl Pattern {
     /// What at least one name makes of the pattern.
     fn with_names(&self, walk: &Walk<'_>) -> Result<Resolved, Error>
         requires { walk.now.stack.names ≢ [] }
-        ensures ok {
-            IfOk result (λ r. resolved_spec (pattern_spec self.now) r
-                ≡ resolved (base_of walk.now.base) (pattern_spec self.now)
-                    (components_left walk.now.own) walk.now.stack.names)
-        }
+        ensures ok { IfOk result (λ r. resolved_spec (pattern_spec self.now) r
+            ≡ resolved (base_of walk.now.base) (pattern_spec self.now)
+            (components_left walk.now.own) walk.now.stack.names) }
         ensures err { IfErr result IsMemory }
     {
         let mut path = Vec::new(*self.path.allocator());
@@ -211,10 +198,8 @@ impl Pattern {
     /// How many of the names are the prefix directory: the kept ones, without the last of all unless a directory is
     /// wanted.
     fn directory_count(&self, walk: &Walk<'_>) -> usize
-        ensures count {
-            result ≡ directory_count (base_of walk.now.base) (pattern_spec self.now)
-                (components_left walk.now.own) walk.now.stack.names
-        }
+        ensures count { result ≡ directory_count (base_of walk.now.base) (pattern_spec self.now)
+            (components_left walk.now.own) walk.now.stack.names }
         ensures within { result ≤ length walk.now.stack.names }
     {
         let most = if self.signature.contains(MagicSignature::MUST_BE_DIR) {
@@ -227,10 +212,8 @@ impl Pattern {
 
     /// The pattern with an empty path. It takes no memory.
     fn empty(&self) -> Resolved
-        ensures {
-            resolved_spec (pattern_spec self.now) result
-                ≡ record (pattern_spec self.now) { path = []; prefix_length = 0 }
-        }
+        ensures { resolved_spec (pattern_spec self.now) result
+            ≡ record (pattern_spec self.now) { path = []; prefix_length = 0 } }
     {
         Resolved {
             path: Vec::new(*self.path.allocator()),
@@ -263,13 +246,10 @@ impl<'p> Walk<'p> {
         own: Components<'p>,
     ) -> Result<Option<Walk<'p>>, AllocError>
         requires { ups (base_names (base_of base)) ≡ 0 }
-        ensures inside {
-            IfOk result (λ walk. is_some walk
-                ≡ is_inside (base_of base.entry) (components_left own.entry))
-        }
-        ensures parts {
-            IfOk result (λ walk. IfSome walk (λ w. (w.base ≡ base.entry) × (w.own ≡ own.entry)))
-        }
+        ensures inside { IfOk result (λ walk. is_some walk
+            ≡ is_inside (base_of base.entry) (components_left own.entry)) }
+        ensures parts { IfOk result (λ walk. IfSome walk (λ w.
+            (w.base ≡ base.entry) × (w.own ≡ own.entry))) }
     {
         let mut stack = Stack::new(alloc);
         if !push_components(&mut stack, base.names())? {
@@ -285,9 +265,8 @@ impl<'p> Walk<'p> {
     /// How many of the names are kept for the prefix directory: on a prefix as many as it has names that the path
     /// never climbs above, on the root all.
     fn kept(&self) -> usize
-        ensures count {
-            result ≡ kept (base_of self.now.base) (components_left self.now.own) self.now.stack.names
-        }
+        ensures count { result
+            ≡ kept (base_of self.now.base) (components_left self.now.own) self.now.stack.names }
         ensures within { result ≤ length self.now.stack.names }
     {
         match self.base {
@@ -317,7 +296,10 @@ fn is_up(component: BStr<'_>) -> bool
 }
 
 /// Pushes components on a stack, where `..` pops a name. Answers whether there always was one to pop.
-fn push_components<'p>(stack: &mut Stack<'p>, components: Components<'p>) -> Result<bool, AllocError>
+fn push_components<'p>(
+    stack: &mut Stack<'p>,
+    components: Components<'p>,
+) -> Result<bool, AllocError>
     requires names { ups stack.old.names ≡ 0 }
     requires least { stack.old.least ≤ length stack.old.names }
     ensures { IfOk result (IsPushed stack.old (components_left components.entry) stack.new) }
@@ -365,10 +347,8 @@ fn write_names(
 
 /// Writes the name that has this place, with a slash in front where it isn't the first.
 fn write_name(path: &mut Vec<u8>, place: usize, name: BStr<'_>) -> Result<(), AllocError>
-    ensures {
-        AddsBytes path.old.items path.new.items
-            (if place == 0 then bstr_bytes name.entry else slash ∷ bstr_bytes name.entry) result
-    }
+    ensures { AddsBytes path.old.items path.new.items
+        (if place == 0 then bstr_bytes name.entry else slash ∷ bstr_bytes name.entry) result }
 {
     if place > 0 {
         path.push(b'/')?;

@@ -23,10 +23,8 @@ use bstr::BStr;
 pub fn match_kind(pattern: &Pattern, path: BStr<'_>, is_dir: bool) -> Option<MatchKind>
     requires { IsFalse (is_glob (pattern_spec pattern.now)) }
     ensures kind { result ≡ fit (pattern_spec pattern.now) (bstr_bytes path.entry) is_dir }
-    ensures means {
-        IsTrue (is_empty (pattern_spec pattern.now).attributes) → (table : Table)
-            → is_some result ≡ means table (pattern_spec pattern.now) (bstr_bytes path.entry) is_dir
-    }
+    ensures means { IsTrue (is_empty (pattern_spec pattern.now).attributes) → (table : Table)
+        → is_some result ≡ means table (pattern_spec pattern.now) (bstr_bytes path.entry) is_dir }
 {
     if !keeps_prefix(pattern, path, is_dir) {
         return None;

@@ -101,26 +101,27 @@ compares_specs p q =
     let mode = sameb the_type p.search_mode q.search_mode in
     let list = pointwise (assignments.eq-value).it p.attributes.items q.attributes.items in
     let nil = beq p.nil q.nil in
-    let len = nat_eq p.prefix_length q.prefix_length in
-    (λ h.
-        let a = and_parts path (signature && (mode && (list && (nil && len)))) h in
-        let b = and_parts signature (mode && (list && (nil && len))) a.1 in
-        let d = and_parts mode (list && (nil && len)) b.1 in
-        let e = and_parts list (nil && len) d.1 in
-        let f = and_parts nil len e.1 in
-        let path_is = same_text p.path.items q.path.items (sym a.0) in
-        let signature_is = eqb-true p.signature.0 q.signature.0 b.0 in
-        let mode_is = mode_same p.search_mode q.search_mode d.0 in
-        let list_is = list_same p.attributes.items q.attributes.items e.0 in
-        let nil_is = nil_same p.nil q.nil f.0 in
-        let len_is = eqb-true p.prefix_length q.prefix_length f.1 in
-        cc,
-     λ h.
-        and_from path (signature && (mode && (list && (nil && len)))) (text_from p.path.items q.path.items (ap (λ s. s.path) h))
-        (and_from signature (mode && (list && (nil && len))) (eq-eqb p.signature.0 q.signature.0 (ap (λ s. s.signature) h))
-        (and_from mode (list && (nil && len)) (mode_from p.search_mode q.search_mode (ap (λ s. s.mode) h))
-        (and_from list (nil && len) (list_from p.attributes.items q.attributes.items (ap (λ s. s.attributes) h))
-        (and_from nil len (nil_from p.nil q.nil (ap (λ s. s.nil) h)) (eq-eqb p.prefix_length q.prefix_length (ap (λ s. s.prefix_length) h)))))))
+    let len = nat_eq p.prefix_length q.prefix_length in (
+      λ h.
+          let a = and_parts path (signature && (mode && (list && (nil && len)))) h in
+          let b = and_parts signature (mode && (list && (nil && len))) a.1 in
+          let d = and_parts mode (list && (nil && len)) b.1 in
+          let e = and_parts list (nil && len) d.1 in
+          let f = and_parts nil len e.1 in
+          let path_is = same_text p.path.items q.path.items (sym a.0) in
+          let signature_is = eqb-true p.signature.0 q.signature.0 b.0 in
+          let mode_is = mode_same p.search_mode q.search_mode d.0 in
+          let list_is = list_same p.attributes.items q.attributes.items e.0 in
+          let nil_is = nil_same p.nil q.nil f.0 in
+          let len_is = eqb-true p.prefix_length q.prefix_length f.1 in
+          cc,
+      λ h.
+          and_from path (signature && (mode && (list && (nil && len)))) (text_from p.path.items q.path.items (ap (λ s. s.path) h))
+          (and_from signature (mode && (list && (nil && len))) (eq-eqb p.signature.0 q.signature.0 (ap (λ s. s.signature) h))
+          (and_from mode (list && (nil && len)) (mode_from p.search_mode q.search_mode (ap (λ s. s.mode) h))
+          (and_from list (nil && len) (list_from p.attributes.items q.attributes.items (ap (λ s. s.attributes) h))
+          (and_from nil len (nil_from p.nil q.nil (ap (λ s. s.nil) h)) (eq-eqb p.prefix_length q.prefix_length (ap (λ s. s.prefix_length) h)))))),
+    )
 
 pub returns-in_err-clone-clause-equal : goal.returns-in_err-clone-clause-equal
 returns-in_err-clone-clause-equal c = compares_specs

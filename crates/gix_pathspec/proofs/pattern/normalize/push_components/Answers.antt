@@ -1,5 +1,5 @@
 -- Each component leads on; where one climbs out, they all do.
-use Rattle.std.proofs.Common.{sym, ◌∙◌, subst}
+use Rattle.std.proofs.Common.{subst}
 use Rattle.bstr.specs.BStr.{bstr_bytes}
 use Rattle.pathspec_parts.specs.Components.{components_left}
 use Rattle.gix_pathspec.proofs.StackProofs.{LeadsOn, pushed-on, pushed-out, end-inside, end-left, end-least}
