@@ -4,4 +4,4 @@ use Rattle.pathspec_select.proofs.WordProofs.{tells-on, tells-refused, meant-fai
 use Rattle.pathspec_select.proofs.words.normalize.Goals as goal
 
 pub returns-in-Err-clause-cases : goal.returns-in-Err-clause-cases
-returns-in-Err-clause-cases c = tells-on c.refused.result _ _ (meant-fails c.args.number _) (tells-refused c.args.number c.in-Err.error c.refused.result _ _ refl c.in-Err.ensures.refused c.refused.ensures)
+returns-in-Err-clause-cases c = tells-on c.refused.result _ _ (meant-fails c.args.number _) (tells-refused c.args.number c.in-Err.error c.refused.result _ _ refl c.in-Err.ensures.form c.refused.ensures)
