@@ -4,4 +4,5 @@ pub mod OptionProofs
 mod OptionRows
 pub mod DeviceProofs
 pub mod FilterProofs
+pub mod ChosenProofs
 pub mod ProgramProofs

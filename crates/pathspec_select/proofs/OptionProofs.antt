@@ -1,14 +1,14 @@
--- Options read one behind the other.
+-- Options read one after the other.
 use Rattle.std.proofs.Common.{◌≡◌, ℕ, ◌<◌, true, false, refl, sym, ◌∙◌, ap, List, [], ◌∷◌, length, Ok, Err, Result, arith}
 use Rattle.pathspec_select.specs.WordFaults.{WordFault}
 use Rattle.pathspec_select.specs.Options.{Options, OptionWord, option_word, takes_argument, with_argument, with_specs, options_after, no_options, with_clean_prefix, options_of}
 use Rattle.pathspec_select.specs.Options.OptionWord.{BeginsSpecs}
 
--- Options whose texts are the words that are still to be read; together they say all.
+-- The options of the words read so far, whose texts are the words that are left; both together give all.
 abbrev pub ReadTo : Result Options WordFault → Options → Type 0
 ReadTo all options = options_after (record options { texts = [] }) options.texts ≡ all
 
-module _ (all : Result Options WordFault) (options viewed : Options) (same : viewed ≡ options) (invariant : ReadTo all options) where
+module _ {all : Result Options WordFault} {options viewed : Options} (same : viewed ≡ options) (invariant : ReadTo all options) where
   so_far : all ≡ options_after (record viewed { texts = [] }) viewed.texts
   so_far = sym (rw same invariant)
 
@@ -16,32 +16,32 @@ module _ (all : Result Options WordFault) (options viewed : Options) (same : vie
   pub read-none : viewed.texts ≡ [] → all ≡ Ok options
   read-none e = so_far ∙ (ap (options_after (record viewed { texts = [] })) e ∙ (ap (λ texts. Ok (record viewed { texts = texts })) (sym e) ∙ ap Ok same))
 
-  module _ (word text : List ℕ) (words : List (List ℕ)) (said : OptionWord) (cut : viewed.texts ≡ word ∷ words) (as_text : text ≡ word) (says : said ≡ option_word text) where
+  module _ {word text : List ℕ} {words : List (List ℕ)} {meaning : OptionWord} (cut : viewed.texts ≡ word ∷ words) (as_text : text ≡ word) (says : meaning ≡ option_word text) where
     here : all ≡ options_after (record viewed { texts = [] }) (word ∷ words)
     here = so_far ∙ ap (options_after (record viewed { texts = [] })) cut
 
-    its_word : option_word word ≡ said
+    its_word : option_word word ≡ meaning
     its_word = sym (says ∙ ap option_word as_text)
 
     -- the next word takes no argument
-    pub read-last : takes_argument said ≡ false → all ≡ with_specs said word words (record viewed { texts = [] })
+    pub read-last : takes_argument meaning ≡ false → all ≡ with_specs meaning word words (record viewed { texts = [] })
     read-last t = here ∙ by_words words its_word t
       where
-        by_words : (ws : List (List ℕ)) → option_word word ≡ said → takes_argument said ≡ false → options_after (record viewed { texts = [] }) (word ∷ ws) ≡ with_specs said word ws (record viewed { texts = [] })
+        by_words : (ws : List (List ℕ)) → option_word word ≡ meaning → takes_argument meaning ≡ false → options_after (record viewed { texts = [] }) (word ∷ ws) ≡ with_specs meaning word ws (record viewed { texts = [] })
         by_words [] w t = rw w refl
         by_words (next ∷ ws) w t = rw (w, t) refl
 
     -- it begins the specs
-    pub read-specs : said ≡ BeginsSpecs → all ≡ Ok options
+    pub read-specs : meaning ≡ BeginsSpecs → all ≡ Ok options
     read-specs b = read-last (rw b refl) ∙ (rw b (ap (λ texts. Ok (record viewed { texts = texts })) (sym cut) ∙ ap Ok same))
 
     -- it lacks its argument
-    pub read-lacking : words ≡ [] → all ≡ with_specs said word [] (record viewed { texts = [] })
+    pub read-lacking : words ≡ [] → all ≡ with_specs meaning word [] (record viewed { texts = [] })
     read-lacking n = here ∙ (rw (n, its_word) refl)
 
-    module _ (next : List ℕ) (rest : List (List ℕ)) (more : words ≡ next ∷ rest) where
+    module _ {next : List ℕ} {rest : List (List ℕ)} (more : words ≡ next ∷ rest) where
       -- it has its argument
-      pub read-more : takes_argument said ≡ true → options_after (with_argument said next (record viewed { texts = [] })) rest ≡ all
+      pub read-more : takes_argument meaning ≡ true → options_after (with_argument meaning next (record viewed { texts = [] })) rest ≡ all
       read-more t = sym (here ∙ (rw (more, its_word, t) refl))
 
       -- fewer words are left

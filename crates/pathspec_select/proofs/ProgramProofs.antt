@@ -7,7 +7,7 @@ use Rattle.pathspec_select.specs.declared.refusal.Refusal.TheVariants as refusal
 use Rattle.pathspec_select.specs.WordFaults.{WordFault}
 use Rattle.pathspec_select.specs.Options.{options_of}
 use Rattle.pathspec_select.specs.Words.{specs_of_words}
-use Rattle.pathspec_select.specs.Refusals.{TellsWords, IsOfReading}
+use Rattle.pathspec_select.specs.Refusals.{TellsWordFault, IsReadOrMemory}
 use Rattle.pathspec_select.specs.Program.{Refuses}
 
 pub keeps-itself : (known : Option (List ℕ)) → Keeps known known
@@ -21,7 +21,7 @@ options-right words specs h e = let clash = rw e at h in cc
 
 module _ (words : List (List ℕ)) (input known : Option (List ℕ)) where
   -- a fault of the words
-  pub refuses-words : {A : Type 0} (r : Refusal) → TellsWords r (λ fault. specs_of_words words ≡ Err fault) → (options_of words ≡ Err WordFault.Usage → ◌≡◌ {A = Result A Refusal} (Err r) (Err refusal.Usage)) → Refuses words input known known r
+  pub refuses-words : {A : Type 0} (r : Refusal) → TellsWordFault r (λ fault. specs_of_words words ≡ Err fault) → (options_of words ≡ Err WordFault.Usage → ◌≡◌ {A = Result A Refusal} (Err r) (Err refusal.Usage)) → Refuses words input known known r
   refuses-words refusal.Usage h o = (h, keeps-itself known)
   refuses-words (refusal.Spec number error) h o = ((h.0, h.1, h.2), keeps-itself known)
   refuses-words (refusal.Unsupported number) h o = (h, keeps-itself known)
@@ -31,7 +31,7 @@ module _ (words : List (List ℕ)) (input known : Option (List ℕ)) where
   refuses-words refusal.Memory h o = (λ e. let clash = o e in cc, keeps-itself known)
 
   -- a failed read, or want of memory while reading
-  pub refuses-reading : (specs : List Spec) (r : Refusal) → specs_of_words words ≡ Ok specs → IsOfReading r → Refuses words input known known r
+  pub refuses-reading : (specs : List Spec) (r : Refusal) → specs_of_words words ≡ Ok specs → IsReadOrMemory r → Refuses words input known known r
   refuses-reading specs refusal.Usage s h = absurd h
   refuses-reading specs (refusal.Spec number error) s h = absurd h
   refuses-reading specs (refusal.Unsupported number) s h = absurd h

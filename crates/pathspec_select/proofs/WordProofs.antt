@@ -1,4 +1,4 @@
--- Specs read and resolved one behind the other, and the first fault.
+-- Words parsed and specs normalised one after the other, and the first fault.
 use Rattle.std.proofs.Common.{◌≡◌, ℕ, ◌+◌, ◌<◌, ◌≤◌, Bool, false, refl, sym, ◌∙◌, ap, List, [], ◌∷◌, ◌++◌, length, take, drop, map, get_or, Some, None, Option, Ok, Err, Result, IfSome, MatchOption, arith, append_assoc}
 use Rattle.std.proofs.lemmas.List.{append-nil, map-append, nil_from_length, length-drop}
 use Rattle.std.proofs.Math.Seq.{drop-cons}
@@ -16,19 +16,19 @@ use Rattle.pathspec_select.specs.declared.refusal.Refusal.{Refusal}
 use Rattle.pathspec_select.specs.declared.refusal.Refusal.TheVariants as refusal
 use Rattle.pathspec_select.specs.WordFaults.{SpecFault, WordFault}
 use Rattle.pathspec_select.specs.Options.{Options, options_of}
-use Rattle.pathspec_select.specs.Words.{or_faulty, at_number, each_from, said, meant, if_supported, or_prefix, specs_of, specs_of_words}
+use Rattle.pathspec_select.specs.Words.{spec_result, numbered_result, try_map_from, parsed_word, parsed_words, normalized_specs, if_supported, default_to_prefix, specs_of, specs_of_words}
 use Rattle.gix_pathspec.specs.Specs.{Spec}
 use Rattle.std.proofs.lemmas.Grind.{common_steps}
-use Rattle.pathspec_select.specs.Refusals.{TellsWords}
+use Rattle.pathspec_select.specs.Refusals.{TellsWordFault}
 
 -- ---- one spec
 
 -- the refusal for an error tells the error's fault
-pub tells-refused : {A : Type 0} (number : ℕ) (e : Error) (r : Refusal) (x : Result A Fault) (step : Result A SpecFault) → step ≡ or_faulty x → IfSome (fault_of e) (λ fault. x ≡ Err fault)
-    → MatchOption (fault_of e) (r ≡ refusal.Memory) (λ fault. r ≡ refusal.Spec number e) → TellsWords r (λ fault. at_number number step ≡ Err fault)
+pub tells-refused : {A : Type 0} (number : ℕ) (e : Error) (r : Refusal) (x : Result A Fault) (step : Result A SpecFault) → step ≡ spec_result x → IfSome (fault_of e) (λ fault. x ≡ Err fault)
+    → MatchOption (fault_of e) (r ≡ refusal.Memory) (λ fault. r ≡ refusal.Spec number e) → TellsWordFault r (λ fault. numbered_result number step ≡ Err fault)
 tells-refused number e r x step s h m = by_fault (fault_of e) refl h m
   where
-    by_fault : (o : Option Fault) → fault_of e ≡ o → IfSome o (λ fault. x ≡ Err fault) → MatchOption o (r ≡ refusal.Memory) (λ fault. r ≡ refusal.Spec number e) → TellsWords r (λ fault. at_number number step ≡ Err fault)
+    by_fault : (o : Option Fault) → fault_of e ≡ o → IfSome o (λ fault. x ≡ Err fault) → MatchOption o (r ≡ refusal.Memory) (λ fault. r ≡ refusal.Spec number e) → TellsWordFault r (λ fault. numbered_result number step ≡ Err fault)
     by_fault None q h m = rw m tt
     by_fault (Some fault) q h m = rw m (fault, q, rw (s, h) refl)
 
@@ -39,11 +39,11 @@ defaults_of bits mode literal = record { signature = record { 0 = bits }; search
 pub no_defaults-is : (d : Defaults) → signature_bits d.signature ≡ 0 → d.search_mode ≡ ShellGlob → d.literal ≡ false → d ≡ no_defaults
 no_defaults-is d s m l = ap (λ bits. defaults_of bits d.search_mode d.literal) s ∙ (ap (λ mode. defaults_of 0 mode d.literal) m ∙ ap (λ literal. defaults_of 0 ShellGlob literal) l)
 
--- what a word says
-pub said-is : (word text : List ℕ) (d : Defaults) → text ≡ word → d ≡ no_defaults → said word ≡ or_faulty (reading d text)
-said-is word text d t e = rw (← t, e) refl
+-- what a word parses as
+pub parsed_word-is : (word text : List ℕ) (d : Defaults) → text ≡ word → d ≡ no_defaults → parsed_word word ≡ spec_result (reading d text)
+parsed_word-is word text d t e = rw (← t, e) refl
 
--- ---- one behind the other
+-- ---- one after the other
 
 -- values and those that are still to come
 abbrev pub onto : {B E : Type 0} → List B → Result (List B) E → Result (List B) E
@@ -58,23 +58,23 @@ pub onto-nothing : {B E : Type 0} (r : Result (List B) E) → onto [] r ≡ r
 onto-nothing (Ok zs) = refl
 onto-nothing (Err e) = refl
 
-module _ {S A B : Type 0} (view : S → A) (step : A → Result B SpecFault) (xs : List S) (n : ℕ) (ys : List B) (all : Result (List B) WordFault) (so_far : all ≡ onto ys (each_from n step (map view (drop n xs)))) where
-  here : (x : S) → n < length xs → x ≡ get_or xs n x → all ≡ onto ys (each_from n step (view x ∷ map view (drop (n + 1) xs)))
+module _ {S A B : Type 0} (view : S → A) (step : A → Result B SpecFault) (xs : List S) (n : ℕ) (ys : List B) (all : Result (List B) WordFault) (so_far : all ≡ onto ys (try_map_from n step (map view (drop n xs)))) where
+  here : (x : S) → n < length xs → x ≡ get_or xs n x → all ≡ onto ys (try_map_from n step (view x ∷ map view (drop (n + 1) xs)))
   here x l e =
       let cut : drop n xs ≡ x ∷ drop (n + 1) xs = drop-cons xs n x l ∙ (rw (← e, add-one) refl) in
       so_far ∙ (rw cut refl)
 
   -- the next step gives a value
-  pub each-more : (x : S) (y : B) (zs : List B) → n < length xs → x ≡ get_or xs n x → step (view x) ≡ Ok y → ys ++ y ∷ [] ≡ zs → all ≡ onto zs (each_from (n + 1) step (map view (drop (n + 1) xs)))
-  each-more x y zs l e s z = here x l e ∙ (rw s (onto-snoc ys y (each_from (n + 1) step (map view (drop (n + 1) xs))) ∙ ap (λ front. onto front (each_from (n + 1) step (map view (drop (n + 1) xs)))) z))
+  pub try_map-more : (x : S) (y : B) (zs : List B) → n < length xs → x ≡ get_or xs n x → numbered_result n (step (view x)) ≡ Ok y → ys ++ y ∷ [] ≡ zs → all ≡ onto zs (try_map_from (n + 1) step (map view (drop (n + 1) xs)))
+  try_map-more x y zs l e s z = here x l e ∙ (rw s (onto-snoc ys y (try_map_from (n + 1) step (map view (drop (n + 1) xs))) ∙ ap (λ front. onto front (try_map_from (n + 1) step (map view (drop (n + 1) xs)))) z))
 
   -- the next step is at fault
-  pub each-fails : (x : S) (fault : WordFault) → n < length xs → x ≡ get_or xs n x → at_number n (step (view x)) ≡ Err fault → all ≡ Err fault
-  each-fails x fault l e s = here x l e ∙ (rw s refl)
+  pub try_map-fails : (x : S) (fault : WordFault) → n < length xs → x ≡ get_or xs n x → numbered_result n (step (view x)) ≡ Err fault → all ≡ Err fault
+  try_map-fails x fault l e s = here x l e ∙ (rw s refl)
 
   -- no step is left
-  pub each-ends : length xs ≤ n → all ≡ Ok ys
-  each-ends l =
+  pub try_map-ends : length xs ≤ n → all ≡ Ok ys
+  try_map-ends l =
       let none : drop n xs ≡ [] = nil_from_length (drop n xs) (length-drop n xs ∙ omega arith) in
       so_far ∙ (rw none (ap Ok (append-nil ys)))
 
@@ -83,10 +83,10 @@ pub pushed : {X B : Type 0} (view : X → B) (items more : List X) (x : X) → m
 pushed view items more x e = rw (e, map-append) refl
 
 -- a refusal that tells one fault tells another where the one is the other
-pub tells-on : (r : Refusal) (P Q : WordFault → Type 0) → ((fault : WordFault) → P fault → Q fault) → TellsWords r P → TellsWords r Q
+pub tells-on : (r : Refusal) (P Q : WordFault → Type 0) → ((fault : WordFault) → P fault → Q fault) → TellsWordFault r P → TellsWordFault r Q
 tells-on refusal.Usage P Q f h = f WordFault.Usage h
-tells-on (refusal.Spec number e) P Q f h = (h.0, h.1, f (WordFault.InSpec number (SpecFault.Faulty h.0)) h.2)
-tells-on (refusal.Unsupported number) P Q f h = f (WordFault.InSpec number SpecFault.Unsupported) h
+tells-on (refusal.Spec number e) P Q f h = (h.0, h.1, f (WordFault.BadSpec number (SpecFault.Invalid h.0)) h.2)
+tells-on (refusal.Unsupported number) P Q f h = f (WordFault.BadSpec number SpecFault.Unsupported) h
 tells-on refusal.Read P Q f h = h
 tells-on (refusal.Line number) P Q f h = h
 tells-on refusal.Write P Q f h = h
@@ -94,18 +94,18 @@ tells-on refusal.Memory P Q f h = h
 
 -- ---- all words
 
--- a spec that has no normal form means nothing
-pub meant-fails : (number : ℕ) (x : Result Spec Fault) (fault : WordFault) → at_number number (or_faulty x) ≡ Err fault → at_number number (or_faulty x >>= if_supported) ≡ Err fault
-meant-fails number (Ok s) fault h = cc
-meant-fails number (Err f) fault h = h
+-- a spec that has no normal form is refused as such
+pub normalized_spec-fails : (number : ℕ) (x : Result Spec Fault) (fault : WordFault) → numbered_result number (spec_result x) ≡ Err fault → numbered_result number (spec_result x >>= if_supported) ≡ Err fault
+normalized_spec-fails number (Ok s) fault h = cc
+normalized_spec-fails number (Err f) fault h = h
 
 module _ (options : Options) where
-  -- a spec is at fault where it is read
-  pub specs-read : (fault : WordFault) → each_from 0 said options.texts ≡ Err fault → specs_of options ≡ Err fault
+  -- a word is at fault
+  pub specs-read : (fault : WordFault) → parsed_words options.texts ≡ Err fault → specs_of options ≡ Err fault
   specs-read fault r = rw r refl
 
-  -- all are read
-  pub specs-normal : (specs listed : List Spec) (end : Result (List Spec) WordFault) → each_from 0 said options.texts ≡ Ok specs → listed ≡ or_prefix options.prefix specs → each_from 0 (meant options.prefix options.root) listed ≡ end → specs_of options ≡ end
+  -- all are parsed
+  pub specs-normal : (specs listed : List Spec) (end : Result (List Spec) WordFault) → parsed_words options.texts ≡ Ok specs → listed ≡ default_to_prefix options.prefix specs → normalized_specs options.prefix options.root listed ≡ end → specs_of options ≡ end
   specs-normal specs listed end r l n = rw (r, ← l) n
 
 module _ (words : List (List ℕ)) where

@@ -16,4 +16,6 @@ pub mod Options
 pub mod OptionWords
 pub mod Words
 pub mod Refusals
+pub mod Filter
+pub mod Choice
 pub mod Program

@@ -4,9 +4,9 @@ use Rattle.pathspec_select.specs.declared.options.OptionWord.TheVariants as word
 use Rattle.pathspec_select.specs.Options.{OptionWord}
 
 -- what the word says
-abbrev pub as_said : Word → OptionWord
-as_said word.EndsOptions = OptionWord.EndsOptions
-as_said word.NamesPrefix = OptionWord.NamesPrefix
-as_said word.NamesRoot = OptionWord.NamesRoot
-as_said word.IsUnknown = OptionWord.IsUnknown
-as_said word.BeginsSpecs = OptionWord.BeginsSpecs
+abbrev pub option_view : Word → OptionWord
+option_view word.EndsOptions = OptionWord.EndsOptions
+option_view word.NamesPrefix = OptionWord.NamesPrefix
+option_view word.NamesRoot = OptionWord.NamesRoot
+option_view word.IsUnknown = OptionWord.IsUnknown
+option_view word.BeginsSpecs = OptionWord.BeginsSpecs

@@ -1,37 +1,50 @@
 -- What a clause reads of a `Refusal`.
-use Rattle.std.specs.Prelude.{◌≡◌, ℕ, Some}
+use Rattle.std.specs.Prelude.{◌≡◌, ℕ, Some, MatchOption, Result, Ok, Err, MatchResult}
+use Rattle.gix_pathspec.specs.declared.error.Error.{Error}
 use Rattle.gix_pathspec.specs.Faults.{Fault}
 use Rattle.gix_pathspec.specs.Errors.{fault_of}
 use Rattle.pathspec_select.specs.declared.refusal.Refusal.{Refusal}
-use Rattle.pathspec_select.specs.declared.refusal.Refusal.TheVariants as told
+use Rattle.pathspec_select.specs.declared.refusal.Refusal.TheVariants as refusal
 use Rattle.pathspec_select.specs.WordFaults.{SpecFault, WordFault}
 
 -- the exit status
 abbrev pub status_of : Refusal → ℕ
-status_of told.Usage = 2
-status_of (told.Spec number error) = 3
-status_of (told.Unsupported number) = 3
-status_of told.Read = 5
-status_of (told.Line number) = 4
-status_of told.Write = 5
-status_of told.Memory = 6
+status_of refusal.Usage = 2
+status_of (refusal.Spec number error) = 3
+status_of (refusal.Unsupported number) = 3
+status_of refusal.Read = 5
+status_of (refusal.Line number) = 4
+status_of refusal.Write = 5
+status_of refusal.Memory = 6
 
--- The refusal tells this fault of the words, or want of memory.
-abbrev pub TellsWords : Refusal → (WordFault → Type 0) → Type 0
-TellsWords told.Usage P = P WordFault.Usage
-TellsWords (told.Spec number error) P = (fault : Fault) × (fault_of error ≡ Some fault) × P (WordFault.InSpec number (SpecFault.Faulty fault))
-TellsWords (told.Unsupported number) P = P (WordFault.InSpec number SpecFault.Unsupported)
-TellsWords told.Read P = ⊥
-TellsWords (told.Line number) P = ⊥
-TellsWords told.Write P = ⊥
-TellsWords told.Memory P = Unit {0}
+-- The refusal tells this fault of the words, or that memory ran out.
+abbrev pub TellsWordFault : Refusal → (WordFault → Type 0) → Type 0
+TellsWordFault refusal.Usage P = P WordFault.Usage
+TellsWordFault (refusal.Spec number error) P = (fault : Fault) × (fault_of error ≡ Some fault) × P (WordFault.BadSpec number (SpecFault.Invalid fault))
+TellsWordFault (refusal.Unsupported number) P = P (WordFault.BadSpec number SpecFault.Unsupported)
+TellsWordFault refusal.Read P = ⊥
+TellsWordFault (refusal.Line number) P = ⊥
+TellsWordFault refusal.Write P = ⊥
+TellsWordFault refusal.Memory P = Unit {0}
 
--- The refusal is what reading may end with: a failed read, or want of memory.
-abbrev pub IsOfReading : Refusal → Type 0
-IsOfReading told.Usage = ⊥
-IsOfReading (told.Spec number error) = ⊥
-IsOfReading (told.Unsupported number) = ⊥
-IsOfReading told.Read = Unit {0}
-IsOfReading (told.Line number) = ⊥
-IsOfReading told.Write = ⊥
-IsOfReading told.Memory = Unit {0}
+-- The result, seen by `view`, is what is computed; a refusal tells the computed fault, or that memory ran out.
+abbrev pub ComputesWords : {A B : Type 0} → (A → B) → Result B WordFault → Result A Refusal → Type 0
+ComputesWords view computed result = MatchResult result (λ x. computed ≡ Ok (view x)) (λ e. TellsWordFault e (λ fault. computed ≡ Err fault))
+
+-- The result is what is computed; the only fault and the only refusal is of the usage.
+abbrev pub ComputesOptions : {A : Type 0} → Result A WordFault → Result A Refusal → Type 0
+ComputesOptions computed result = MatchResult result (λ x. computed ≡ Ok x) (λ e. (e ≡ refusal.Usage) × (computed ≡ Err WordFault.Usage))
+
+-- The refusal is for this error of the spec with this number.
+abbrev pub RefusesError : ℕ → Error → Refusal → Type 0
+RefusesError number error refused = MatchOption (fault_of error) (refused ≡ refusal.Memory) (λ fault. refused ≡ refusal.Spec number error)
+
+-- The refusal is what reading may end with: a failed read, or memory that ran out.
+abbrev pub IsReadOrMemory : Refusal → Type 0
+IsReadOrMemory refusal.Usage = ⊥
+IsReadOrMemory (refusal.Spec number error) = ⊥
+IsReadOrMemory (refusal.Unsupported number) = ⊥
+IsReadOrMemory refusal.Read = Unit {0}
+IsReadOrMemory (refusal.Line number) = ⊥
+IsReadOrMemory refusal.Write = ⊥
+IsReadOrMemory refusal.Memory = Unit {0}

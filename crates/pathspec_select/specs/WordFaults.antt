@@ -4,8 +4,8 @@ use Rattle.gix_pathspec.specs.Faults.{Fault}
 
 -- why a spec asks for nothing that can be done
 pub data SpecFault : Type 0 where
-  -- it is at fault
-  Faulty : (fault : Fault) → SpecFault
+  -- it has this fault
+  Invalid : (fault : Fault) → SpecFault
   -- it is of a kind that isn't matched yet
   Unsupported : SpecFault
 
@@ -13,5 +13,5 @@ pub data SpecFault : Type 0 where
 pub data WordFault : Type 0 where
   -- the options are wrong
   Usage : WordFault
-  -- the spec with this number, from 0
-  InSpec : (number : ℕ) (fault : SpecFault) → WordFault
+  -- the spec with this number, from 0, has this fault
+  BadSpec : (number : ℕ) (fault : SpecFault) → WordFault

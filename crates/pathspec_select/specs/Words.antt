@@ -7,18 +7,18 @@ use Rattle.gix_pathspec.specs.Specs.{Spec, is_glob, must_be_dir}
 use Rattle.gix_pathspec.specs.Reading.{reading, no_defaults, literal_spec}
 use Rattle.gix_pathspec.specs.NormalForm.{normal_form}
 use Rattle.pathspec_select.specs.WordFaults.{SpecFault, WordFault}
-use Rattle.pathspec_select.specs.WordFaults.SpecFault.{Faulty, Unsupported}
-use Rattle.pathspec_select.specs.WordFaults.WordFault.{InSpec}
+use Rattle.pathspec_select.specs.WordFaults.SpecFault.{Invalid, Unsupported}
+use Rattle.pathspec_select.specs.WordFaults.WordFault.{BadSpec}
 use Rattle.pathspec_select.specs.Options.{Options, options_of}
 
--- a fault as that of a spec
-abbrev pub or_faulty : {A : Type 0} → Result A Fault → Result A SpecFault
-or_faulty (Ok x) = Ok x
-or_faulty (Err fault) = Err (Faulty fault)
+-- the same result, where a fault makes the spec invalid
+abbrev pub spec_result : {A : Type 0} → Result A Fault → Result A SpecFault
+spec_result (Ok x) = Ok x
+spec_result (Err fault) = Err (Invalid fault)
 
--- what a word says
-abbrev pub said : List ℕ → Result Spec SpecFault
-said word = or_faulty (reading no_defaults word)
+-- what a word parses as
+abbrev pub parsed_word : List ℕ → Result Spec SpecFault
+parsed_word word = spec_result (reading no_defaults word)
 
 -- a spec that can be asked about paths: globs aren't matched yet, and nobody is asked for attributes
 unfoldable pub is_supported : Spec → Bool
@@ -28,27 +28,35 @@ is_supported s = not (is_glob s) && is_empty s.attributes
 abbrev pub if_supported : Spec → Result Spec SpecFault
 if_supported s = if is_supported s then Ok s else Err Unsupported
 
--- what a spec means in a prefix, in a repository with this root
-abbrev pub meant : List ℕ → List ℕ → Spec → Result Spec SpecFault
-meant prefix root s = or_faulty (normal_form prefix root s) >>= if_supported
+-- the normal form of a spec in a prefix, in a repository with this root, if it is supported
+abbrev pub normalized_spec : List ℕ → List ℕ → Spec → Result Spec SpecFault
+normalized_spec prefix root s = spec_result (normal_form prefix root s) >>= if_supported
 
--- An empty list with a prefix stands for that prefix.
-abbrev pub or_prefix : List ℕ → List Spec → List Spec
-or_prefix prefix specs = if is_empty specs && not (is_empty prefix) then literal_spec must_be_dir [] ∷ [] else specs
+-- the specs; where there is none and a prefix, the prefix itself
+abbrev pub default_to_prefix : List ℕ → List Spec → List Spec
+default_to_prefix prefix specs = if is_empty specs && not (is_empty prefix) then literal_spec must_be_dir [] ∷ [] else specs
 
--- a fault with the number of its spec
-abbrev pub at_number : {A : Type 0} → ℕ → Result A SpecFault → Result A WordFault
-at_number number (Ok x) = Ok x
-at_number number (Err fault) = Err (InSpec number fault)
+-- the same result, where a fault has the number of its spec
+abbrev pub numbered_result : {A : Type 0} → ℕ → Result A SpecFault → Result A WordFault
+numbered_result number (Ok x) = Ok x
+numbered_result number (Err fault) = Err (BadSpec number fault)
 
 -- a step for each element in turn, numbered from n on, or the first fault
-abbrev pub each_from : {A B : Type 0} → ℕ → (A → Result B SpecFault) → List A → Result (List B) WordFault
-each_from n step [] = Ok []
-each_from n step (x ∷ xs) = at_number n (step x) >>= λ y. each_from (n + 1) step xs >>= λ ys. Ok (y ∷ ys)
+abbrev pub try_map_from : {A B : Type 0} → ℕ → (A → Result B SpecFault) → List A → Result (List B) WordFault
+try_map_from n step [] = Ok []
+try_map_from n step (x ∷ xs) = numbered_result n (step x) >>= λ y. try_map_from (n + 1) step xs >>= λ ys. Ok (y ∷ ys)
 
--- The specs that options and the words behind them ask for, or the first fault: every spec is read before the first one is normalised.
+-- what each word parses as, or the first fault
+abbrev pub parsed_words : List (List ℕ) → Result (List Spec) WordFault
+parsed_words words = try_map_from 0 parsed_word words
+
+-- the normal form of each spec, or the first fault
+abbrev pub normalized_specs : List ℕ → List ℕ → List Spec → Result (List Spec) WordFault
+normalized_specs prefix root specs = try_map_from 0 (normalized_spec prefix root) specs
+
+-- The specs that options and the words after them ask for, or the first fault: every word is parsed before the first spec is normalised.
 abbrev pub specs_of : Options → Result (List Spec) WordFault
-specs_of options = each_from 0 said options.texts >>= λ specs. each_from 0 (meant options.prefix options.root) (or_prefix options.prefix specs)
+specs_of options = parsed_words options.texts >>= λ specs. normalized_specs options.prefix options.root (default_to_prefix options.prefix specs)
 
 -- The specs that words ask for, or the first fault.
 unfoldable pub specs_of_words : List (List ℕ) → Result (List Spec) WordFault

@@ -1,8 +1,8 @@
 //! Reading to the end and writing to the end. A call that is interrupted has failed, and isn't made again.
-ghost use Rattle.std.specs.Prelude.{◌≡◌, IfOk, IfErr, IfSome, OnOk, OnErr};
+ghost use Rattle.std.specs.Prelude.{◌≡◌, IfOk, IfErr, OnOk, OnErr};
 ghost use Rattle.std.specs.Io.KnownBytes.{Appends};
-ghost use Rattle.pathspec_select.specs.Refusals.{IsOfReading};
-ghost use Rattle.pathspec_select.specs.Program.{AppendsFront};
+ghost use Rattle.pathspec_select.specs.Refusals.{IsReadOrMemory};
+ghost use Rattle.pathspec_select.specs.Program.{IsAllOf, AppendsFront};
 
 use crate::Refusal;
 use std::alloc::Global;
@@ -15,8 +15,8 @@ const CHUNK: usize = 65536;
 /// # Errors
 /// [`Refusal::Read`] where a read fails, [`Refusal::Memory`].
 pub(crate) fn read_to_end<R: Read>(alloc: Global, reader: &mut R) -> Result<Vec<u8>, Refusal>
-    ensures ok { IfOk result (λ bytes. IfSome (R.remaining reader.old) (λ input. bytes.items ≡ input)) }
-    ensures err { IfErr result IsOfReading }
+    ensures all { IfOk result (λ bytes. IsAllOf (R.remaining reader.old) bytes.items) }
+    ensures cause { IfErr result IsReadOrMemory }
 {
     let mut bytes = Vec::new(alloc);
     let mut chunk = [0u8; CHUNK];
@@ -28,9 +28,7 @@ pub(crate) fn read_to_end<R: Read>(alloc: Global, reader: &mut R) -> Result<Vec<
         if n == 0 {
             return Ok(bytes);
         }
-        if bytes.extend_from_slice(&chunk[..n]).is_err() {
-            return Err(Refusal::Memory);
-        }
+        bytes.extend_from_slice(&chunk[..n])?;
     }
 }
 
@@ -39,9 +37,11 @@ pub(crate) fn read_to_end<R: Read>(alloc: Global, reader: &mut R) -> Result<Vec<
 /// # Errors
 /// [`Refusal::Write`] where a write fails or takes no byte; a beginning of the bytes is then written.
 pub(crate) fn write_whole<W: Write>(writer: &mut W, bytes: &[u8]) -> Result<(), Refusal>
-    ensures ok { OnOk result (Appends (W.contents writer.old) (W.contents writer.new) bytes.now) }
-    ensures err { IfErr result (λ e. e ≡ Refusal.Write) }
-    ensures begun { OnErr result (AppendsFront (W.contents writer.old) (W.contents writer.new) bytes.now) }
+    ensures whole { OnOk result
+        (Appends (W.contents writer.old) (W.contents writer.new) bytes.now) }
+    ensures cause { IfErr result (λ e. e ≡ Refusal.Write) }
+    ensures front { OnErr result
+        (AppendsFront (W.contents writer.old) (W.contents writer.new) bytes.now) }
 {
     let mut rest = bytes;
     while !rest.is_empty() {

@@ -1,12 +1,11 @@
 //! Which records specs choose.
-ghost use Rattle.std.specs.Prelude.{◌≡◌, ◌&&◌, [], All, map, IfOk, IsTrue};
+ghost use Rattle.std.specs.Prelude.{◌≡◌, IfOk, IsTrue};
 ghost use Rattle.std.specs.List.{list_any};
 ghost use Rattle.bstr.specs.BStr.{bstr_bytes};
 ghost use Rattle.gix_pathspec.specs.Specs.{is_include};
-ghost use Rattle.gix_pathspec.specs.Matching.{means, chosen};
 ghost use Rattle.gix_pathspec.specs.Patterns.{pattern_spec};
 ghost use Rattle.pathspec_select.specs.Words.{is_supported};
-ghost use Rattle.pathspec_select.specs.Listing.{records, output, table_of, record_path, record_is_dir};
+ghost use Rattle.pathspec_select.specs.Filter.{AreSupported, matches_path, is_chosen, is_chosen_record, chosen_records};
 
 use crate::listing;
 use bstr::BStr;
@@ -15,7 +14,7 @@ use gix_pathspec::search::matching;
 use pathspec_parts::path;
 use std::alloc::{AllocError, Global};
 
-/// The chosen records of a listing in their order, each with one separator behind it.
+/// The chosen records of a listing in their order, each with one separator after it.
 ///
 /// Each spec is asked about each record at most once.
 pub(crate) fn chosen_records(
@@ -24,8 +23,8 @@ pub(crate) fn chosen_records(
     listing: &[u8],
     separator: u8,
 ) -> Result<Vec<u8>, AllocError>
-    requires { All (λ p. IsTrue (is_supported (pattern_spec p))) patterns.now }
-    ensures { IfOk result (λ out. out.items ≡ output (table_of []) (map pattern_spec patterns.now) separator (records separator listing.now)) }
+    requires { AreSupported patterns.now }
+    ensures { IfOk result (λ out. out.items ≡ chosen_records patterns.now separator listing.now) }
 {
     let mut output = Vec::new(alloc);
     for record in listing::records_of(listing, separator) {
@@ -39,23 +38,23 @@ pub(crate) fn chosen_records(
 
 /// Whether a record is chosen: it is a directory where it ends with a slash, which is no part of its path.
 fn is_chosen_record(patterns: &[Pattern], text: &[u8]) -> bool
-    requires { All (λ p. IsTrue (is_supported (pattern_spec p))) patterns.now }
-    ensures { result ≡ chosen (table_of []) (map pattern_spec patterns.now) (record_path text.now) (record_is_dir text.now) }
+    requires { AreSupported patterns.now }
+    ensures { result ≡ is_chosen_record patterns.now text.now }
 {
     let (path, is_dir) = path::strip_last_slash(text);
     is_chosen(patterns, BStr::new(path), is_dir)
 }
 
-/// Whether a path is chosen: no exclude means it, and some include does or there is no include.
+/// Whether a path is chosen: no exclude matches it, and some include does or there is no include.
 fn is_chosen(patterns: &[Pattern], path: BStr<'_>, is_dir: bool) -> bool
-    requires { All (λ p. IsTrue (is_supported (pattern_spec p))) patterns.now }
-    ensures { result ≡ chosen (table_of []) (map pattern_spec patterns.now) (bstr_bytes path.entry) is_dir }
+    requires { AreSupported patterns.now }
+    ensures { result ≡ is_chosen patterns.now (bstr_bytes path.entry) is_dir }
 {
     let mut included = !has_include(patterns);
     for pattern in patterns {
         let excludes = pattern.is_excluded();
-        // Where an include means the path already, further ones change nothing.
-        if (excludes || !included) && is_meant(pattern, path, is_dir) {
+        // Where an include matches the path already, further ones change nothing.
+        if (excludes || !included) && matches_path(pattern, path, is_dir) {
             if excludes {
                 return false;
             }
@@ -65,10 +64,10 @@ fn is_chosen(patterns: &[Pattern], path: BStr<'_>, is_dir: bool) -> bool
     included
 }
 
-/// Whether a spec means a path.
-fn is_meant(pattern: &Pattern, path: BStr<'_>, is_dir: bool) -> bool
+/// Whether a spec matches a path.
+fn matches_path(pattern: &Pattern, path: BStr<'_>, is_dir: bool) -> bool
     requires { IsTrue (is_supported (pattern_spec pattern.now)) }
-    ensures { result ≡ means (table_of []) (pattern_spec pattern.now) (bstr_bytes path.entry) is_dir }
+    ensures { result ≡ matches_path pattern.now (bstr_bytes path.entry) is_dir }
 {
     matching::match_kind(pattern, path, is_dir).is_some()
 }

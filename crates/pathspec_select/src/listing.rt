@@ -64,17 +64,17 @@ fn is_bad(text: &[u8]) -> bool
     text.is_empty() || text.starts_with(b"/") || holds_two_slashes(text)
 }
 
-/// Whether a slash stands behind a slash.
+/// Whether a slash stands right after a slash.
 fn holds_two_slashes(text: &[u8]) -> bool
     ensures { result ≡ holds_two_slashes text.now }
 {
-    let mut behind_slash = false;
+    let mut after_slash = false;
     for byte in text {
         let slash = *byte == b'/';
-        if slash && behind_slash {
+        if slash && after_slash {
             return true;
         }
-        behind_slash = slash;
+        after_slash = slash;
     }
     false
 }

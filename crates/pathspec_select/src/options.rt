@@ -1,16 +1,16 @@
 //! The options of the command line, which stand before the specs.
-ghost use Rattle.std.specs.Prelude.{◌≡◌, [], ◌∷◌, Ok, Err, map, IfOk, IsTrue, MatchResult, string_bytes};
+ghost use Rattle.std.specs.Prelude.{◌≡◌, [], ◌∷◌, map, IfOk, IfErr, OnErr, IsTrue, string_bytes};
 ghost use Rattle.pathspec_parts.specs.Paths.{is_clean_prefix};
-ghost use Rattle.pathspec_select.specs.WordFaults.{WordFault};
-ghost use Rattle.pathspec_select.specs.Options.{Options as Asked, no_options, option_word, options_after, prefix_of, with_clean_prefix, options_of};
-ghost use Rattle.pathspec_select.specs.OptionWords.{as_said};
+ghost use Rattle.pathspec_select.specs.Options.{Options as OptionsView, no_options, option_word, options_after, prefix_of, with_clean_prefix, options_of};
+ghost use Rattle.pathspec_select.specs.OptionWords.{option_view};
+ghost use Rattle.pathspec_select.specs.Refusals.{ComputesOptions};
 
 use crate::Refusal;
 use bstr::BStr;
 use pathspec_parts::path;
 use std::marker::Model;
 
-/// What the options say, and the words behind them.
+/// What the options say, and the words after them.
 #[derive(Drop)]
 pub(crate) struct Options<'w> {
     pub(crate) prefix: &'w [u8],
@@ -19,12 +19,12 @@ pub(crate) struct Options<'w> {
 }
 
 impl<'w> Model for Options<'w> {
-    ghost Value = { Asked };
+    ghost Value = { OptionsView };
 
     ghost view = { λ o. record { prefix = o.prefix.now; root = o.root.now; texts = map string_bytes o.specs.now } };
 }
 
-/// What a word says where options are read.
+/// What a word is, where options are read.
 #[derive(Drop)]
 enum OptionWord {
     EndsOptions,
@@ -39,30 +39,30 @@ enum OptionWord {
 ///
 /// # Errors
 /// [`Refusal::Usage`]: an option is unknown or lacks its argument, or the prefix isn't clean.
-pub(crate) fn read(words: &[String]) -> Result<Options<'_>, Refusal>
-    ensures cases { MatchResult result (λ options. options_of (map string_bytes words.now) ≡ Ok options) (λ e. (e ≡ Refusal.Usage) × (options_of (map string_bytes words.now) ≡ Err WordFault.Usage)) }
+pub(crate) fn options_from_words(words: &[String]) -> Result<Options<'_>, Refusal>
+    ensures options { ComputesOptions (options_of (map string_bytes words.now)) result }
     ensures clean { IfOk result (λ options. IsTrue (is_clean_prefix options.prefix)) }
 {
-    with_clean_prefix(read_all(words)?)
+    with_clean_prefix(unchecked_options(words)?)
 }
 
-/// What the words say, before the prefix is looked at.
-fn read_all(words: &[String]) -> Result<Options<'_>, Refusal>
-    ensures { MatchResult result (λ options. options_after no_options (map string_bytes words.now) ≡ Ok options) (λ e. (e ≡ Refusal.Usage) × (options_after no_options (map string_bytes words.now) ≡ Err WordFault.Usage)) }
+/// What the words ask for, where the prefix may be any argument.
+fn unchecked_options(words: &[String]) -> Result<Options<'_>, Refusal>
+    ensures { ComputesOptions (options_after no_options (map string_bytes words.now)) result }
 {
     let mut options = Options {
         prefix: b"",
         root: b"",
         specs: words,
     };
-    while let Some((word, behind)) = options.specs.split_first() {
-        match said_by(word.as_bytes()) {
+    while let Some((word, rest)) = options.specs.split_first() {
+        match option_word(word.as_bytes()) {
             OptionWord::EndsOptions => {
-                options.specs = behind;
+                options.specs = rest;
                 return Ok(options);
             }
-            OptionWord::NamesPrefix => (options.prefix, options.specs) = argument(behind)?,
-            OptionWord::NamesRoot => (options.root, options.specs) = argument(behind)?,
+            OptionWord::NamesPrefix => (options.prefix, options.specs) = argument(rest)?,
+            OptionWord::NamesRoot => (options.root, options.specs) = argument(rest)?,
             OptionWord::IsUnknown => return Err(Refusal::Usage),
             OptionWord::BeginsSpecs => return Ok(options),
         }
@@ -70,9 +70,9 @@ fn read_all(words: &[String]) -> Result<Options<'_>, Refusal>
     Ok(options)
 }
 
-/// What a word says where options are read.
-fn said_by(word: &[u8]) -> OptionWord
-    ensures { as_said result ≡ option_word word.now }
+/// What a word is, where options are read.
+fn option_word(word: &[u8]) -> OptionWord
+    ensures { option_view result ≡ option_word word.now }
 {
     if word == b"--".as_slice() {
         OptionWord::EndsOptions
@@ -87,19 +87,22 @@ fn said_by(word: &[u8]) -> OptionWord
     }
 }
 
-/// An option's argument, which is the next word, and the words behind it.
+/// An option's argument, which is the next word, and the words after it.
 fn argument(words: &[String]) -> Result<(&[u8], &[String]), Refusal>
-    ensures { MatchResult result (λ found. map string_bytes words.now ≡ found.0.now ∷ map string_bytes found.1.now) (λ e. (e ≡ Refusal.Usage) × (words.now ≡ [])) }
+    ensures next { IfOk result
+        (λ found. map string_bytes words.now ≡ found.0.now ∷ map string_bytes found.1.now) }
+    ensures usage { IfErr result (λ e. e ≡ Refusal.Usage) }
+    ensures missing { OnErr result (words.now ≡ []) }
 {
     match words.split_first() {
-        Some((argument, behind)) => Ok((argument.as_bytes(), behind)),
+        Some((argument, rest)) => Ok((argument.as_bytes(), rest)),
         None => Err(Refusal::Usage),
     }
 }
 
 /// The options with the prefix that their argument names, if it is clean.
 fn with_clean_prefix(options: Options<'_>) -> Result<Options<'_>, Refusal>
-    ensures cases { MatchResult result (λ cleaned. with_clean_prefix options.entry ≡ Ok cleaned) (λ e. (e ≡ Refusal.Usage) × (with_clean_prefix options.entry ≡ Err WordFault.Usage)) }
+    ensures options { ComputesOptions (with_clean_prefix options.entry) result }
     ensures clean { IfOk result (λ cleaned. IsTrue (is_clean_prefix cleaned.prefix)) }
 {
     let prefix = prefix_of(options.prefix);
@@ -155,7 +158,7 @@ mod tests {
         ];
         for (line, prefix, root, specs) in rows {
             let words = words_of(rt.alloc(), line)?;
-            let Ok(options) = read(words.as_slice()) else {
+            let Ok(options) = options_from_words(words.as_slice()) else {
                 return Err("refused".into());
             };
             assert_eq!(rt; options.prefix, prefix.as_bytes(), "{line}");
@@ -165,7 +168,7 @@ mod tests {
                 let word = left.next().ok_or("too few")?;
                 assert_eq!(rt; word.as_str(), spec, "in {line}");
             }
-            assert!(rt; left.next().is_none(), "behind {line}");
+            assert!(rt; left.next().is_none(), "after {line}");
         }
         Ok(())
     }
@@ -187,7 +190,7 @@ mod tests {
             "--prefix a --prefix .. b",
         ] {
             let words = words_of(rt.alloc(), line)?;
-            let refused = matches!(read(words.as_slice()), Err(Refusal::Usage));
+            let refused = matches!(options_from_words(words.as_slice()), Err(Refusal::Usage));
             assert!(rt; refused, "{line}");
         }
         Ok(())

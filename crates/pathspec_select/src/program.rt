@@ -1,6 +1,7 @@
 //! The program, over any reader and writer.
-ghost use Rattle.std.specs.Prelude.{map, string_bytes};
+ghost use Rattle.std.specs.Prelude.{map, string_bytes, OnOk};
 ghost use Rattle.pathspec_select.specs.Program.{Ends};
+ghost use Rattle.pathspec_select.specs.Choice.{WritesChosen, ChosenIsTest, OrderIsFree};
 
 use crate::{Environment, Refusal, devices, filter, listing, words};
 use std::alloc::Global;
@@ -9,9 +10,9 @@ use std::io::{Read, Write};
 const LINE_FEED: u8 = b'\n';
 
 /// Runs `pathspec-select` over a reader and a writer: reads a listing of paths, one a line, and writes the records
-/// that the words' specs choose, in their order, each with a line feed behind it.
+/// that the words' specs choose, in their order, each with a line feed after it.
 ///
-/// The words are the arguments behind the program's name: `--prefix P` and `--root R`, and then the specs, which are
+/// The words are the arguments after the program's name: `--prefix P` and `--root R`, and then the specs, which are
 /// read as in the directory P of a repository that lies at R. No specs and a prefix choose what lies in the prefix.
 /// The environment isn't read yet.
 ///
@@ -23,6 +24,7 @@ const LINE_FEED: u8 = b'\n';
 /// spec that can't be read, and then of the first that has no normal form or is a glob; [`Refusal::Read`]; [`Refusal::Line`];
 /// [`Refusal::Write`]. [`Refusal::Memory`] comes at its place among them. Nothing is written before a fault, but
 /// for a write's.
+#[tactic(auto, using(crate::proofs::ChosenProofs::chosen_is_test))]
 pub fn run<R: Read, W: Write>(
     alloc: Global,
     words: &[String],
@@ -30,7 +32,13 @@ pub fn run<R: Read, W: Write>(
     reader: &mut R,
     writer: &mut W,
 ) -> Result<(), Refusal>
-    ensures { Ends (map string_bytes words.now) (R.remaining reader.old) (W.contents writer.old) (W.contents writer.new) result }
+    ensures ends { Ends (map string_bytes words.now) (R.remaining reader.old)
+        (W.contents writer.old) (W.contents writer.new) result }
+    ensures chosen { OnOk result (WritesChosen (map string_bytes words.now)
+        (R.remaining reader.old) (W.contents writer.old) (W.contents writer.new)) }
+    // The test by which records are written is the statement of what is chosen, and the specs' order is free.
+    ensures test { ChosenIsTest }
+    ensures order { OrderIsFree }
 {
     let _ = environment;
     let patterns = words::specs(alloc, words)?;
@@ -38,13 +46,11 @@ pub fn run<R: Read, W: Write>(
     if let Some(number) = listing::first_bad(listing.as_slice(), LINE_FEED) {
         return Err(Refusal::Line(number));
     }
-    let Ok(output) = filter::chosen_records(
+    let output = filter::chosen_records(
         alloc,
         patterns.as_slice(),
         listing.as_slice(),
         LINE_FEED,
-    ) else {
-        return Err(Refusal::Memory);
-    };
+    )?;
     devices::write_whole(writer, output.as_slice())
 }

@@ -2,6 +2,7 @@
 ghost use Rattle.std.specs.Prelude.{◌≡◌};
 
 use gix_pathspec::Error;
+use std::alloc::AllocError;
 
 /// Why the program ends without having done all. Its text is the line for standard error.
 #[derive(Debug, Drop, PartialEq, Eq, thiserror::Error)]
@@ -24,7 +25,7 @@ pub enum Refusal {
     /// A write failed, or took no byte.
     #[error("write")]
     Write,
-    /// Memory was wanted, and refused.
+    /// Memory ran out.
     #[error("memory")]
     Memory,
 }
@@ -32,7 +33,7 @@ pub enum Refusal {
 impl Refusal {
     ghost use Rattle.pathspec_select.specs.Refusals.{status_of};
 
-    /// The exit status.
+    /// The exit status, from 2 to 6.
     pub fn status(&self) -> u8
         ensures { result ≡ status_of self.now }
     {
@@ -43,5 +44,15 @@ impl Refusal {
             Refusal::Read | Refusal::Write => 5,
             Refusal::Memory => 6,
         }
+    }
+}
+
+impl From<AllocError> for Refusal {
+    ghost use Rattle.pathspec_select.specs.declared.refusal.Refusal.TheVariants.{Memory};
+
+    ghost from_gives = { λ _ refusal. refusal ≡ Memory };
+
+    fn from(_: AllocError) -> Refusal {
+        Refusal::Memory
     }
 }

@@ -5,4 +5,4 @@ use Rattle.pathspec_select.specs.Listing.{holds_two_slashes}
 use Rattle.pathspec_select.proofs.listing.holds_two_slashes.Given as goal
 
 abbrev pub invariant-loop-byte : goal.invariant-loop-byte
-invariant-loop-byte l = (l.behind_slash && first_is is_slash (drop l.byte-index l.text) || holds_two_slashes (drop l.byte-index l.text)) ≡ holds_two_slashes l.text
+invariant-loop-byte l = (l.after_slash && first_is is_slash (drop l.byte-index l.text) || holds_two_slashes (drop l.byte-index l.text)) ≡ holds_two_slashes l.text

@@ -3,7 +3,7 @@ use Rattle.std.proofs.Common.{◌∙◌, []}
 use Rattle.gix_pathspec.specs.Patterns.{pattern_spec}
 use Rattle.pathspec_select.specs.Listing.{table_of}
 use Rattle.pathspec_select.proofs.FilterProofs.{supported-parts}
-use Rattle.pathspec_select.proofs.filter.is_meant.Goals as goal
+use Rattle.pathspec_select.proofs.filter.matches_path.Goals as goal
 
 pub match_kind-requires : goal.match_kind-requires
 match_kind-requires c = (supported-parts (pattern_spec c.args.pattern.now) c.requires).0

@@ -1,7 +1,7 @@
 use Rattle.std.proofs.Common.{length, map, string_bytes}
 use Rattle.pathspec_select.specs.Options.{no_options, options_after}
 use Rattle.pathspec_select.proofs.OptionProofs.{ReadTo}
-use Rattle.pathspec_select.proofs.options.read_all.Given as goal
+use Rattle.pathspec_select.proofs.options.unchecked_options.Given as goal
 
 abbrev pub invariant-loop-word : goal.invariant-loop-word
 invariant-loop-word l = ReadTo (options_after no_options (map string_bytes l.words)) l.options
