@@ -41,7 +41,7 @@ module _ (table : Table) (specs : List Spec) (path : List ℕ) (is_dir : Bool) w
       let unmatched = not-true (list_any excludes_path specs) p.0 in
       record {
         not_excluded = λ s c e.
-          false_from_ne_true (means table s path is_dir) (λ m. let q = list_any-contained excludes_path specs s c (and_from (is_exclude s) (means table s path is_dir) e m) in let no : ⊥ = cc in no);
+            false_from_ne_true (means table s path is_dir) (λ m. let q = list_any-contained excludes_path specs s c (and_from (is_exclude s) (means table s path is_dir) e m) in let no : ⊥ = cc in no);
         included = elim (or_cases (list_any includes_path specs) (not (list_any is_include specs)) p.1) [
           | inl i ↦ let f = contained_where includes_path specs i in let q = and_parts (is_include f.0) (means table f.0 path is_dir) f.2 in inl (f.0, f.1, q.0, q.1)
           | inr n ↦ inr (only_excludes n)

@@ -54,10 +54,6 @@ onto-snoc : {B E : Type 0} (ys : List B) (y : B) (r : Result (List B) E) → ont
 onto-snoc ys y (Ok zs) = ap Ok (sym (append_assoc ys (y ∷ []) zs))
 onto-snoc ys y (Err e) = refl
 
-pub onto-nothing : {B E : Type 0} (r : Result (List B) E) → onto [] r ≡ r
-onto-nothing (Ok zs) = refl
-onto-nothing (Err e) = refl
-
 module _ {S A B : Type 0} (view : S → A) (step : A → Result B SpecFault) (xs : List S) (n : ℕ) (ys : List B) (all : Result (List B) WordFault) (so_far : all ≡ onto ys (try_map_from n step (map view (drop n xs)))) where
   here : (x : S) → n < length xs → x ≡ get_or xs n x → all ≡ onto ys (try_map_from n step (view x ∷ map view (drop (n + 1) xs)))
   here x l e =
@@ -71,12 +67,6 @@ module _ {S A B : Type 0} (view : S → A) (step : A → Result B SpecFault) (xs
   -- the next step is at fault
   pub try_map-fails : (x : S) (fault : WordFault) → n < length xs → x ≡ get_or xs n x → numbered_result n (step (view x)) ≡ Err fault → all ≡ Err fault
   try_map-fails x fault l e s = here x l e ∙ (rw s refl)
-
-  -- no step is left
-  pub try_map-ends : length xs ≤ n → all ≡ Ok ys
-  try_map-ends l =
-      let none : drop n xs ≡ [] = nil_from_length (drop n xs) (length-drop n xs ∙ omega arith) in
-      so_far ∙ (rw none (ap Ok (append-nil ys)))
 
 -- one more value is pushed
 pub pushed : {X B : Type 0} (view : X → B) (items more : List X) (x : X) → more ≡ items ++ x ∷ [] → map view items ++ view x ∷ [] ≡ map view more
@@ -99,15 +89,6 @@ pub normalized_spec-fails : (number : ℕ) (x : Result Spec Fault) (fault : Word
 normalized_spec-fails number (Ok s) fault h = cc
 normalized_spec-fails number (Err f) fault h = h
 
-module _ (options : Options) where
-  -- a word is at fault
-  pub specs-read : (fault : WordFault) → parsed_words options.texts ≡ Err fault → specs_of options ≡ Err fault
-  specs-read fault r = rw r refl
-
-  -- all are parsed
-  pub specs-normal : (specs listed : List Spec) (end : Result (List Spec) WordFault) → parsed_words options.texts ≡ Ok specs → listed ≡ default_to_prefix options.prefix specs → normalized_specs options.prefix options.root listed ≡ end → specs_of options ≡ end
-  specs-normal specs listed end r l n = rw (r, ← l) n
-
 module _ (words : List (List ℕ)) where
   -- the options are at fault
   pub words-options : (fault : WordFault) → options_of words ≡ Err fault → specs_of_words words ≡ Err fault
@@ -118,7 +99,3 @@ module _ (words : List (List ℕ)) where
   pub words-specs : (options : Options) → options_of words ≡ Ok options → specs_of_words words ≡ specs_of options
   unfolding specs_of_words
   words-specs options o = rw o refl
-
--- a slice written back whole
-pub written_back : {X : Type 0} (new old : List X) (n : ℕ) → n ≡ length new → take n (new ++ drop (length new) old) ≡ new
-written_back new old n e = grind (arith, common_steps)

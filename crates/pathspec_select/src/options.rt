@@ -161,14 +161,14 @@ mod tests {
             let Ok(options) = options_from_words(words.as_slice()) else {
                 return Err("refused".into());
             };
-            assert_eq!(rt; options.prefix, prefix.as_bytes(), "{line}");
-            assert_eq!(rt; options.root, root.as_bytes(), "{line}");
+            assert_eq!(rt; options.prefix, prefix.as_bytes(), "prefix in {line}");
+            assert_eq!(rt; options.root, root.as_bytes(), "root in {line}");
             let mut left = options.specs.iter();
             for spec in specs.split_whitespace() {
                 let word = left.next().ok_or("too few")?;
-                assert_eq!(rt; word.as_str(), spec, "in {line}");
+                assert_eq!(rt; word.as_str(), spec, "spec in {line}");
             }
-            assert!(rt; left.next().is_none(), "after {line}");
+            assert!(rt; left.next().is_none(), "left after {line}");
         }
         Ok(())
     }
@@ -191,7 +191,7 @@ mod tests {
         ] {
             let words = words_of(rt.alloc(), line)?;
             let refused = matches!(options_from_words(words.as_slice()), Err(Refusal::Usage));
-            assert!(rt; refused, "{line}");
+            assert!(rt; refused, "accepted: {line}");
         }
         Ok(())
     }

@@ -10,7 +10,8 @@ use std::io::{Read, Write};
 const LINE_FEED: u8 = b'\n';
 
 /// Runs `pathspec-select` over a reader and a writer: reads a listing of paths, one a line, and writes the records
-/// that the words' specs choose, in their order, each with a line feed after it.
+/// that the words' specs choose, in their order, each with a line feed after it. Its [`Refusal`] has the exit status
+/// and the line for standard error.
 ///
 /// The words are the arguments after the program's name: `--prefix P` and `--root R`, and then the specs, which are
 /// read as in the directory P of a repository that lies at R. No specs and a prefix choose what lies in the prefix.
@@ -21,9 +22,9 @@ const LINE_FEED: u8 = b'\n';
 ///
 /// # Errors
 /// The first fault, in this order: [`Refusal::Usage`]; [`Refusal::Spec`] or [`Refusal::Unsupported`] of the first
-/// spec that can't be read, and then of the first that has no normal form or is a glob; [`Refusal::Read`]; [`Refusal::Line`];
-/// [`Refusal::Write`]. [`Refusal::Memory`] comes at its place among them. Nothing is written before a fault, but
-/// for a write's.
+/// word that doesn't parse, and then of the first spec that has no normal form, is a glob or lists attributes;
+/// [`Refusal::Read`]; [`Refusal::Line`]; [`Refusal::Write`]. [`Refusal::Memory`] comes at its place among them.
+/// Nothing is written before a fault, but for a write's.
 #[tactic(auto, using(crate::proofs::ChosenProofs::chosen_is_test))]
 pub fn run<R: Read, W: Write>(
     alloc: Global,
@@ -46,11 +47,6 @@ pub fn run<R: Read, W: Write>(
     if let Some(number) = listing::first_bad(listing.as_slice(), LINE_FEED) {
         return Err(Refusal::Line(number));
     }
-    let output = filter::chosen_records(
-        alloc,
-        patterns.as_slice(),
-        listing.as_slice(),
-        LINE_FEED,
-    )?;
+    let output = filter::chosen_records(alloc, patterns.as_slice(), listing.as_slice(), LINE_FEED)?;
     devices::write_whole(writer, output.as_slice())
 }

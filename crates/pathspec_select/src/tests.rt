@@ -95,19 +95,7 @@ fn chosen_records_are_written(rt: HostRuntime) -> Result<(), Fail> {
         (":(literal)a*", "a*\nab\n", "a*\n"),
         ("a/.. b", "a\nb\n", "a\nb\n"),
         ("a/../b", "a\nb\n", "b\n"),
-    ];
-    for (words, listing, want) in rows {
-        let end = ended(rt.alloc(), words, listing.as_bytes())?;
-        assert_eq!(rt; end.line.as_str(), "", "{words}");
-        assert_eq!(rt; end.status, 0, "{words}");
-        assert_eq!(rt; end.written.as_slice(), want.as_bytes(), "{words}");
-    }
-    Ok(())
-}
-
-#[test]
-fn specs_are_read_in_a_prefix_and_a_root(rt: HostRuntime) -> Result<(), Fail> {
-    let rows = [
+        // In a prefix, and in a root.
         ("--prefix a", "a/b\nb\n", "a/b\n"),
         ("--prefix a :/b c", "b\na/b\na/c\n", "b\na/c\n"),
         ("--prefix a :(icase)B", "a/b\nA/b\n", "a/b\n"),
@@ -126,15 +114,19 @@ fn specs_are_read_in_a_prefix_and_a_root(rt: HostRuntime) -> Result<(), Fail> {
     ];
     for (words, listing, want) in rows {
         let end = ended(rt.alloc(), words, listing.as_bytes())?;
-        assert_eq!(rt; end.line.as_str(), "", "{words}");
-        assert_eq!(rt; end.status, 0, "{words}");
-        assert_eq!(rt; end.written.as_slice(), want.as_bytes(), "{words}");
+        assert_eq!(rt; end.line.as_str(), "", "line of {words}");
+        assert_eq!(rt; end.status, 0, "status of {words}");
+        assert_eq!(rt;
+            end.written.as_slice(),
+            want.as_bytes(),
+            "written for {words}"
+        );
     }
     Ok(())
 }
 
 #[test]
-fn the_first_fault_is_told_and_nothing_is_written(rt: HostRuntime) -> Result<(), Fail> {
+fn the_first_fault_is_refused_and_nothing_is_written(rt: HostRuntime) -> Result<(), Fail> {
     let rows = [
         ("-", "", 2, USAGE),
         ("-z a", "", 2, USAGE),
@@ -175,9 +167,9 @@ fn the_first_fault_is_told_and_nothing_is_written(rt: HostRuntime) -> Result<(),
     ];
     for (words, listing, status, line) in rows {
         let end = ended(rt.alloc(), words, listing.as_bytes())?;
-        assert_eq!(rt; end.line.as_str(), line, "{words}");
-        assert_eq!(rt; end.status, status, "{words}");
-        assert!(rt; end.written.is_empty(), "{words}");
+        assert_eq!(rt; end.line.as_str(), line, "line of {words}");
+        assert_eq!(rt; end.status, status, "status of {words}");
+        assert!(rt; end.written.is_empty(), "written for {words}");
     }
     Ok(())
 }
@@ -196,9 +188,9 @@ fn an_empty_word_is_an_empty_spec(rt: HostRuntime) -> Result<(), Fail> {
         &mut written,
     );
     let line = line_of(rt.alloc(), &outcome)?;
-    assert_eq!(rt; line.as_str(), "spec 1: Empty");
-    assert_eq!(rt; status_of(&outcome), 3);
-    assert!(rt; written.is_empty());
+    assert_eq!(rt; line.as_str(), "spec 1: Empty", "line");
+    assert_eq!(rt; status_of(&outcome), 3, "status");
+    assert!(rt; written.is_empty(), "written");
     Ok(())
 }
 
@@ -216,8 +208,8 @@ fn refusals_have_a_line_each(rt: HostRuntime) -> Result<(), Fail> {
     ];
     for (refusal, status, line) in rows.iter() {
         let printed = refusal.to_string(rt.alloc())?;
-        assert_eq!(rt; printed.as_str(), *line);
-        assert_eq!(rt; refusal.status(), *status);
+        assert_eq!(rt; printed.as_str(), *line, "line of {line}");
+        assert_eq!(rt; refusal.status(), *status, "status of {line}");
     }
     Ok(())
 }
@@ -232,8 +224,8 @@ fn records_hold_any_bytes(rt: HostRuntime) -> Result<(), Fail> {
     }
     listing.push(b'\n')?;
     let end = ended(rt.alloc(), ":!a", listing.as_slice())?;
-    assert_eq!(rt; end.status, 0);
-    assert_eq!(rt; end.written.as_slice(), listing.as_slice());
+    assert_eq!(rt; end.status, 0, "status");
+    assert_eq!(rt; end.written.as_slice(), listing.as_slice(), "written");
     Ok(())
 }
 
@@ -242,8 +234,8 @@ fn one_record_may_be_long(rt: HostRuntime) -> Result<(), Fail> {
     let mut listing = vec![in rt.alloc(); b'a'; 1000000]?;
     let whole = ended(rt.alloc(), ":!b", listing.as_slice())?;
     listing.push(b'\n')?;
-    assert_eq!(rt; whole.status, 0);
-    assert_eq!(rt; whole.written.as_slice(), listing.as_slice());
+    assert_eq!(rt; whole.status, 0, "status");
+    assert_eq!(rt; whole.written.as_slice(), listing.as_slice(), "written");
     Ok(())
 }
 
@@ -268,7 +260,7 @@ impl<'a> Read for Faltering<'a> {
 }
 
 #[test]
-fn a_failed_read_is_told(rt: HostRuntime) -> Result<(), Fail> {
+fn a_failed_read_is_refused(rt: HostRuntime) -> Result<(), Fail> {
     let words = words_of(rt.alloc(), "a")?;
     for fault in [ErrorKind::BrokenPipe, ErrorKind::Interrupted] {
         for given in ["", "a", "a\n", "/"] {
@@ -285,9 +277,9 @@ fn a_failed_read_is_told(rt: HostRuntime) -> Result<(), Fail> {
                 &mut written,
             );
             let line = line_of(rt.alloc(), &outcome)?;
-            assert_eq!(rt; line.as_str(), "read", "behind {given}");
-            assert_eq!(rt; status_of(&outcome), 5);
-            assert!(rt; written.is_empty());
+            assert_eq!(rt; line.as_str(), "read", "line after {given}");
+            assert_eq!(rt; status_of(&outcome), 5, "status after {given}");
+            assert!(rt; written.is_empty(), "written after {given}");
         }
     }
     Ok(())
@@ -344,16 +336,21 @@ fn a_writer_may_take_one_byte_a_call(rt: HostRuntime) -> Result<(), Fail> {
             &mut reader,
             &mut writer,
         );
-        let told = line_of(rt.alloc(), &outcome)?;
-        assert_eq!(rt; told.as_str(), line, "{left} calls");
-        assert_eq!(rt; status_of(&outcome), if line.is_empty() { 0 } else { 5 });
-        assert_eq!(rt; writer.taken.as_slice(), taken.as_bytes(), "{left} calls");
+        let printed = line_of(rt.alloc(), &outcome)?;
+        let status = if line.is_empty() { 0 } else { 5 };
+        assert_eq!(rt; printed.as_str(), line, "line after {left} calls");
+        assert_eq!(rt; status_of(&outcome), status, "status after {left} calls");
+        assert_eq!(rt;
+            writer.taken.as_slice(),
+            taken.as_bytes(),
+            "taken in {left} calls"
+        );
     }
     Ok(())
 }
 
 #[test]
-fn a_refused_growth_is_told_as_want_of_memory(rt: HostRuntime) -> Result<(), Fail> {
+fn a_refused_growth_tells_that_memory_ran_out(rt: HostRuntime) -> Result<(), Fail> {
     let words = words_of(rt.alloc(), "a ./b/ :!a/x")?;
     let mut reader = b"a/x\na/y\nb/\nb\n".as_slice();
     let mut written = Vec::with_capacity(rt.alloc(), 64)?;
@@ -364,10 +361,10 @@ fn a_refused_growth_is_told_as_want_of_memory(rt: HostRuntime) -> Result<(), Fai
         &mut reader,
         &mut written,
     ) {
-        Ok(()) => assert_eq!(rt; written.as_slice(), b"a/y\nb/\n".as_slice()),
+        Ok(()) => assert_eq!(rt; written.as_slice(), b"a/y\nb/\n".as_slice(), "written"),
         Err(refusal) => {
-            assert_eq!(rt; refusal.status(), 6);
-            assert!(rt; written.is_empty());
+            assert_eq!(rt; refusal.status(), 6, "status");
+            assert!(rt; written.is_empty(), "written");
         }
     }
     Ok(())

@@ -47,14 +47,15 @@ fn default_to_prefix(
     patterns: Vec<Pattern>,
     prefix: &[u8],
 ) -> Result<Vec<Pattern>, Refusal>
-    ensures specs { IfOk result
-        (λ ps. map pattern_spec ps.items ≡ default_to_prefix prefix.now (map pattern_spec patterns.items)) }
+    ensures specs { IfOk result (λ ps. map pattern_spec ps.items
+        ≡ default_to_prefix prefix.now (map pattern_spec patterns.items)) }
     ensures memory { IfErr result (λ e. e ≡ Refusal.Memory) }
 {
     let mut patterns = patterns;
     if patterns.is_empty() && !prefix.is_empty() {
-        let directory = Pattern::from_literal(alloc, b"", MagicSignature::MUST_BE_DIR)
-            .map_err(|_| Refusal::Memory)?;
+        let directory = Pattern::from_literal(alloc, b"", MagicSignature::MUST_BE_DIR).map_err(
+            |_| Refusal::Memory,
+        )?;
         if patterns.push(directory).is_err() {
             return Err(Refusal::Memory);
         }
