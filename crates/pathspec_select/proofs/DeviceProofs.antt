@@ -7,7 +7,7 @@ use Rattle.std.specs.Io.KnownBytes.{Appends}
 abbrev pub AppendsUpTo : Option (List ℕ) → Option (List ℕ) → List ℕ → List ℕ → Type 0
 AppendsUpTo old new bs rest = (front : List ℕ) × (bs ≡ front ++ rest) × Appends old new front
 
--- one write behind another
+-- one write after another
 appends-append : (old between new : Option (List ℕ)) (xs ys : List ℕ) → Appends old between xs → Appends between new ys → Appends old new (xs ++ ys)
 appends-append None between new xs ys p q = tt
 appends-append (Some a) None new xs ys p q = absurd p
@@ -20,6 +20,6 @@ appends-more old between new bs rest left n p q l =
     let whole : bs ≡ (p.0 ++ take n rest) ++ left = p.1 ∙ (ap (λ t. p.0 ++ t) (sym (take-append-drop n rest) ∙ ap (λ t. take n rest ++ t) (sym l)) ∙ sym (append_assoc p.0 (take n rest) left)) in
     (p.0 ++ take n rest, whole, appends-append old between new p.0 (take n rest) p.2 q)
 
--- all that stands behind the first n bytes
+-- all that stands after the first n bytes
 pub rest-whole : (n : ℕ) (xs : List ℕ) → take (length xs - n) (drop n xs) ≡ drop n xs
 rest-whole n xs = take_all (length xs - n) (drop n xs) (omega (arith, length-drop n xs))

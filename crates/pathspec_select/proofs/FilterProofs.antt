@@ -22,17 +22,17 @@ unfolding is_supported
 supported-parts s h = let p = and_parts (not (is_glob s)) (is_empty s.attributes) h in (not-true (is_glob s) p.0, p.1)
 
 module _ (table : Table) (path : List ℕ) (is_dir : Bool) where
-  -- some exclude of these means the path
-  abbrev pub out : List Pattern → Bool
-  out ps = list_any (λ p. is_exclude (pattern_spec p) && means table (pattern_spec p) path is_dir) ps
+  -- some exclude of these matches the path
+  abbrev pub is_excluded : List Pattern → Bool
+  is_excluded ps = list_any (λ p. is_exclude (pattern_spec p) && means table (pattern_spec p) path is_dir) ps
 
   -- some include of these does
-  abbrev pub into : List Pattern → Bool
-  into ps = list_any (λ p. is_include (pattern_spec p) && means table (pattern_spec p) path is_dir) ps
+  abbrev pub is_included : List Pattern → Bool
+  is_included ps = list_any (λ p. is_include (pattern_spec p) && means table (pattern_spec p) path is_dir) ps
 
   -- the path is chosen by these, where it may be included already
-  abbrev pub passes : Bool → List Pattern → Bool
-  passes included ps = not (out ps) && (included || into ps)
+  abbrev pub is_chosen_from : Bool → List Pattern → Bool
+  is_chosen_from included ps = not (is_excluded ps) && (included || is_included ps)
 
   or-turned : (a b : Bool) → (a || b) ≡ (b || a)
   or-turned true true = refl
@@ -41,11 +41,11 @@ module _ (table : Table) (path : List ℕ) (is_dir : Bool) where
   or-turned false false = refl
 
   -- before the first spec a path is included where there is no include
-  pub chosen-passes : (ps : List Pattern) (included : Bool) → included ≡ not (list_any (λ p. is_include (pattern_spec p)) ps) → chosen table (map pattern_spec ps) path is_dir ≡ passes included ps
+  pub chosen-is_chosen_from : (ps : List Pattern) (included : Bool) → included ≡ not (list_any (λ p. is_include (pattern_spec p)) ps) → chosen table (map pattern_spec ps) path is_dir ≡ is_chosen_from included ps
   unfolding chosen
-  chosen-passes ps included e =
+  chosen-is_chosen_from ps included e =
       rw (list_any-map pattern_spec (λ s. is_exclude s && means table s path is_dir) ps, list_any-map pattern_spec (λ s. is_include s && means table s path is_dir) ps, list_any-map pattern_spec is_include ps)
-      (ap (λ b. not (out ps) && b) (or-turned (into ps) _ ∙ ap (λ b. b || into ps) (sym e)))
+      (ap (λ b. not (is_excluded ps) && b) (or-turned (is_included ps) _ ∙ ap (λ b. b || is_included ps) (sym e)))
 
 -- ---- what is written
 

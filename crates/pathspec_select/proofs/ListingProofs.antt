@@ -1,4 +1,4 @@
--- Records one behind the other, and the slashes in them.
+-- Records one after the other, and the slashes in them.
 use Rattle.std.proofs.Common.{◌≡◌, ℕ, Bool, false, ◌⊎◌, inl, inr, refl, sym, ◌∙◌, ap, List, [], ◌∷◌, cond, ◌==◌, length, arith}
 use Rattle.std.proofs.lemmas.Bool.{cases_Bool, ne_eqb}
 use Rattle.std.proofs.Math.Numerals.{one-add, add-one}
@@ -9,7 +9,7 @@ use Rattle.pathspec_select.specs.Listing.{records, without_empty_end}
 -- ---- the first record
 
 module _ (p : ℕ → Bool) where
-  -- the parts behind the first
+  -- the parts after the first
   others : List ℕ → List (List ℕ)
   others [] = []
   others (b ∷ bs) = cond (p b) (slice_split p bs) (others bs)
@@ -22,7 +22,7 @@ module _ (p : ℕ → Bool) where
     | inr h ↦ rw (h, one-add) (ap (onto_first b) (split-first bs))
   ]
 
-  -- the parts of what stands behind the first separator; without one there are none, and the first part is all
+  -- the parts of what stands after the first separator; without one there are none, and the first part is all
   others-rest : (bytes : List ℕ) → (others bytes ≡ slice_split p (after_first p bytes)) ⊎ ((others bytes ≡ []) × (after_first p bytes ≡ []) × (before_first p bytes ≡ bytes))
   unfolding others
   others-rest [] = inr (refl, refl, refl)

@@ -73,13 +73,13 @@ longer_name_is_unknown : options_of (codes "--prefix=a" ∷ codes "b" ∷ []) �
 unfolding options_of
 longer_name_is_unknown = refl
 
-all_behind_a_spec_are_specs : options_of (codes "a" ∷ codes "--" ∷ codes "b" ∷ []) ≡ asked [] [] (codes "a" ∷ codes "--" ∷ codes "b" ∷ [])
+all_after_a_spec_are_specs : options_of (codes "a" ∷ codes "--" ∷ codes "b" ∷ []) ≡ asked [] [] (codes "a" ∷ codes "--" ∷ codes "b" ∷ [])
 unfolding options_of
-all_behind_a_spec_are_specs = refl
+all_after_a_spec_are_specs = refl
 
-all_behind_the_end_are_specs : options_of (codes "--" ∷ codes "--prefix" ∷ codes "a" ∷ []) ≡ asked [] [] (codes "--prefix" ∷ codes "a" ∷ [])
+all_after_the_end_are_specs : options_of (codes "--" ∷ codes "--prefix" ∷ codes "a" ∷ []) ≡ asked [] [] (codes "--prefix" ∷ codes "a" ∷ [])
 unfolding options_of
-all_behind_the_end_are_specs = refl
+all_after_the_end_are_specs = refl
 
 empty_prefix : options_of (codes "--prefix" ∷ [] ∷ codes "x" ∷ []) ≡ asked [] [] (codes "x" ∷ [])
 unfolding options_of

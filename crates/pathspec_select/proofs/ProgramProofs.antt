@@ -30,7 +30,7 @@ module _ (words : List (List ℕ)) (input known : Option (List ℕ)) where
   refuses-words refusal.Write h o = absurd h
   refuses-words refusal.Memory h o = (λ e. let clash = o e in cc, keeps-itself known)
 
-  -- a failed read, or want of memory while reading
+  -- a failed read, or memory that ran out while reading
   pub refuses-reading : (specs : List Spec) (r : Refusal) → specs_of_words words ≡ Ok specs → IsReadOrMemory r → Refuses words input known known r
   refuses-reading specs refusal.Usage s h = absurd h
   refuses-reading specs (refusal.Spec number error) s h = absurd h

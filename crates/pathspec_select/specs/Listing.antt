@@ -28,7 +28,7 @@ record_is_dir r = ends_with_slash r
 abbrev pub record_path : List ℕ → List ℕ
 record_path r = without_last_slash r
 
--- a slash with a slash behind it
+-- a slash right after a slash
 abbrev pub holds_two_slashes : List ℕ → Bool
 holds_two_slashes [] = false
 holds_two_slashes (b ∷ bs) = is_slash b && first_is is_slash bs || holds_two_slashes bs
@@ -43,7 +43,7 @@ first_bad rs = position_from is_bad 1 rs
 
 -- ---- what is written
 
--- What is written for a listing: each chosen record with one separator behind it.
+-- What is written for a listing: each chosen record with one separator after it.
 unfoldable pub output : Table → List Spec → ℕ → List (List ℕ) → List ℕ
 output table specs separator rs = flat_map (λ r. r ++ separator ∷ []) (filter (λ r. chosen table specs (record_path r) (record_is_dir r)) rs)
 

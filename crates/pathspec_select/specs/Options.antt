@@ -15,7 +15,7 @@ pub record Options : Type 0 where
 
 -- what a word says where options are read
 pub data OptionWord : Type 0 where
-  -- the words behind it are specs
+  -- the words after it are specs
   EndsOptions : OptionWord
   -- the next word is the prefix
   NamesPrefix : OptionWord
@@ -23,7 +23,7 @@ pub data OptionWord : Type 0 where
   NamesRoot : OptionWord
   -- no option has this name
   IsUnknown : OptionWord
-  -- it is a spec, and so are the words behind it
+  -- it is a spec, and so are the words after it
   BeginsSpecs : OptionWord
 
 -- what these bytes say
@@ -59,7 +59,7 @@ with_specs NamesRoot word words options = Err Usage
 with_specs IsUnknown word words options = Err Usage
 with_specs BeginsSpecs word words options = Ok (record options { texts = word ∷ words })
 
--- options, and what the words behind them say
+-- options, and what the words after them say
 abbrev pub options_after : Options → List (List ℕ) → Result Options WordFault
 options_after options [] = Ok options
 options_after options (word ∷ []) = with_specs (option_word word) word [] options

@@ -28,7 +28,7 @@ fn environment<R: Env + Alloc<A = Global>>(rt: &R) -> Result<Environment, Refusa
     })
 }
 
-/// The words behind the program's name.
+/// The words after the program's name.
 fn words<R: Env + Alloc<A = Global>>(rt: &R) -> Result<Vec<String>, Refusal> {
     let mut words = Vec::new(rt.alloc());
     for word in env::args(rt).map_err(|error| refused(&error))?.skip(1) {
@@ -37,7 +37,7 @@ fn words<R: Env + Alloc<A = Global>>(rt: &R) -> Result<Vec<String>, Refusal> {
     Ok(words)
 }
 
-/// Words that aren't UTF-8 are a wrong use; the other cause is want of memory.
+/// Words that aren't UTF-8 are a wrong use; the other cause is memory that ran out.
 fn refused(error: &io::Error) -> Refusal {
     if error.kind() == ErrorKind::OutOfMemory {
         Refusal::Memory
