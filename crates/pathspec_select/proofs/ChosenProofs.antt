@@ -12,7 +12,7 @@ use Rattle.gix_pathspec.specs.Matching.{means, chosen, IsChosen}
 use Rattle.pathspec_select.specs.Listing.{records, output, table_of, record_path, record_is_dir}
 use Rattle.pathspec_select.specs.Words.{specs_of_words}
 use Rattle.pathspec_select.specs.Program.{line_feed, IsAllOf, output_of}
-use Rattle.pathspec_select.specs.Choice.{ChosenIsTest, OrderIsFree, IsSelection, IsChosenRecord, lines_of, WritesChosen}
+use Rattle.pathspec_select.specs.Choice.{ChosenIsTest, OrderIsFree, IsSelection, IsChosenRecord, WritesChosen}
 use Rattle.pathspec_select.specs.Choice.IsSelection.{none, keep, drop}
 
 list_any-contained : {X : Type 0} (p : X → Bool) (xs : List X) (x : X) → Contains xs x → p x ≡ true → list_any p xs ≡ true

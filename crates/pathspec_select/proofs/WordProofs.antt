@@ -1,6 +1,6 @@
 -- Words parsed and specs normalised one after the other, and the first fault.
-use Rattle.std.proofs.Common.{◌≡◌, ℕ, ◌+◌, ◌<◌, ◌≤◌, Bool, false, refl, sym, ◌∙◌, ap, List, [], ◌∷◌, ◌++◌, length, take, drop, map, get_or, Some, None, Option, Ok, Err, Result, IfSome, MatchOption, arith, append_assoc}
-use Rattle.std.proofs.lemmas.List.{append-nil, map-append, nil_from_length, length-drop}
+use Rattle.std.proofs.Common.{◌≡◌, ℕ, ◌+◌, ◌<◌, Bool, false, refl, sym, ◌∙◌, ap, List, [], ◌∷◌, ◌++◌, length, drop, map, get_or, Some, None, Option, Ok, Err, Result, IfSome, MatchOption, append_assoc}
+use Rattle.std.proofs.lemmas.List.{map-append}
 use Rattle.std.proofs.Math.Seq.{drop-cons}
 use Rattle.std.proofs.Math.Numerals.{add-one}
 use Rattle.gix_pathspec.specs.declared.error.Error.{Error}
@@ -16,9 +16,8 @@ use Rattle.pathspec_select.specs.declared.refusal.Refusal.{Refusal}
 use Rattle.pathspec_select.specs.declared.refusal.Refusal.TheVariants as refusal
 use Rattle.pathspec_select.specs.WordFaults.{SpecFault, WordFault}
 use Rattle.pathspec_select.specs.Options.{Options, options_of}
-use Rattle.pathspec_select.specs.Words.{spec_result, numbered_result, try_map_from, parsed_word, parsed_words, normalized_specs, if_supported, default_to_prefix, specs_of, specs_of_words}
+use Rattle.pathspec_select.specs.Words.{spec_result, numbered_result, try_map_from, parsed_word, if_supported, specs_of, specs_of_words}
 use Rattle.gix_pathspec.specs.Specs.{Spec}
-use Rattle.std.proofs.lemmas.Grind.{common_steps}
 use Rattle.pathspec_select.specs.Refusals.{TellsWordFault}
 
 -- ---- one spec

@@ -2,7 +2,7 @@
 use Rattle.std.proofs.Common.{refl, map, string_bytes}
 use Rattle.std.proofs.lemmas.Result.{err_from_is_err_and}
 use Rattle.gix_pathspec.specs.Patterns.{pattern_spec}
-use Rattle.pathspec_select.proofs.ProgramProofs.{refuses-words, refuses-reading, options-right, keeps-itself}
+use Rattle.pathspec_select.proofs.ProgramProofs.{refuses-words, refuses-reading}
 use Rattle.pathspec_select.proofs.ChosenProofs.{order_is_free, writes_chosen}
 use Rattle.pathspec_select.proofs.program.run.Goals as goal
 
