@@ -15,12 +15,12 @@ abbrev pub matches_path : Pattern → List ℕ → Bool → Bool
 matches_path pattern path is_dir = means (table_of []) (pattern_spec pattern) path is_dir
 
 -- whether patterns choose a path
-abbrev pub is_chosen : List Pattern → List ℕ → Bool → Bool
-is_chosen patterns path is_dir = chosen (table_of []) (map pattern_spec patterns) path is_dir
+abbrev pub patterns_choose : List Pattern → List ℕ → Bool → Bool
+patterns_choose patterns path is_dir = chosen (table_of []) (map pattern_spec patterns) path is_dir
 
 -- whether they choose a record
 abbrev pub is_chosen_record : List Pattern → List ℕ → Bool
-is_chosen_record patterns r = is_chosen patterns (record_path r) (record_is_dir r)
+is_chosen_record patterns r = patterns_choose patterns (record_path r) (record_is_dir r)
 
 -- what is written for a listing: the chosen records, each with one separator after it
 abbrev pub chosen_records : List Pattern → ℕ → List ℕ → List ℕ

@@ -5,7 +5,7 @@ ghost use Rattle.bstr.specs.BStr.{bstr_bytes};
 ghost use Rattle.gix_pathspec.specs.Specs.{is_include};
 ghost use Rattle.gix_pathspec.specs.Patterns.{pattern_spec};
 ghost use Rattle.pathspec_select.specs.Words.{is_supported};
-ghost use Rattle.pathspec_select.specs.Filter.{AreSupported, matches_path, is_chosen, is_chosen_record, chosen_records};
+ghost use Rattle.pathspec_select.specs.Filter.{AreSupported, matches_path, patterns_choose, is_chosen_record, chosen_records};
 
 use crate::listing;
 use bstr::BStr;
@@ -48,7 +48,7 @@ fn is_chosen_record(patterns: &[Pattern], text: &[u8]) -> bool
 /// Whether a path is chosen: no exclude matches it, and some include does or there is no include.
 fn is_chosen(patterns: &[Pattern], path: BStr<'_>, is_dir: bool) -> bool
     requires { AreSupported patterns.now }
-    ensures { result ≡ is_chosen patterns.now (bstr_bytes path.entry) is_dir }
+    ensures { result ≡ patterns_choose patterns.now (bstr_bytes path.entry) is_dir }
 {
     let mut included = !has_include(patterns);
     for pattern in patterns {
