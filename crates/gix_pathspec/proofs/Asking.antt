@@ -24,8 +24,8 @@ spec path signature mode = record { path = path; signature = signature; mode = m
 abbrev pub spec_with : List ℕ → ℕ → SearchMode → List Assignment → Spec
 spec_with path signature mode attributes = record { path = path; signature = signature; mode = mode; attributes = attributes; nil = false; prefix_length = 0 }
 
-abbrev pub assigned : List ℕ → State → Assignment
-assigned name state = record { name = name; state = state }
+abbrev pub apply_assignments : List ℕ → State → Assignment
+apply_assignments name state = record { name = name; state = state }
 
 -- what a text says without defaults
 unfoldable pub parse : List ℕ → Result Spec Fault

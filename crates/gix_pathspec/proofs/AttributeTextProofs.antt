@@ -10,10 +10,10 @@ use Rattle.std.specs.Char.{is_ascii_alphanumeric}
 use Rattle.pathspec_parts.specs.Bytes.{space, bang, dash, comma, equals_sign, backslash, is_one_of, is_empty, first_is}
 use Rattle.gix_pathspec.specs.Results.{all_ok, ◌>>=◌}
 use Rattle.pathspec_parts.specs.Attributes.{State, Assignment, is_attribute_name}
-use Rattle.gix_pathspec.specs.AttributeLists.{named, valued, value_of, units_from, byte_of, is_value_byte, assignment_of, assignments_of, parts}
+use Rattle.gix_pathspec.specs.AttributeLists.{assignment_with_state, assignment_with_value, value_of, units_from, unit_byte, is_value_byte, assignment_of, assignments_of, parts}
 use Rattle.pathspec_parts.specs.Attributes.State.{Set, Unset, Value, Unspecified}
 use Rattle.gix_pathspec.specs.LongText.{state_text, with_escapes, assignment_text, list_text}
-use Rattle.gix_pathspec.specs.RoundTrips.{is_written_state, is_set, is_sayable_assignment}
+use Rattle.gix_pathspec.specs.RoundTrips.{is_expressible_state, is_set, is_expressible_assignment}
 
 -- ---- bytes that do not stand in a text
 
@@ -30,13 +30,13 @@ none_such p x (b ∷ bs) f h = let q = and_parts (p b) (list_all p bs) h in or_f
 pub list_any-append_none : (p : ℕ → Bool) (xs ys : List ℕ) → list_any p xs ≡ false → list_any p ys ≡ false → list_any p (xs ++ ys) ≡ false
 list_any-append_none p xs ys h k = list_any-append p xs ys ∙ or_from (list_any p xs) (list_any p ys) h k
 
--- a byte that passes is found behind a front
+-- a byte that passes is found after a front
 list_any-append_hit : (p : ℕ → Bool) (xs : List ℕ) (y : ℕ) (ys : List ℕ) → p y ≡ true → list_any p (xs ++ y ∷ ys) ≡ true
 list_any-append_hit p xs y ys h = list_any-append p xs (y ∷ ys) ∙ or_right (list_any p xs) (p y || list_any p ys) (or_left (p y) (list_any p ys) h)
 
 -- ---- the first byte that passes
 
--- behind a front without such a byte, the first that passes stands at the front's length
+-- after a front without such a byte, the first that passes stands at the front's length
 position-append : (p : ℕ → Bool) (xs : List ℕ) (y : ℕ) (ys : List ℕ) → list_any p xs ≡ false → p y ≡ true → position_or_len p (xs ++ y ∷ ys) ≡ length xs
 position-append p [] y ys h k = rw k refl
 position-append p (x ∷ xs) y ys h k = let q = or_parts (p x) (list_any p xs) h in rw (q.0, position-append p xs y ys q.1 k) (one-add (length xs))
@@ -45,7 +45,7 @@ position-append p (x ∷ xs) y ys h k = let q = or_parts (p x) (list_any p xs) h
 before-append : (p : ℕ → Bool) (xs : List ℕ) (y : ℕ) (ys : List ℕ) → list_any p xs ≡ false → p y ≡ true → before_first p (xs ++ y ∷ ys) ≡ xs
 before-append p xs y ys h k = rw (position-append p xs y ys h k) (take-append_seam xs (y ∷ ys))
 
--- and the rest what stands behind it
+-- and the rest what stands after it
 after-append : (p : ℕ → Bool) (xs : List ℕ) (y : ℕ) (ys : List ℕ) → list_any p xs ≡ false → p y ≡ true → after_first p (xs ++ y ∷ ys) ≡ ys
 after-append p xs y ys h k = rw (position-append p xs y ys h k) (drop-append-add xs (y ∷ ys) 1)
 
@@ -70,7 +70,7 @@ with_escapes-lacks x (b ∷ xs) s c h =
 -- ---- a value
 
 -- each byte of a value, with its backslash where it is a comma, reads as itself
-value_units : (w v : List ℕ) → list_all is_value_byte v ≡ true → all_ok (map (byte_of w) (units_from false (with_escapes v))) ≡ Ok v
+value_units : (w v : List ℕ) → list_all is_value_byte v ≡ true → all_ok (map (unit_byte w) (units_from false (with_escapes v))) ≡ Ok v
 value_units w [] h = refl
 value_units w (b ∷ v) h =
     let q = and_parts (is_value_byte b) (list_all is_value_byte v) h in
@@ -91,7 +91,7 @@ abbrev pub is_name_byte : ℕ → Bool
 is_name_byte b = is_ascii_alphanumeric b || is_one_of (codes "-._") b
 
 -- a valid name has no fault
-named_ok : (state : State) (name : List ℕ) → is_attribute_name name ≡ true → named state name ≡ Ok (record { name = name; state = state })
+named_ok : (state : State) (name : List ℕ) → is_attribute_name name ≡ true → assignment_with_state state name ≡ Ok (record { name = name; state = state })
 named_ok state name h = rw h refl
 
 -- what is known of a name
@@ -114,22 +114,22 @@ is_name name h =
     record { bytes = q.0; bang = first_bang name q.0; dash = not-true (first_is (λ b. b == dash) name) q.1; equals = none_such is_name_byte equals_sign name refl q.0; comma = none_such is_name_byte comma name refl q.0 }
 
 -- a bare name is set
-assignment_of-set : (name : List ℕ) → IsName name → assignment_of name ≡ named Set name
+assignment_of-set : (name : List ℕ) → IsName name → assignment_of name ≡ assignment_with_state Set name
 unfolding assignment_of
 assignment_of-set name h = rw (h.bang, h.dash, h.equals) refl
 
--- a name behind `-` is unset
-assignment_of-unset : (name : List ℕ) → assignment_of (dash ∷ name) ≡ named Unset name
+-- a name after `-` is unset
+assignment_of-unset : (name : List ℕ) → assignment_of (dash ∷ name) ≡ assignment_with_state Unset name
 unfolding assignment_of
 assignment_of-unset name = refl
 
--- a name behind `!` is unspecified
-assignment_of-unspecified : (name : List ℕ) → assignment_of (bang ∷ name) ≡ named Unspecified name
+-- a name after `!` is unspecified
+assignment_of-unspecified : (name : List ℕ) → assignment_of (bang ∷ name) ≡ assignment_with_state Unspecified name
 unfolding assignment_of
 assignment_of-unspecified name = refl
 
--- a name before `=` has the value that is written behind it
-assignment_of-value : (name written : List ℕ) → IsName name → assignment_of (name ++ equals_sign ∷ written) ≡ valued name written
+-- a name before `=` has the value that is written after it
+assignment_of-value : (name written : List ℕ) → IsName name → assignment_of (name ++ equals_sign ∷ written) ≡ assignment_with_value name written
 unfolding assignment_of
 assignment_of-value [] written h = refl
 assignment_of-value (n ∷ ns) written h =
@@ -141,40 +141,40 @@ with_escapes-value [] v h = refl
 with_escapes-value (x ∷ xs) v h = let q = or_parts (x == comma) (list_any (λ b. b == comma) xs) h in rw (q.0, with_escapes-value xs v q.1) refl
 
 -- an assignment that a list can say reads back
-assignment_back : (name : List ℕ) (state : State) → is_attribute_name name ≡ true → is_written_state state ≡ true → assignment_of (with_escapes (state_text name state)) ≡ Ok (record { name = name; state = state })
+assignment_back : (name : List ℕ) (state : State) → is_attribute_name name ≡ true → is_expressible_state state ≡ true → assignment_of (with_escapes (state_text name state)) ≡ Ok (record { name = name; state = state })
 assignment_back name Set h w = let q = is_name name h in ap assignment_of (with_escapes-none name q.comma) ∙ (assignment_of-set name q ∙ named_ok Set name h)
 assignment_back name Unset h w = let q = is_name name h in ap assignment_of (with_escapes-none (dash ∷ name) q.comma) ∙ (assignment_of-unset name ∙ named_ok Unset name h)
 assignment_back name Unspecified h w = let q = is_name name h in ap assignment_of (with_escapes-none (bang ∷ name) q.comma) ∙ (assignment_of-unspecified name ∙ named_ok Unspecified name h)
 assignment_back name (Value v) h w =
     let q = is_name name h in
-    ap assignment_of (with_escapes-value name v q.comma) ∙ (assignment_of-value name (with_escapes v) q ∙ (ap (λ r. r >>= λ x. named (Value x) name) (value_back v w) ∙ named_ok (Value v) name h))
+    ap assignment_of (with_escapes-value name v q.comma) ∙ (assignment_of-value name (with_escapes v) q ∙ (ap (λ r. r >>= λ x. assignment_with_state (Value x) name) (value_back v w) ∙ named_ok (Value v) name h))
 
 -- ---- a list
 
 -- what is known of such an assignment
 record IsSayableParts (a : Assignment) : Type 0 where
   pub name : is_attribute_name a.name ≡ true
-  pub state : is_written_state a.state ≡ true
+  pub state : is_expressible_state a.state ≡ true
   pub alone : (is_set a.state && is_empty a.name) ≡ false
 
 -- the test of it by its parts
-sayable_parts : (a : Assignment) → is_sayable_assignment a ≡ true → IsSayableParts a
+sayable_parts : (a : Assignment) → is_expressible_assignment a ≡ true → IsSayableParts a
 sayable_parts a h =
-    let q = and_parts (is_attribute_name a.name && is_written_state a.state) (not (is_set a.state && is_empty a.name)) h in
-    let r = and_parts (is_attribute_name a.name) (is_written_state a.state) q.0 in
+    let q = and_parts (is_attribute_name a.name && is_expressible_state a.state) (not (is_set a.state && is_empty a.name)) h in
+    let r = and_parts (is_attribute_name a.name) (is_expressible_state a.state) q.0 in
     record { name = r.0; state = r.1; alone = not-true (is_set a.state && is_empty a.name) q.1 }
 
 -- so do those of a list, each by itself
-assignments_back : (list : List Assignment) → list_all is_sayable_assignment list ≡ true → all_ok (map assignment_of (map assignment_text list)) ≡ Ok list
+assignments_back : (list : List Assignment) → list_all is_expressible_assignment list ≡ true → all_ok (map assignment_of (map assignment_text list)) ≡ Ok list
 assignments_back [] h = refl
 assignments_back (a ∷ list) h =
-    let q = and_parts (is_sayable_assignment a) (list_all is_sayable_assignment list) h in
+    let q = and_parts (is_expressible_assignment a) (list_all is_expressible_assignment list) h in
     let p = sayable_parts a q.0 in
     rw (assignment_back a.name a.state p.name p.state, assignments_back list q.1) refl
 
 -- what the text of a state lacks: what neither names nor values hold, and what stands for no state
 state_text-lacks : (x : ℕ) (name : List ℕ) (state : State) → is_name_byte x ≡ false → is_value_byte x ≡ false → list_any (λ b. b == x) (bang ∷ dash ∷ equals_sign ∷ []) ≡ false
-    → list_all is_name_byte name ≡ true → is_written_state state ≡ true → list_any (λ b. b == x) (state_text name state) ≡ false
+    → list_all is_name_byte name ≡ true → is_expressible_state state ≡ true → list_any (λ b. b == x) (state_text name state) ≡ false
 state_text-lacks x name Set n v m h w = none_such is_name_byte x name n h
 state_text-lacks x name Unset n v m h w =
     let q = or_parts (bang == x) ((dash == x) || ((equals_sign == x) || false)) m in let r = or_parts (dash == x) ((equals_sign == x) || false) q.1 in
@@ -187,7 +187,7 @@ state_text-lacks x name (Value u) n v m h w =
     list_any-append_none (λ b. b == x) name (equals_sign ∷ u) (none_such is_name_byte x name n h) (or_from (equals_sign == x) (list_any (λ b. b == x) u) t.0 (none_such is_value_byte x u v w))
 
 -- its name has only bytes of names
-name_bytes : (a : Assignment) → is_sayable_assignment a ≡ true → list_all is_name_byte a.name ≡ true
+name_bytes : (a : Assignment) → is_expressible_assignment a ≡ true → list_all is_name_byte a.name ≡ true
 name_bytes a h = (and_parts (list_all is_name_byte a.name) (not (first_is (λ b. b == dash) a.name)) (sayable_parts a h).name).0
 
 -- escapes leave no text empty
@@ -262,7 +262,7 @@ is_empty-join x (y ∷ xs) h =
     is_empty-append x (space ∷ join_with_byte space (y ∷ xs)) (not-true (is_empty x) (and_parts (not (is_empty x)) (not (list_any is_space x)) q.0).0)
 
 -- the text of a written assignment is a part
-is_part-assignment : (a : Assignment) → is_sayable_assignment a ≡ true → is_part (assignment_text a) ≡ true
+is_part-assignment : (a : Assignment) → is_expressible_assignment a ≡ true → is_part (assignment_text a) ≡ true
 is_part-assignment a h =
     let q = sayable_parts a h in
     let e = is_empty-state_text a.name a.state q.alone in
@@ -270,14 +270,14 @@ is_part-assignment a h =
     and_from (not (is_empty (assignment_text a))) (not (list_any is_space (assignment_text a))) (not_from_false (is_empty (assignment_text a)) e) (not_from_false (list_any is_space (assignment_text a)) s)
 
 -- so are those of a list's assignments
-are_parts : (list : List Assignment) → list_all is_sayable_assignment list ≡ true → list_all is_part (map assignment_text list) ≡ true
+are_parts : (list : List Assignment) → list_all is_expressible_assignment list ≡ true → list_all is_part (map assignment_text list) ≡ true
 are_parts [] h = refl
 are_parts (a ∷ list) h =
-    let q = and_parts (is_sayable_assignment a) (list_all is_sayable_assignment list) h in
+    let q = and_parts (is_expressible_assignment a) (list_all is_expressible_assignment list) h in
     and_from (is_part (assignment_text a)) (list_all is_part (map assignment_text list)) (is_part-assignment a q.0) (are_parts list q.1)
 
 -- assignments that lists can hold read back from their list
-pub assignments_of-list_text : (a : Assignment) (list : List Assignment) → list_all is_sayable_assignment (a ∷ list) ≡ true → assignments_of (list_text (a ∷ list)) ≡ Ok (a ∷ list)
+pub assignments_of-list_text : (a : Assignment) (list : List Assignment) → list_all is_expressible_assignment (a ∷ list) ≡ true → assignments_of (list_text (a ∷ list)) ≡ Ok (a ∷ list)
 unfolding assignments_of
 assignments_of-list_text a list h =
     let p = are_parts (a ∷ list) h in
@@ -296,19 +296,19 @@ join-lacks x c (t ∷ u ∷ xs) n h =
 
 -- each assignment's text lacks what neither names nor values hold
 lacks-each : (x : ℕ) (list : List Assignment) → is_name_byte x ≡ false → is_value_byte x ≡ false → list_any (λ b. b == x) (bang ∷ dash ∷ equals_sign ∷ []) ≡ false → (backslash == x) ≡ false → (comma == x) ≡ false
-    → list_all is_sayable_assignment list ≡ true → list_all (λ part. not (list_any (λ b. b == x) part)) (map assignment_text list) ≡ true
+    → list_all is_expressible_assignment list ≡ true → list_all (λ part. not (list_any (λ b. b == x) part)) (map assignment_text list) ≡ true
 lacks-each x [] n v m s c h = refl
 lacks-each x (a ∷ list) n v m s c h =
-    let q = and_parts (is_sayable_assignment a) (list_all is_sayable_assignment list) h in
+    let q = and_parts (is_expressible_assignment a) (list_all is_expressible_assignment list) h in
     and_from (not (list_any (λ b. b == x) (assignment_text a))) (list_all (λ part. not (list_any (λ b. b == x) part)) (map assignment_text list))
     (not_from_false (list_any (λ b. b == x) (assignment_text a)) (with_escapes-lacks x (state_text a.name a.state) s c (state_text-lacks x a.name a.state n v m (name_bytes a q.0) (sayable_parts a q.0).state)))
     (lacks-each x list n v m s c q.1)
 
 -- a list lacks what neither names nor values hold and what stands for nothing in it
 pub list_text-lacks : (x : ℕ) (list : List Assignment) → is_name_byte x ≡ false → is_value_byte x ≡ false → list_any (λ b. b == x) (bang ∷ dash ∷ equals_sign ∷ []) ≡ false → (backslash == x) ≡ false → (comma == x) ≡ false → (space == x) ≡ false
-    → list_all is_sayable_assignment list ≡ true → list_any (λ b. b == x) (list_text list) ≡ false
+    → list_all is_expressible_assignment list ≡ true → list_any (λ b. b == x) (list_text list) ≡ false
 list_text-lacks x list n v m s c p h = join-lacks x space (map assignment_text list) p (lacks-each x list n v m s c h)
 
 -- no backslash stands in it before the commas are escaped
-pub backslash-lacks : (a : Assignment) → is_sayable_assignment a ≡ true → list_any (λ b. b == backslash) (state_text a.name a.state) ≡ false
+pub backslash-lacks : (a : Assignment) → is_expressible_assignment a ≡ true → list_any (λ b. b == backslash) (state_text a.name a.state) ≡ false
 backslash-lacks a h = state_text-lacks backslash a.name a.state refl refl refl (name_bytes a h) (sayable_parts a h).state

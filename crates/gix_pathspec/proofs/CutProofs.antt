@@ -6,7 +6,7 @@ use Rattle.std.specs.Cmp.Lexicographic.{pointwise}
 use Rattle.std.specs.List.{take_while, prefix_len, list_any, before_first, after_first}
 use Rattle.pathspec_parts.specs.Bytes.{colon, open_paren, close_paren, first_is}
 use Rattle.gix_pathspec.specs.Faults.Fault.{UnimplementedShort, MissingParen}
-use Rattle.gix_pathspec.specs.Reading.{cut_of, cut_end, cut_long, cut_paren, is_short, is_unimplemented, is_colon, behind_mark}
+use Rattle.gix_pathspec.specs.Reading.{cut_of, cut_end, cut_long, cut_paren, is_short, is_unimplemented, is_colon, after_mark}
 
 -- ---- a byte in front that is stripped
 
@@ -25,8 +25,8 @@ begins-whole b (x ∷ xs) rest h e = rw (eqb-true x b (sym (begins-first b (x �
 
 -- ---- the cut
 
--- behind short magic stands an end mark or none
-cut_end-long : (text short rest : List ℕ) → first_is is_unimplemented rest ≡ false → cut_end text short rest ≡ cut_long text short (first_is is_colon rest) (behind_mark rest)
+-- after short magic stands an end mark or none
+cut_end-long : (text short rest : List ℕ) → first_is is_unimplemented rest ≡ false → cut_end text short rest ≡ cut_long text short (first_is is_colon rest) (after_mark rest)
 cut_end-long text short [] u = refl
 cut_end-long text short (b ∷ bs) u = elim (cases_Bool (b == colon)) [
   | inl e ↦ rw (u, e) refl
@@ -48,15 +48,15 @@ module _ (text magic short rest : List ℕ) (m : magic ≡ drop 1 text) (s : sho
       let end : cut_end text short (b ∷ drop 1 rest) ≡ Err (UnimplementedShort b) = rw u refl in
       cut_of-end ∙ (ap (cut_end text short) h ∙ end)
 
-  -- the end mark, and what stands behind it
-  module _ (kept : first_is is_unimplemented rest ≡ false) (ended : Bool) (behind : List ℕ) (e : ended ≡ first_is is_colon rest) (b : behind ≡ behind_mark rest) where
-    cut_of-long : cut_of text ≡ cut_long text short ended behind
+  -- the end mark, and what stands after it
+  module _ (kept : first_is is_unimplemented rest ≡ false) (ended : Bool) (after : List ℕ) (e : ended ≡ first_is is_colon rest) (b : after ≡ after_mark rest) where
+    cut_of-long : cut_of text ≡ cut_long text short ended after
     cut_of-long = cut_of-end ∙ (cut_end-long text short rest kept ∙ rw (e, b) refl)
 
-    pub cut-body : first_is (λ b. b == open_paren) behind ≡ false → cut_of text ≡ Ok (record { short = short; ended = ended; long = None; body = behind })
-    cut-body h = cut_of-long ∙ cut_long-body text short ended behind h
+    pub cut-body : first_is (λ b. b == open_paren) after ≡ false → cut_of text ≡ Ok (record { short = short; ended = ended; long = None; body = after })
+    cut-body h = cut_of-long ∙ cut_long-body text short ended after h
 
-    module _ (inside : List ℕ) (i : behind ≡ open_paren ∷ inside) where
+    module _ (inside : List ℕ) (i : after ≡ open_paren ∷ inside) where
       cut_of-paren : cut_of text ≡ cut_paren text short ended inside
       cut_of-paren = cut_of-long ∙ ap (cut_long text short ended) i
 

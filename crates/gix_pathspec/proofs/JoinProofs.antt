@@ -1,10 +1,10 @@
--- Texts joined one behind the other.
+-- Texts joined one after the other.
 use Rattle.std.proofs.Common.{◌≡◌, ℕ, zero, suc, ◌+◌, List, [], ◌∷◌, ◌++◌, ◌∙◌, refl, sym, append_assoc, ap, cond, take, Some, ◌==◌, false, arith}
 use Rattle.std.proofs.lemmas.Bool.{ne_eqb}
 use Rattle.std.proofs.Math.Numerals.{add-one}
 use Rattle.std.specs.List.{slice_get, join_with_byte}
 use Rattle.pathspec_parts.specs.Bytes.{slash}
-use Rattle.pathspec_parts.specs.Paths.{joined}
+use Rattle.pathspec_parts.specs.Paths.{join_names}
 
 -- A list's elements up to a place joined, and the one there with the byte in front, unless it is the first.
 join-next : (byte : ℕ) (xs : List (List ℕ)) (n : ℕ) (x : List ℕ) → slice_get xs n ≡ Some x → join_with_byte byte (take (suc n) xs) ≡ join_with_byte byte (take n xs) ++ cond (n == 0) x (byte ∷ x)
@@ -22,5 +22,5 @@ pub join-more : (byte : ℕ) (xs : List (List ℕ)) (n : ℕ) (x old new : List 
 join-more byte xs n x old new o w h = rw (w, o, add-one, join-next byte xs n x h) refl
 
 -- the same of names
-pub joined-more : (xs : List (List ℕ)) (n : ℕ) (x old new : List ℕ) → old ≡ joined (take n xs) → new ≡ old ++ cond (n == 0) x (slash ∷ x) → slice_get xs n ≡ Some x → new ≡ joined (take (n + 1) xs)
-joined-more = join-more slash
+pub join_names-more : (xs : List (List ℕ)) (n : ℕ) (x old new : List ℕ) → old ≡ join_names (take n xs) → new ≡ old ++ cond (n == 0) x (slash ∷ x) → slice_get xs n ≡ Some x → new ≡ join_names (take (n + 1) xs)
+join_names-more = join-more slash

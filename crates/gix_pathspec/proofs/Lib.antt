@@ -8,7 +8,7 @@ pub mod StackProofs
 pub mod LongTextProofs
 pub mod AttributeTextProofs
 pub mod RoundTripProofs
-pub mod SaidProofs
+pub mod ParsedProofs
 mod RoundTripRows
 pub mod ResolvingProofs
 pub mod ParseProofs

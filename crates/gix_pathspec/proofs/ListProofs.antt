@@ -10,7 +10,7 @@ use Rattle.pathspec_parts.specs.Attributes.{Assignment}
 use Rattle.gix_pathspec.specs.Results.{all_ok, ◌>>=◌}
 use Rattle.gix_pathspec.specs.Faults.{Fault}
 use Rattle.gix_pathspec.specs.Faults.Fault.{EmptyAttributes, InvalidValueByte, TrailingEscape}
-use Rattle.gix_pathspec.specs.AttributeLists.{units_from, is_value_byte, byte_of, value_of, assignment_of, parts, assignments_of}
+use Rattle.gix_pathspec.specs.AttributeLists.{units_from, is_value_byte, unit_byte, value_of, assignment_of, parts, assignments_of}
 
 -- values that are made, in front of those that are to come; an error that is to come stays
 abbrev pub in_front : {A E : Type 0} → List A → Result (List A) E → Result (List A) E
@@ -26,9 +26,9 @@ module _ {A E : Type 0} where
 
 -- ---- a value
 
--- what is to come of a value, behind a backslash or not
+-- what is to come of a value, after a backslash or not
 abbrev pub value_from : List ℕ → Bool → List ℕ → Result (List ℕ) Fault
-value_from written escaped rest = all_ok (map (byte_of written) (units_from escaped rest))
+value_from written escaped rest = all_ok (map (unit_byte written) (units_from escaped rest))
 
 -- a byte that no backslash precedes, and that is no escape
 is_plain : (b : ℕ) → (b == backslash && true) ≡ false → (b == backslash) ≡ false
@@ -91,7 +91,7 @@ list_from rest = all_ok (map assignment_of (parts rest))
 abbrev is_space : ℕ → Bool
 is_space b = b == space
 
--- the parts behind the first, also empty ones
+-- the parts after the first, also empty ones
 abbrev others : List ℕ → List (List ℕ)
 others [] = []
 others (b ∷ bs) = cond (is_space b) (slice_split is_space bs) (others bs)
@@ -123,16 +123,16 @@ emptiness : (text : List ℕ) → is_empty text ≡ (length text == 0)
 emptiness [] = refl
 emptiness (b ∷ bs) = sym (ne_eqb (length (b ∷ bs)) 0 (λ e. omega (arith, e)))
 
--- the first part of what is left, and what stands behind it
-module _ (list rest part behind : List ℕ) (made : List Assignment) (h : list_from list ≡ in_front made (list_from rest)) (is_part : part ≡ before_first is_space rest) (is_behind : behind ≡ after_first is_space rest) where
-  pub list-skips : (length part == 0) ≡ true → list_from list ≡ in_front made (list_from behind)
-  list-skips none = h ∙ rw (parts-skip rest (rw is_part at (emptiness part ∙ none)), is_behind) refl
+-- the first part of what is left, and what stands after it
+module _ (list rest part after : List ℕ) (made : List Assignment) (h : list_from list ≡ in_front made (list_from rest)) (is_part : part ≡ before_first is_space rest) (is_after : after ≡ after_first is_space rest) where
+  pub list-skips : (length part == 0) ≡ true → list_from list ≡ in_front made (list_from after)
+  list-skips none = h ∙ rw (parts-skip rest (rw is_part at (emptiness part ∙ none)), is_after) refl
 
-  counted : (length part == 0) ≡ false → list_from rest ≡ all_ok (assignment_of part ∷ map assignment_of (parts behind))
-  counted some = rw (parts-first rest (rw is_part at (emptiness part ∙ some)), is_part, is_behind) refl
+  counted : (length part == 0) ≡ false → list_from rest ≡ all_ok (assignment_of part ∷ map assignment_of (parts after))
+  counted some = rw (parts-first rest (rw is_part at (emptiness part ∙ some)), is_part, is_after) refl
 
-  pub list-takes : (a : Assignment) → (length part == 0) ≡ false → assignment_of part ≡ Ok a → list_from list ≡ in_front (made ++ a ∷ []) (list_from behind)
-  list-takes a some said = h ∙ ap (in_front made) (counted some ∙ rw said refl) ∙ front-more made a (list_from behind)
+  pub list-takes : (a : Assignment) → (length part == 0) ≡ false → assignment_of part ≡ Ok a → list_from list ≡ in_front (made ++ a ∷ []) (list_from after)
+  list-takes a some said = h ∙ ap (in_front made) (counted some ∙ rw said refl) ∙ front-more made a (list_from after)
 
   refused : (fault : Fault) → (length part == 0) ≡ false → assignment_of part ≡ Err fault → list_from rest ≡ Err fault
   refused fault some said = counted some ∙ rw said refl

@@ -5,14 +5,14 @@ use Rattle.std.proofs.lemmas.List.{length-map, take-map, get_or-map}
 use Rattle.std.proofs.Math.Bool.{and-false, and-true}
 use Rattle.std.specs.Prelude.{bytes_eq}
 use Rattle.std.specs.Char.{to_ascii_lowercase}
-use Rattle.pathspec_parts.specs.Bytes.{slash, folded, is_empty}
+use Rattle.pathspec_parts.specs.Bytes.{slash, fold_case, is_empty}
 use Rattle.pathspec_parts.specs.Attributes.{Table}
 use Rattle.gix_pathspec.specs.declared.SearchMode.{SearchMode}
 use Rattle.gix_pathspec.specs.declared.SearchMode.TheVariants.{ShellGlob, Literal, PathAwareGlob}
 use Rattle.gix_pathspec.specs.declared.search.MatchKind.{MatchKind}
 use Rattle.gix_pathspec.specs.declared.search.MatchKind.TheVariants.{Always, Prefix, Verbatim}
 use Rattle.gix_pathspec.specs.Specs.{Spec, has_wildcard, is_literal, is_glob, always_matches}
-use Rattle.gix_pathspec.specs.Matching.{fit, means, has_attributes, keeps_prefix, glob_matches, takes_kind, is_verbatim, is_prefixed}
+use Rattle.gix_pathspec.specs.Matching.{fit, spec_matches, has_attributes, is_in_prefix_directory, glob_matches, takes_kind, is_verbatim_match, is_prefix_match}
 use Rattle.pathspec_parts.specs.Paths.{is_below}
 
 -- ---- below a path
@@ -21,7 +21,7 @@ use Rattle.pathspec_parts.specs.Paths.{is_below}
 below-cons : (b c : ℕ) (x d : List ℕ) → is_below (b ∷ x) (c ∷ d) ≡ ((c == b) && is_below x d)
 below-cons b c x d = refl
 
--- a path that goes on behind d with a slash
+-- a path that goes on after d with a slash
 below-slash : (x d : List ℕ) → length d < length x → get_or x (length d) 0 ≡ slash → is_below x d ≡ bytes_eq d (take (length d) x)
 below-slash [] [] l h = absurd (omega (arith, l))
 below-slash (b ∷ x) [] l h = rw h refl
@@ -53,28 +53,28 @@ lower-slash b h = elim (cases_lt b 65) [
   ]
 ]
 
--- case aside, a path that goes on behind d with a slash
-pub below-folded_slash : (f : Bool) (x d : List ℕ) → length d < length x → get_or x (length d) 0 ≡ slash → bytes_eq (folded f d) (folded f (take (length d) x)) ≡ is_below (folded f x) (folded f d)
+-- case aside, a path that goes on after d with a slash
+pub below-folded_slash : (f : Bool) (x d : List ℕ) → length d < length x → get_or x (length d) 0 ≡ slash → bytes_eq (fold_case f d) (fold_case f (take (length d) x)) ≡ is_below (fold_case f x) (fold_case f d)
 below-folded_slash false x d l h = sym (below-slash x d l h)
 below-folded_slash true x d l h =
-    let size : length (folded true d) ≡ length d = length-map d to_ascii_lowercase in
-    let longer : length (folded true d) < length (folded true x) = rw (size, length-map x to_ascii_lowercase) l in
-    let at : get_or (folded true x) (length (folded true d)) 0 ≡ slash = rw size (get_or-map to_ascii_lowercase x (length d) 0 0 l ∙ ap to_ascii_lowercase h) in
-    sym (below-slash (folded true x) (folded true d) longer at ∙ (rw (size, take-map to_ascii_lowercase (length d) x) refl))
+    let size : length (fold_case true d) ≡ length d = length-map d to_ascii_lowercase in
+    let longer : length (fold_case true d) < length (fold_case true x) = rw (size, length-map x to_ascii_lowercase) l in
+    let at : get_or (fold_case true x) (length (fold_case true d)) 0 ≡ slash = rw size (get_or-map to_ascii_lowercase x (length d) 0 0 l ∙ ap to_ascii_lowercase h) in
+    sym (below-slash (fold_case true x) (fold_case true d) longer at ∙ (rw (size, take-map to_ascii_lowercase (length d) x) refl))
 
 -- one that goes on with another byte
-pub below-folded_other : (f : Bool) (x d : List ℕ) → length d < length x → get_or x (length d) 0 ≢ slash → false ≡ is_below (folded f x) (folded f d)
+pub below-folded_other : (f : Bool) (x d : List ℕ) → length d < length x → get_or x (length d) 0 ≢ slash → false ≡ is_below (fold_case f x) (fold_case f d)
 below-folded_other false x d l h = sym (below-other x d l h)
 below-folded_other true x d l h =
-    let size : length (folded true d) ≡ length d = length-map d to_ascii_lowercase in
-    let longer : length (folded true d) < length (folded true x) = rw (size, length-map x to_ascii_lowercase) l in
-    let at : get_or (folded true x) (length (folded true d)) 0 ≢ slash = λ e. h (lower-slash _ (sym (get_or-map to_ascii_lowercase x (length d) 0 0 l) ∙ (rw size at e))) in
-    sym (below-other (folded true x) (folded true d) longer at)
+    let size : length (fold_case true d) ≡ length d = length-map d to_ascii_lowercase in
+    let longer : length (fold_case true d) < length (fold_case true x) = rw (size, length-map x to_ascii_lowercase) l in
+    let at : get_or (fold_case true x) (length (fold_case true d)) 0 ≢ slash = λ e. h (lower-slash _ (sym (get_or-map to_ascii_lowercase x (length d) 0 0 l) ∙ (rw size at e))) in
+    sym (below-other (fold_case true x) (fold_case true d) longer at)
 
 -- one that doesn't go on
-pub below-folded_short : (f : Bool) (x d : List ℕ) → length x ≤ length d → false ≡ is_below (folded f x) (folded f d)
+pub below-folded_short : (f : Bool) (x d : List ℕ) → length x ≤ length d → false ≡ is_below (fold_case f x) (fold_case f d)
 below-folded_short false x d l = sym (below-short x d l)
-below-folded_short true x d l = sym (below-short (folded true x) (folded true d) (rw (length-map x to_ascii_lowercase, length-map d to_ascii_lowercase) l))
+below-folded_short true x d l = sym (below-short (fold_case true x) (fold_case true d) (rw (length-map x to_ascii_lowercase, length-map d to_ascii_lowercase) l))
 
 -- ---- a spec that isn't a glob
 
@@ -85,29 +85,29 @@ none-globbed Literal s path is_dir plain = rw (and-false (has_wildcard s)) refl
 none-globbed PathAwareGlob s path is_dir plain = rw (sym (and-true (has_wildcard s)) ∙ plain) refl
 
 -- where the prefix directory isn't kept
-pub fit-lost : (s : Spec) (path : List ℕ) (is_dir : Bool) → keeps_prefix s path is_dir ≡ false → None ≡ fit s path is_dir
+pub fit-lost : (s : Spec) (path : List ℕ) (is_dir : Bool) → is_in_prefix_directory s path is_dir ≡ false → None ≡ fit s path is_dir
 unfolding fit
 fit-lost s path is_dir lost = rw lost refl
 
 -- where it is kept
-module _ (s : Spec) (path : List ℕ) (is_dir : Bool) (kept : keeps_prefix s path is_dir ≡ true) (plain : is_glob s ≡ false) where
-  fit-plain : fit s path is_dir ≡ (cond (always_matches s) (Some Always) (cond (is_verbatim s path is_dir) (Some Verbatim) (cond (is_prefixed s path) (Some Prefix) None)))
+module _ (s : Spec) (path : List ℕ) (is_dir : Bool) (kept : is_in_prefix_directory s path is_dir ≡ true) (plain : is_glob s ≡ false) where
+  fit-plain : fit s path is_dir ≡ (cond (always_matches s) (Some Always) (cond (is_verbatim_match s path is_dir) (Some Verbatim) (cond (is_prefix_match s path) (Some Prefix) None)))
   unfolding fit
   fit-plain = rw (kept, none-globbed s.mode s path is_dir plain) refl
 
   pub fit-always : always_matches s ≡ true → Some Always ≡ fit s path is_dir
   fit-always a = sym (fit-plain ∙ (rw a refl))
 
-  pub fit-verbatim : always_matches s ≡ false → is_verbatim s path is_dir ≡ true → Some Verbatim ≡ fit s path is_dir
+  pub fit-verbatim : always_matches s ≡ false → is_verbatim_match s path is_dir ≡ true → Some Verbatim ≡ fit s path is_dir
   fit-verbatim a v = sym (fit-plain ∙ (rw (a, v) refl))
 
-  pub fit-prefixed : always_matches s ≡ false → is_verbatim s path is_dir ≡ false → is_prefixed s path ≡ true → Some Prefix ≡ fit s path is_dir
+  pub fit-prefixed : always_matches s ≡ false → is_verbatim_match s path is_dir ≡ false → is_prefix_match s path ≡ true → Some Prefix ≡ fit s path is_dir
   fit-prefixed a v p = sym (fit-plain ∙ (rw (a, v, p) refl))
 
-  pub fit-none : always_matches s ≡ false → is_verbatim s path is_dir ≡ false → is_prefixed s path ≡ false → None ≡ fit s path is_dir
+  pub fit-none : always_matches s ≡ false → is_verbatim_match s path is_dir ≡ false → is_prefix_match s path ≡ false → None ≡ fit s path is_dir
   fit-none a v p = sym (fit-plain ∙ (rw (a, v, p) refl))
 
 -- a spec that lists no attributes means what it fits
-pub means-fits : (s : Spec) (path : List ℕ) (is_dir : Bool) (kind : Option MatchKind) → is_empty s.attributes ≡ true → kind ≡ fit s path is_dir → (table : Table) → is_some kind ≡ means table s path is_dir
-unfolding means has_attributes
-means-fits s path is_dir kind none is table = rw (is, none) (sym (and-true (is_some (fit s path is_dir))))
+pub spec_matches-fits : (s : Spec) (path : List ℕ) (is_dir : Bool) (kind : Option MatchKind) → is_empty s.attributes ≡ true → kind ≡ fit s path is_dir → (table : Table) → is_some kind ≡ spec_matches table s path is_dir
+unfolding spec_matches has_attributes
+spec_matches-fits s path is_dir kind none is table = rw (is, none) (sym (and-true (is_some (fit s path is_dir))))

@@ -13,7 +13,7 @@ use Rattle.gix_pathspec.specs.Errors.{fault_of, IsMemory, IsMemoryOr}
 use Rattle.gix_pathspec.specs.Signatures.{signature_bits}
 use Rattle.gix_pathspec.specs.Specs.{Spec}
 use Rattle.gix_pathspec.specs.Patterns.{pattern_spec}
-use Rattle.gix_pathspec.specs.Reading.{reading, magic_says, Reads, IsRefused, spec_of, nil_spec, literal_spec, no_magic, is_colon}
+use Rattle.gix_pathspec.specs.Reading.{reading, magic_reading, Reads, IsRefused, spec_of, nil_spec, literal_spec, no_magic, is_colon}
 use Rattle.gix_pathspec.proofs.ReadingProofs.{reading_is_exact, reading_at, plain_alone}
 
 -- ---- errors
@@ -64,9 +64,9 @@ module _ (d : Defaults) (text : List ℕ) (filled : (length text == 0) ≡ false
   pub reading-nil : d.literal ≡ false → bytes_eq text (colon ∷ []) ≡ true → first_is is_colon text ≡ true → reading d text ≡ Ok nil_spec
   reading-nil l a p = reading_at d text false true true (something_there text filled) l a p
 
-  reading-magic : d.literal ≡ false → bytes_eq text (colon ∷ []) ≡ false → first_is is_colon text ≡ true → reading d text ≡ magic_says d text
+  reading-magic : d.literal ≡ false → bytes_eq text (colon ∷ []) ≡ false → first_is is_colon text ≡ true → reading d text ≡ magic_reading d text
   reading-magic l a p = reading_at d text false false true (something_there text filled) l a p
 
   pub exact-from_magic : (r : Result Pattern Error) → d.literal ≡ false → bytes_eq text (colon ∷ []) ≡ false → first_is is_colon text ≡ true
-      → MatchResult r (λ p. magic_says d text ≡ Ok (pattern_spec p)) (λ e. IsMemoryOr e (λ fault. magic_says d text ≡ Err fault)) → MatchResult r (λ p. reading d text ≡ Ok (pattern_spec p)) (λ e. IsMemoryOr e (λ fault. reading d text ≡ Err fault))
+      → MatchResult r (λ p. magic_reading d text ≡ Ok (pattern_spec p)) (λ e. IsMemoryOr e (λ fault. magic_reading d text ≡ Err fault)) → MatchResult r (λ p. reading d text ≡ Ok (pattern_spec p)) (λ e. IsMemoryOr e (λ fault. reading d text ≡ Err fault))
   exact-from_magic r l a p h = rw (reading-magic l a p) h

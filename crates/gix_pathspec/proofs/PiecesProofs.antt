@@ -37,7 +37,7 @@ onto_all-last : (bs : List ℕ) (b : ℕ) (pieces : List (List ℕ)) → onto_al
 onto_all-last [] b pieces = refl
 onto_all-last (c ∷ bs) b pieces = ap (onto_first c) (onto_all-last bs b pieces)
 
--- a byte that does not cut, and the backslashes behind it
+-- a byte that does not cut, and the backslashes after it
 step_over : (e : Bool) (b : ℕ) (bs : List ℕ) → (b == comma && not e) ≡ false → long_pieces_from (backslashes e) (b ∷ bs) ≡ onto_first b (long_pieces_from (backslashes (b == backslash && not e)) bs)
 step_over true b bs h = elim (cases_Bool (b == backslash)) [
   | inl s ↦ rw s (rw (two_more 0 bs) (cond-false (cuts 1 b) _ _ h))
@@ -48,14 +48,14 @@ step_over false b bs h = elim (cases_Bool (b == backslash)) [
   | inr s ↦ rw s (cond-false (cuts 0 b) _ _ h)
 ]
 
--- no backslash stands behind a comma
-none_behind : (e : Bool) (b : ℕ) → (b == comma && not e) ≡ true → backslashes_after (backslashes e) b ≡ 0
-none_behind e b h = rw (eqb-true b comma (and_parts (b == comma) (not e) h).0) refl
+-- no backslash stands after a comma
+none_after : (e : Bool) (b : ℕ) → (b == comma && not e) ≡ true → backslashes_after (backslashes e) b ≡ 0
+none_after e b h = rw (eqb-true b comma (and_parts (b == comma) (not e) h).0) refl
 
 -- a comma that cuts
 step_cut : (e : Bool) (b : ℕ) (bs : List ℕ) → (b == comma && not e) ≡ true → long_pieces_from (backslashes e) (b ∷ bs) ≡ [] ∷ long_pieces_from 0 bs
-step_cut true b bs h = cond-true (cuts 1 b) _ _ h ∙ rw (none_behind true b h) refl
-step_cut false b bs h = cond-true (cuts 0 b) _ _ h ∙ rw (none_behind false b h) refl
+step_cut true b bs h = cond-true (cuts 1 b) _ _ h ∙ rw (none_after true b h) refl
+step_cut false b bs h = cond-true (cuts 0 b) _ _ h ∙ rw (none_after false b h) refl
 
 -- the bytes before a place, and whether an odd number of backslashes stands directly before it
 module _ (long : List ℕ) (at : ℕ) (e : Bool) (l : at < length long) (h : long_pieces_from 0 long ≡ onto_all (take at long) (long_pieces_from (backslashes e) (drop at long))) where

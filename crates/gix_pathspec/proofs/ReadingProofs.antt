@@ -14,7 +14,7 @@ use Rattle.gix_pathspec.specs.Faults.{Fault}
 use Rattle.gix_pathspec.specs.Faults.Fault.{Empty, UnimplementedShort, MissingParen}
 use Rattle.gix_pathspec.specs.Signatures.{signature_bits}
 use Rattle.gix_pathspec.specs.Specs.{Spec}
-use Rattle.gix_pathspec.specs.Reading.{Cut, IsCut, text_of, cut_of, cut_end, cut_long, cut_paren, is_short, is_unimplemented, is_colon, end_mark, in_parentheses, holds_close, may_begin, magic_of, magic_says, Magic, Reads, IsRefused, reading, spec_of, no_magic, nil_spec, literal_spec, OneCut, ReadingIsExact}
+use Rattle.gix_pathspec.specs.Reading.{Cut, IsCut, text_of, cut_of, cut_end, cut_long, cut_paren, is_short, is_unimplemented, is_colon, end_mark, in_parentheses, holds_close, may_begin, magic_of, magic_reading, Magic, Reads, IsRefused, reading, spec_of, no_magic, nil_spec, literal_spec, OneCut, ReadingIsExact}
 use Rattle.gix_pathspec.specs.Reading.Reads.{verbatim, nothing, plain, magic}
 use Rattle.gix_pathspec.specs.Reading.IsRefused.{empty, short as short_fault, paren, piece}
 
@@ -41,19 +41,19 @@ rest_fails p (x ∷ xs) = elim (cases_Bool (p x)) [
   | inr h ↦ rw h h
 ]
 
--- ---- a text behind its short magic
+-- ---- a text after its short magic
 
-pub record Behind (short rest : List ℕ) : Type 0 where
+pub record After (short rest : List ℕ) : Type 0 where
   pub all : list_all is_short short ≡ true
   pub stops : first_is is_short rest ≡ false
 
-behind : (m : List ℕ) → Behind (take (prefix_len is_short m) m) (drop (prefix_len is_short m) m)
-behind m = record { all = front_passes is_short m; stops = rest_fails is_short m }
+after : (m : List ℕ) → After (take (prefix_len is_short m) m) (drop (prefix_len is_short m) m)
+after m = record { all = front_passes is_short m; stops = rest_fails is_short m }
 
 -- the cut of a text goes by its short magic and what follows
-cut_of-behind : (short rest : List ℕ) → Behind short rest → cut_of (colon ∷ short ++ rest) ≡ cut_end (colon ∷ short ++ rest) short rest
+cut_of-after : (short rest : List ℕ) → After short rest → cut_of (colon ∷ short ++ rest) ≡ cut_end (colon ∷ short ++ rest) short rest
 unfolding cut_of
-cut_of-behind short rest h = rw (prefix_len-whole is_short short rest h.all h.stops, take-append_seam short rest, drop-append_seam short rest) refl
+cut_of-after short rest h = rw (prefix_len-whole is_short short rest h.all h.stops, take-append_seam short rest, drop-append_seam short rest) refl
 
 -- ---- the first `)`
 
@@ -77,7 +77,7 @@ no_close : (long : List ℕ) → list_any is_close long ≡ false → list_all (
 no_close [] h = refl
 no_close (b ∷ long) h = let p = or_parts (is_close b) (list_any is_close long) h in and_from (not (is_close b)) (list_all (λ b. not (is_close b)) long) (not_from_false (is_close b) p.0) (no_close long p.1)
 
--- what stands before a `)` and behind it, where none stands before
+-- what stands before a `)` and after it, where none stands before
 before_close : (long body : List ℕ) → list_any is_close long ≡ false → before_first is_close (long ++ close_paren ∷ body) ≡ long
 before_close long body h = rw (prefix_len-whole (λ b. not (is_close b)) long (close_paren ∷ body) (no_close long h) refl) (take-append_seam long (close_paren ∷ body))
 
@@ -133,7 +133,7 @@ stops_at false None (b ∷ bs) f = (bare b (not-false _ f)).short
 
 pub cut_found : (cut : Cut) → IsCut cut → cut_of (text_of cut) ≡ Ok cut
 cut_found cut h =
-    rw (text_regrouped cut) (cut_of-behind cut.short (end_mark cut.ended ++ (in_parentheses cut.long ++ cut.body)) (record { all = h.short; stops = stops_at cut.ended cut.long cut.body h.body })
+    rw (text_regrouped cut) (cut_of-after cut.short (end_mark cut.ended ++ (in_parentheses cut.long ++ cut.body)) (record { all = h.short; stops = stops_at cut.ended cut.long cut.body h.body })
     ∙ end_found _ cut.short cut.ended cut.long cut.body h.long h.body)
 
 pub one_cut : OneCut
@@ -188,31 +188,31 @@ may_begin_ended b n = not_from_false (b == open_paren) n
 may_begin_bare : (b : ℕ) → is_short b ≡ false → is_unimplemented b ≡ false → (b == colon) ≡ false → (b == open_paren) ≡ false → may_begin false None b ≡ true
 may_begin_bare b s u c o = rw (s, u, c, o) refl
 
--- the cut is one of this text behind its short magic
-pub record CutsBehind (short rest : List ℕ) (cut : Cut) : Type 0 where
+-- the cut is one of this text after its short magic
+pub record CutsAfter (short rest : List ℕ) (cut : Cut) : Type 0 where
   pub is_cut : IsCut cut
   pub short_is : cut.short ≡ short
   pub rest_is : rest ≡ end_mark cut.ended ++ (in_parentheses cut.long ++ cut.body)
 
-behind_end : (short rest : List ℕ) (ended : Bool) (cut : Cut) → Cuts short ended rest cut → CutsBehind short (end_mark ended ++ rest) cut
-behind_end short rest ended cut h = record { is_cut = h.is_cut; short_is = h.short_is; rest_is = ap (λ x. end_mark ended ++ x) h.rest_is ∙ ap (λ x. end_mark x ++ (in_parentheses cut.long ++ cut.body)) (sym h.ended_is) }
+after_end : (short rest : List ℕ) (ended : Bool) (cut : Cut) → Cuts short ended rest cut → CutsAfter short (end_mark ended ++ rest) cut
+after_end short rest ended cut h = record { is_cut = h.is_cut; short_is = h.short_is; rest_is = ap (λ x. end_mark ended ++ x) h.rest_is ∙ ap (λ x. end_mark x ++ (in_parentheses cut.long ++ cut.body)) (sym h.ended_is) }
 
-end_sound : (text short rest : List ℕ) (cut : Cut) → Behind short rest → cut_end text short rest ≡ Ok cut → CutsBehind short rest cut
+end_sound : (text short rest : List ℕ) (cut : Cut) → After short rest → cut_end text short rest ≡ Ok cut → CutsAfter short rest cut
 end_sound text short [] cut h e =
     let same : record { short = short; ended = false; long = None; body = [] } ≡ cut = cc in
-    subst (CutsBehind short []) same (record { is_cut = record { short = h.all; long = refl; body = refl }; short_is = refl; rest_is = refl })
+    subst (CutsAfter short []) same (record { is_cut = record { short = h.all; long = refl; body = refl }; short_is = refl; rest_is = refl })
 end_sound text short (b ∷ bs) cut h e = elim (cases_Bool (is_unimplemented b)) [
   | inl u ↦ let f = rw u at e in absurd (let no : ⊥ = cc in no)
   | inr u ↦ elim (cases_Bool (b == colon)) [
-    | inl c ↦ rw (eqb-true b colon c) (behind_end short bs true cut (long_sound text short true bs cut h.all (λ d ds q. may_begin_ended d) (rw (u, c) at e)))
-    | inr c ↦ behind_end short (b ∷ bs) false cut (long_sound text short false (b ∷ bs) cut h.all
+    | inl c ↦ rw (eqb-true b colon c) (after_end short bs true cut (long_sound text short true bs cut h.all (λ d ds q. may_begin_ended d) (rw (u, c) at e)))
+    | inr c ↦ after_end short (b ∷ bs) false cut (long_sound text short false (b ∷ bs) cut h.all
         (λ d ds q n. let e : b ≡ d = cc in subst (λ x. may_begin false None x ≡ true) e (may_begin_bare b h.stops u c (subst (λ x. (x == open_paren) ≡ false) (sym e) n))) (rw (u, c) at e))
   ]
 ]
 
 -- ---- a text without a cut
 
--- the faults of short and of long magic, behind short magic
+-- the faults of short and of long magic, after short magic
 pub data NoCut (text rest : List ℕ) (fault : Fault) : Type 0 where
   free : (b : ℕ) (bs : List ℕ) → rest ≡ b ∷ bs → is_unimplemented b ≡ true → fault ≡ UnimplementedShort b → NoCut text rest fault
   unclosed : (ended : Bool) (bs : List ℕ) → rest ≡ end_mark ended ++ open_paren ∷ bs → list_any is_close bs ≡ false → fault ≡ MissingParen text → NoCut text rest fault
@@ -258,7 +258,7 @@ cut_of_sound : (m : List ℕ) (cut : Cut) → cut_of (colon ∷ m) ≡ Ok cut �
 unfolding cut_of
 cut_of_sound m cut e =
     let n = prefix_len is_short m in
-    let h = end_sound (colon ∷ m) (take n m) (drop n m) cut (behind m) e in
+    let h = end_sound (colon ∷ m) (take n m) (drop n m) cut (after m) e in
     (h.is_cut, ap (λ x. colon ∷ x) (sym (take-append-drop n m) ∙ (ap (λ x. x ++ drop n m) (sym h.short_is) ∙ ap (λ x. cut.short ++ x) h.rest_is)) ∙ sym (text_regrouped cut))
 
 cut_of_refused : (m : List ℕ) (fault : Fault) → cut_of (colon ∷ m) ≡ Err fault → (short : List ℕ) × (rest : List ℕ) × (m ≡ short ++ rest) × (list_all is_short short ≡ true) × NoCut (colon ∷ m) rest fault
@@ -289,7 +289,7 @@ no_cut_stops text rest fault (unclosed true bs e n f) = rw e refl
 no_cut_stops text rest fault (unclosed false bs e n f) = rw e refl
 
 refused_cut_of : (short rest : List ℕ) (fault : Fault) → list_all is_short short ≡ true → NoCut (colon ∷ short ++ rest) rest fault → cut_of (colon ∷ short ++ rest) ≡ Err fault
-refused_cut_of short rest fault a h = cut_of-behind short rest (record { all = a; stops = no_cut_stops (colon ∷ short ++ rest) rest fault h }) ∙ refused_end (colon ∷ short ++ rest) short rest fault h
+refused_cut_of short rest fault a h = cut_of-after short rest (record { all = a; stops = no_cut_stops (colon ∷ short ++ rest) rest fault h }) ∙ refused_end (colon ∷ short ++ rest) short rest fault h
 
 bind_ok : {A B E : Type 0} (r : Result A E) (f : A → Result B E) (y : B) → (r >>= f) ≡ Ok y → (x : A) × (r ≡ Ok x) × (f x ≡ Ok y)
 bind_ok (Ok x) f y h = (x, refl, h)
@@ -323,7 +323,7 @@ err_ok x e h = cc
 reads_cut : (d : Defaults) (m : List ℕ) (s : Spec) (cut : Cut) (said : Magic) → d.literal ≡ false → colon ∷ m ≢ colon ∷ [] → cut_of (colon ∷ m) ≡ Ok cut → magic_of cut ≡ Ok said → spec_of d said cut.body ≡ s → Reads d (colon ∷ m) s
 reads_cut d m s cut said l n c g e = let q = cut_of_sound m cut c in magic l n cut q.0 q.1 said g (sym e)
 
-reads_magic : (d : Defaults) (m : List ℕ) (s : Spec) → d.literal ≡ false → colon ∷ m ≢ colon ∷ [] → magic_says d (colon ∷ m) ≡ Ok s → Reads d (colon ∷ m) s
+reads_magic : (d : Defaults) (m : List ℕ) (s : Spec) → d.literal ≡ false → colon ∷ m ≢ colon ∷ [] → magic_reading d (colon ∷ m) ≡ Ok s → Reads d (colon ∷ m) s
 reads_magic d m s l n h =
     let g = bind_ok (cut_of (colon ∷ m)) (λ cut. magic_of cut >>= λ said. Ok (spec_of d said cut.body)) s h in
     let k = bind_ok (magic_of g.0) (λ said. Ok (spec_of d said g.0.body)) s g.2 in
@@ -332,7 +332,7 @@ reads_magic d m s l n h =
 -- the reading by the tests that it makes
 abbrev pub chosen_reading : Bool → Bool → Bool → Defaults → List ℕ → Result Spec Fault
 chosen_reading literal alone marked d text =
-    cond literal (Ok (literal_spec (signature_bits d.signature) text)) (cond alone (Ok nil_spec) (cond marked (magic_says d text) (Ok (spec_of d no_magic text))))
+    cond literal (Ok (literal_spec (signature_bits d.signature) text)) (cond alone (Ok nil_spec) (cond marked (magic_reading d text) (Ok (spec_of d no_magic text))))
 
 pub reading_at : (d : Defaults) (text : List ℕ) (literal alone marked : Bool) → text ≢ [] → d.literal ≡ literal → bytes_eq text (colon ∷ []) ≡ alone → first_is is_colon text ≡ marked → reading d text ≡ chosen_reading literal alone marked d text
 unfolding reading
@@ -346,7 +346,7 @@ reads_at d b m s true alone marked l a c h = verbatim l (not_nil b m) (sym (same
 reads_at d b m s false true marked l a c h = nothing l ((bytes_eq-Decides (b ∷ m) (colon ∷ [])).0 a) (sym (same_ok nil_spec s h))
 reads_at d b m s false false true l a c h =
     let e = eqb-true b colon c in
-    subst (λ x. Reads d (x ∷ m) s) (sym e) (reads_magic d m s l (λ q. both_ways (bytes_eq (b ∷ m) (colon ∷ [])) a ((bytes_eq-Decides (b ∷ m) (colon ∷ [])).1 (ap (λ x. x ∷ m) e ∙ q))) (ap (λ x. magic_says d (x ∷ m)) (sym e) ∙ h))
+    subst (λ x. Reads d (x ∷ m) s) (sym e) (reads_magic d m s l (λ q. both_ways (bytes_eq (b ∷ m) (colon ∷ [])) a ((bytes_eq-Decides (b ∷ m) (colon ∷ [])).1 (ap (λ x. x ∷ m) e ∙ q))) (ap (λ x. magic_reading d (x ∷ m)) (sym e) ∙ h))
 reads_at d b m s false false false l a c h = plain l (not_nil b m) c (sym (same_ok (spec_of d no_magic (b ∷ m)) s h))
 
 reads : (d : Defaults) (text : List ℕ) (s : Spec) → reading d text ≡ Ok s → Reads d text s
@@ -375,7 +375,7 @@ refused_cut d m fault l e = let r = cut_of_refused m fault e in by_cut r.0 r.1 r
     by_cut front rest w a (unclosed ended bs q n f) =
         paren l front ended bs (ap (λ x. colon ∷ x) (w ∙ (ap (λ x. front ++ x) q ∙ sym (append_assoc front (end_mark ended) (open_paren ∷ bs))))) a n f
 
-refused_magic : (d : Defaults) (m : List ℕ) (fault : Fault) → d.literal ≡ false → magic_says d (colon ∷ m) ≡ Err fault → IsRefused d (colon ∷ m) fault
+refused_magic : (d : Defaults) (m : List ℕ) (fault : Fault) → d.literal ≡ false → magic_reading d (colon ∷ m) ≡ Err fault → IsRefused d (colon ∷ m) fault
 refused_magic d m fault l h = elim (bind_err (cut_of (colon ∷ m)) (λ cut. magic_of cut >>= λ said. Ok (spec_of d said cut.body)) fault h) [
   | inl e ↦ refused_cut d m fault l e
   | inr g ↦ elim (bind_err (magic_of g.0) (λ said. Ok (spec_of d said g.0.body)) fault g.2) [
@@ -388,7 +388,7 @@ refused_at : (d : Defaults) (b : ℕ) (m : List ℕ) (fault : Fault) (literal al
 refused_at d b m fault true alone marked l c h = absurd (ok_err (literal_spec (signature_bits d.signature) (b ∷ m)) fault h)
 refused_at d b m fault false true marked l c h = absurd (ok_err nil_spec fault h)
 refused_at d b m fault false false true l c h =
-    let e = eqb-true b colon c in subst (λ x. IsRefused d (x ∷ m) fault) (sym e) (refused_magic d m fault l (ap (λ x. magic_says d (x ∷ m)) (sym e) ∙ h))
+    let e = eqb-true b colon c in subst (λ x. IsRefused d (x ∷ m) fault) (sym e) (refused_magic d m fault l (ap (λ x. magic_reading d (x ∷ m)) (sym e) ∙ h))
 refused_at d b m fault false false false l c h = absurd (ok_err (spec_of d no_magic (b ∷ m)) fault h)
 
 refused : (d : Defaults) (text : List ℕ) (fault : Fault) → reading d text ≡ Err fault → IsRefused d text fault
@@ -397,7 +397,7 @@ refused d [] fault h = empty refl (sym (same_err Empty fault h))
 refused d (b ∷ m) fault h = refused_at d b m fault d.literal (bytes_eq (b ∷ m) (colon ∷ [])) (b == colon) refl refl (sym (reading_at d (b ∷ m) d.literal (bytes_eq (b ∷ m) (colon ∷ [])) (b == colon) (not_nil b m) refl refl refl) ∙ h)
 
 -- a text with magic that is not `:` alone says what its cut says
-marked_reading : (d : Defaults) (m : List ℕ) (fault : Fault) → d.literal ≡ false → colon ∷ m ≢ colon ∷ [] → magic_says d (colon ∷ m) ≡ Err fault → reading d (colon ∷ m) ≡ Err fault
+marked_reading : (d : Defaults) (m : List ℕ) (fault : Fault) → d.literal ≡ false → colon ∷ m ≢ colon ∷ [] → magic_reading d (colon ∷ m) ≡ Err fault → reading d (colon ∷ m) ≡ Err fault
 marked_reading d m fault l n h = reading_at d (colon ∷ m) false false true (not_nil colon m) l (not_colon (colon ∷ m) n) refl ∙ h
 
 longer : (front : List ℕ) (b : ℕ) (rest : List ℕ) → colon ∷ (front ++ b ∷ rest) ≢ colon ∷ []

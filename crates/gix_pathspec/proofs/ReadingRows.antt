@@ -7,7 +7,7 @@ use Rattle.pathspec_parts.specs.Attributes.State.{Set, Unset, Value, Unspecified
 use Rattle.gix_pathspec.specs.Faults.Fault.{Empty, UnimplementedShort, MissingParen, InvalidKeyword, LiteralWithGlob, SecondAttributes, EmptyAttributes, InvalidName, InvalidValueByte, TrailingEscape}
 use Rattle.gix_pathspec.specs.Reading.{reading, nil_spec, long_pieces}
 use Rattle.gix_pathspec.specs.LongText.{long_text}
-use Rattle.gix_pathspec.proofs.Asking.{parse, long, spec, spec_with, assigned}
+use Rattle.gix_pathspec.proofs.Asking.{parse, long, spec, spec_with, apply_assignments}
 
 empty_text : parse [] ≡ Err Empty
 unfolding parse
@@ -37,9 +37,9 @@ slash_long : long (codes ":/") ≡ Ok (codes ":(top)")
 unfolding long
 slash_long = refl
 
-comma_behind : parse (codes ":(top,)x") ≡ Ok (spec (codes "x") 1 ShellGlob)
+comma_after : parse (codes ":(top,)x") ≡ Ok (spec (codes "x") 1 ShellGlob)
 unfolding parse
-comma_behind = refl
+comma_after = refl
 
 comma_before : parse (codes ":(,top)x") ≡ Ok (spec (codes "x") 1 ShellGlob)
 unfolding parse
@@ -69,7 +69,7 @@ literal_then_glob : parse (codes ":(literal,glob)x") ≡ Err (LiteralWithGlob (c
 unfolding parse
 literal_then_glob = refl
 
-escaped_comma : parse (codes ":(attr:a=x\\,y)p") ≡ Ok (spec_with (codes "p") 0 ShellGlob (assigned (codes "a") (Value (codes "x,y")) ∷ []))
+escaped_comma : parse (codes ":(attr:a=x\\,y)p") ≡ Ok (spec_with (codes "p") 0 ShellGlob (apply_assignments (codes "a") (Value (codes "x,y")) ∷ []))
 unfolding parse
 escaped_comma = refl
 
@@ -81,7 +81,7 @@ escaped_backslash : parse (codes ":(attr:a=x\\\\,y)p") ≡ Err (InvalidValueByte
 unfolding parse
 escaped_backslash = refl
 
-body_begins_with_colon : parse (codes ":(attr:a=one b=):path") ≡ Ok (spec_with (codes ":path") 0 ShellGlob (assigned (codes "a") (Value (codes "one")) ∷ assigned (codes "b") (Value []) ∷ []))
+body_begins_with_colon : parse (codes ":(attr:a=one b=):path") ≡ Ok (spec_with (codes ":path") 0 ShellGlob (apply_assignments (codes "a") (Value (codes "one")) ∷ apply_assignments (codes "b") (Value []) ∷ []))
 unfolding parse
 body_begins_with_colon = refl
 
@@ -89,25 +89,25 @@ body_begins_with_colon_long : long (codes ":(attr:a=one b=):path") ≡ Ok (codes
 unfolding long
 body_begins_with_colon_long = refl
 
-comma_behind_one_backslash : parse (codes ":(a\\,b)x") ≡ Err (InvalidKeyword (codes "a\\,b"))
+comma_after_one_backslash : parse (codes ":(a\\,b)x") ≡ Err (InvalidKeyword (codes "a\\,b"))
 unfolding parse
-comma_behind_one_backslash = refl
+comma_after_one_backslash = refl
 
-comma_behind_two_backslashes : parse (codes ":(a\\\\,b)x") ≡ Err (InvalidKeyword (codes "a\\\\"))
+comma_after_two_backslashes : parse (codes ":(a\\\\,b)x") ≡ Err (InvalidKeyword (codes "a\\\\"))
 unfolding parse
-comma_behind_two_backslashes = refl
+comma_after_two_backslashes = refl
 
-comma_behind_three_backslashes : parse (codes ":(a\\\\\\,b)x") ≡ Err (InvalidKeyword (codes "a\\\\\\,b"))
+comma_after_three_backslashes : parse (codes ":(a\\\\\\,b)x") ≡ Err (InvalidKeyword (codes "a\\\\\\,b"))
 unfolding parse
-comma_behind_three_backslashes = refl
+comma_after_three_backslashes = refl
 
-list_of_spaces_then_list : parse (codes ":(attr: ,attr:a)x") ≡ Ok (spec_with (codes "x") 0 ShellGlob (assigned (codes "a") Set ∷ []))
+list_of_spaces_then_list : parse (codes ":(attr: ,attr:a)x") ≡ Ok (spec_with (codes "x") 0 ShellGlob (apply_assignments (codes "a") Set ∷ []))
 unfolding parse
 list_of_spaces_then_list = refl
 
-second_list_behind_spaces : long (codes ":(attr: ,attr:a)x") ≡ Ok (codes ":(attr:a)x")
+second_list_after_spaces : long (codes ":(attr: ,attr:a)x") ≡ Ok (codes ":(attr:a)x")
 unfolding long
-second_list_behind_spaces = refl
+second_list_after_spaces = refl
 
 second_list : parse (codes ":(attr:a,attr:b)x") ≡ Err (SecondAttributes (codes "attr:b"))
 unfolding parse
@@ -117,11 +117,11 @@ second_list_before_its_faults : parse (codes ":(attr:a,attr:--x)p") ≡ Err (Sec
 unfolding parse
 second_list_before_its_faults = refl
 
-second_name : parse (codes ":(attr:a b)x") ≡ Ok (spec_with (codes "x") 0 ShellGlob (assigned (codes "a") Set ∷ assigned (codes "b") Set ∷ []))
+second_name : parse (codes ":(attr:a b)x") ≡ Ok (spec_with (codes "x") 0 ShellGlob (apply_assignments (codes "a") Set ∷ apply_assignments (codes "b") Set ∷ []))
 unfolding parse
 second_name = refl
 
-other_second_name : parse (codes ":(attr:a c)x") ≡ Ok (spec_with (codes "x") 0 ShellGlob (assigned (codes "a") Set ∷ assigned (codes "c") Set ∷ []))
+other_second_name : parse (codes ":(attr:a c)x") ≡ Ok (spec_with (codes "x") 0 ShellGlob (apply_assignments (codes "a") Set ∷ apply_assignments (codes "c") Set ∷ []))
 unfolding parse
 other_second_name = refl
 
@@ -129,7 +129,7 @@ empty_list : parse (codes ":(attr:)x") ≡ Err EmptyAttributes
 unfolding parse
 empty_list = refl
 
-digit_name : parse (codes ":(attr:-1)x") ≡ Ok (spec_with (codes "x") 0 ShellGlob (assigned (codes "1") Unset ∷ []))
+digit_name : parse (codes ":(attr:-1)x") ≡ Ok (spec_with (codes "x") 0 ShellGlob (apply_assignments (codes "1") Unset ∷ []))
 unfolding parse
 digit_name = refl
 
@@ -161,7 +161,7 @@ all_kinds_long : long (codes ":(glob,top,attr:a -b !c d=v)p/") ≡ Ok (codes ":(
 unfolding long
 all_kinds_long = refl
 
-all_kinds : parse (codes ":(glob,top,attr:a -b !c d=v)p/") ≡ Ok (spec_with (codes "p") 9 PathAwareGlob (assigned (codes "a") Set ∷ assigned (codes "b") Unset ∷ assigned (codes "c") Unspecified ∷ assigned (codes "d") (Value (codes "v")) ∷ []))
+all_kinds : parse (codes ":(glob,top,attr:a -b !c d=v)p/") ≡ Ok (spec_with (codes "p") 9 PathAwareGlob (apply_assignments (codes "a") Set ∷ apply_assignments (codes "b") Unset ∷ apply_assignments (codes "c") Unspecified ∷ apply_assignments (codes "d") (Value (codes "v")) ∷ []))
 unfolding parse
 all_kinds = refl
 
@@ -177,7 +177,7 @@ unset_name_with_value : parse (codes ":(attr:-x=\\)y") ≡ Err (InvalidName (cod
 unfolding parse
 unset_name_with_value = refl
 
-empty_name : parse (codes ":(attr:=v)x") ≡ Ok (spec_with (codes "x") 0 ShellGlob (assigned [] (Value (codes "v")) ∷ []))
+empty_name : parse (codes ":(attr:=v)x") ≡ Ok (spec_with (codes "x") 0 ShellGlob (apply_assignments [] (Value (codes "v")) ∷ []))
 unfolding parse
 empty_name = refl
 
@@ -221,21 +221,21 @@ paren_in_plain_body : parse (codes "(x") ≡ Ok (spec (codes "(x") 0 ShellGlob)
 unfolding parse
 paren_in_plain_body = refl
 
-paren_behind_other_byte : parse (codes ":x(y") ≡ Ok (spec (codes "x(y") 0 ShellGlob)
+paren_after_other_byte : parse (codes ":x(y") ≡ Ok (spec (codes "x(y") 0 ShellGlob)
 unfolding parse
-paren_behind_other_byte = refl
+paren_after_other_byte = refl
 
-free_behind_slash : parse (codes ":/-x") ≡ Err (UnimplementedShort 45)
+free_after_slash : parse (codes ":/-x") ≡ Err (UnimplementedShort 45)
 unfolding parse
-free_behind_slash = refl
+free_after_slash = refl
 
-free_behind_end_mark : parse (codes "::-x") ≡ Ok (spec (codes "-x") 0 ShellGlob)
+free_after_end_mark : parse (codes "::-x") ≡ Ok (spec (codes "-x") 0 ShellGlob)
 unfolding parse
-free_behind_end_mark = refl
+free_after_end_mark = refl
 
-colon_behind_long : parse (codes ":():x") ≡ Ok (spec (codes ":x") 0 ShellGlob)
+colon_after_long : parse (codes ":():x") ≡ Ok (spec (codes ":x") 0 ShellGlob)
 unfolding parse
-colon_behind_long = refl
+colon_after_long = refl
 
 close_in_body : parse (codes ":(top)a)b") ≡ Ok (spec (codes "a)b") 1 ShellGlob)
 unfolding parse
@@ -264,11 +264,11 @@ unknown_bit_long : long_text (spec (codes "x") 256 ShellGlob) ≡ (codes ":()x")
 unfolding long_text
 unknown_bit_long = refl
 
-space_in_value_long : long_text (spec_with (codes "p") 0 ShellGlob (assigned (codes "a") (Value (codes "x y")) ∷ [])) ≡ (codes ":(attr:a=x y)p")
+space_in_value_long : long_text (spec_with (codes "p") 0 ShellGlob (apply_assignments (codes "a") (Value (codes "x y")) ∷ [])) ≡ (codes ":(attr:a=x y)p")
 unfolding long_text
 space_in_value_long = refl
 
-space_in_value_again : parse (codes ":(attr:a=x y)p") ≡ Ok (spec_with (codes "p") 0 ShellGlob (assigned (codes "a") (Value (codes "x")) ∷ assigned (codes "y") Set ∷ []))
+space_in_value_again : parse (codes ":(attr:a=x y)p") ≡ Ok (spec_with (codes "p") 0 ShellGlob (apply_assignments (codes "a") (Value (codes "x")) ∷ apply_assignments (codes "y") Set ∷ []))
 unfolding parse
 space_in_value_again = refl
 
@@ -276,7 +276,7 @@ literal_slash_long : long_text (spec (codes "a/") 8 Literal) ≡ (codes ":(liter
 unfolding long_text
 literal_slash_long = refl
 
-empty_parts : assignments_of (codes "  a   b ") ≡ Ok (assigned (codes "a") Set ∷ assigned (codes "b") Set ∷ [])
+empty_parts : assignments_of (codes "  a   b ") ≡ Ok (apply_assignments (codes "a") Set ∷ apply_assignments (codes "b") Set ∷ [])
 unfolding assignments_of assignment_of
 empty_parts = refl
 

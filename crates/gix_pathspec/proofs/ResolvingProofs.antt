@@ -5,17 +5,17 @@ use Rattle.pathspec_parts.specs.Bytes.{is_empty}
 use Rattle.pathspec_parts.specs.Paths.{is_absolute, is_clean_prefix}
 use Rattle.gix_pathspec.specs.Faults.Fault.{OutsideRoot, LeavesRepository}
 use Rattle.gix_pathspec.specs.Specs.{Spec, top, has}
-use Rattle.gix_pathspec.specs.NormalForm.{Base, base, base_names, own_components, walked, is_inside, survivors, ups, resolved, resolve, normal_form}
-use Rattle.gix_pathspec.proofs.HeightProofs.{ups-clean}
+use Rattle.gix_pathspec.specs.NormalForm.{Base, base, base_names, own_components, components_to_resolve, is_inside, survivors, parent_dir_count, resolved, resolve, normal_form}
+use Rattle.gix_pathspec.proofs.HeightProofs.{parent_dir_count-clean}
 
 module _ (prefix root : List ℕ) (s : Spec) where
   -- the names that a path stands on have no `..`
-  pub base-names_only : is_clean_prefix prefix ≡ true → ups (base_names (base prefix s)) ≡ 0
+  pub base-names_only : is_clean_prefix prefix ≡ true → parent_dir_count (base_names (base prefix s)) ≡ 0
   base-names_only clean = elim (cases_Bool (is_absolute s.path)) [
     | inl a ↦ rw a refl
     | inr r ↦ elim (cases_Bool (is_empty prefix || has top s.signature)) [
       | inl t ↦ rw (r, t) refl
-      | inr j ↦ rw (r, j) (ups-clean prefix clean)
+      | inr j ↦ rw (r, j) (parent_dir_count-clean prefix clean)
     ]
   ]
 
@@ -34,5 +34,5 @@ module _ (prefix root : List ℕ) (s : Spec) where
       form-leaves out = form-is ∙ (ap (resolve b s) (sym is_own) ∙ (rw out refl))
 
       -- it doesn't
-      pub form-stays : (left : List (List ℕ)) (n : Spec) → is_inside b own ≡ true → left ≡ survivors (walked b own) → n ≡ resolved b s own left → normal_form prefix root s ≡ Ok n
+      pub form-stays : (left : List (List ℕ)) (n : Spec) → is_inside b own ≡ true → left ≡ survivors (components_to_resolve b own) → n ≡ resolved b s own left → normal_form prefix root s ≡ Ok n
       form-stays left n inside is_left is_n = form-is ∙ (ap (resolve b s) (sym is_own) ∙ (rw (inside, ← is_left) (ap Ok (sym is_n))))

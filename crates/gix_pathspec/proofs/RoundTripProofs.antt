@@ -14,11 +14,11 @@ use Rattle.gix_pathspec.specs.Faults.{Fault}
 use Rattle.pathspec_parts.specs.Attributes.{Assignment}
 use Rattle.gix_pathspec.specs.Specs.{Spec, top, icase, exclude, must_be_dir, has, wants_directory}
 use Rattle.pathspec_parts.specs.Paths.{ends_with_slash, without_last_slash}
-use Rattle.gix_pathspec.specs.Reading.{cuts, backslashes_after, long_pieces_from, long_pieces, keyword_of, Magic, after_piece, after_pieces, Cut, IsCut, text_of, magic_of, spec_of, nil_spec, Reads, reading, no_defaults}
+use Rattle.gix_pathspec.specs.Reading.{cuts, backslashes_after, long_pieces_from, long_pieces, keyword_of, Magic, with_piece, with_pieces, Cut, IsCut, text_of, magic_of, spec_of, nil_spec, Reads, reading, no_defaults}
 use Rattle.gix_pathspec.specs.Reading.Keyword.{Lists}
 use Rattle.gix_pathspec.specs.Reading.Reads.{magic}
 use Rattle.gix_pathspec.specs.LongText.{with_escapes, state_text, attributes_text, mode_text, bit_text, keywords, long_text, assignment_text, list_text}
-use Rattle.gix_pathspec.specs.RoundTrips.{is_sayable_assignment, IsSayable, RoundTrip, LongTextsTell}
+use Rattle.gix_pathspec.specs.RoundTrips.{is_expressible_assignment, IsExpressible, RoundTrip, LongTextIsInjective}
 use Rattle.gix_pathspec.proofs.AttributeTextProofs.{list_text-lacks, join-lacks, assignments_of-list_text, filter-all, backslash-lacks}
 use Rattle.gix_pathspec.proofs.ReadingProofs.{reading_is_exact}
 
@@ -43,7 +43,7 @@ pieces-uncut n (b ∷ x) h =
     let q = and_parts (not (cuts n b)) (is_uncut (backslashes_after n b) x) h in
     rw (not-true (cuts n b) q.0, pieces-uncut (backslashes_after n b) x q.1) refl
 
--- and a comma behind it cuts
+-- and a comma after it cuts
 pieces-comma : (n : ℕ) (x rest : List ℕ) → is_uncut n x ≡ true → long_pieces_from n (x ++ comma ∷ rest) ≡ x ∷ long_pieces_from 0 rest
 pieces-comma n [] rest h = rw (eqb-true n 0 h) refl
 pieces-comma n (b ∷ x) rest h =
@@ -88,10 +88,10 @@ is_uncut-join (x ∷ y ∷ xs) h =
     is_uncut-append 0 x (space ∷ join_with_byte space (y ∷ xs)) q.0 (is_uncut-join (y ∷ xs) q.1)
 
 -- the texts of assignments are uncut
-are_uncut : (list : List Assignment) → list_all is_sayable_assignment list ≡ true → list_all (is_uncut 0) (map assignment_text list) ≡ true
+are_uncut : (list : List Assignment) → list_all is_expressible_assignment list ≡ true → list_all (is_uncut 0) (map assignment_text list) ≡ true
 are_uncut [] h = refl
 are_uncut (a ∷ list) h =
-    let q = and_parts (is_sayable_assignment a) (list_all is_sayable_assignment list) h in
+    let q = and_parts (is_expressible_assignment a) (list_all is_expressible_assignment list) h in
     and_from (is_uncut 0 (assignment_text a)) (list_all (is_uncut 0) (map assignment_text list)) (is_uncut-with_escapes (state_text a.name a.state) (backslash-lacks a q.0)) (are_uncut list q.1)
 
 -- ---- the keywords of a spec as pieces
@@ -125,7 +125,7 @@ are_pieces-mode Literal = refl
 are_pieces-mode PathAwareGlob = refl
 
 -- and that of a list of attributes
-are_pieces-attributes : (list : List Assignment) → list_all is_sayable_assignment list ≡ true → list_all is_piece (attributes_text list) ≡ true
+are_pieces-attributes : (list : List Assignment) → list_all is_expressible_assignment list ≡ true → list_all is_piece (attributes_text list) ≡ true
 are_pieces-attributes [] h = refl
 are_pieces-attributes (a ∷ list) h =
     let t = list_text (a ∷ list) in
@@ -134,7 +134,7 @@ are_pieces-attributes (a ∷ list) h =
     and_from (is_uncut 0 t && not (list_any is_close t)) true (and_from (is_uncut 0 t) (not (list_any is_close t)) u (not_from_false (list_any is_close t) c)) refl
 
 -- so all keywords of a spec are pieces
-are_pieces : (s : Spec) → list_all is_sayable_assignment s.attributes ≡ true → list_all is_piece (keywords s) ≡ true
+are_pieces : (s : Spec) → list_all is_expressible_assignment s.attributes ≡ true → list_all is_piece (keywords s) ≡ true
 are_pieces s h =
     let t = bit_text top s.signature (codes "top") in
     let e = bit_text exclude s.signature (codes "exclude") in
@@ -150,19 +150,19 @@ are_pieces s h =
 -- ---- what the pieces say
 
 -- the step of the next lemma, by the result of the first piece
-after_pieces-then : (r : Result Magic Fault) (xs ys : List (List ℕ)) → ((n : Magic) → after_pieces n (xs ++ ys) ≡ (after_pieces n xs >>= λ m. after_pieces m ys))
-    → (r >>= λ n. after_pieces n (xs ++ ys)) ≡ ((r >>= λ n. after_pieces n xs) >>= λ m. after_pieces m ys)
-after_pieces-then (Ok n) xs ys h = h n
-after_pieces-then (Err e) xs ys h = refl
+with_pieces-then : (r : Result Magic Fault) (xs ys : List (List ℕ)) → ((n : Magic) → with_pieces n (xs ++ ys) ≡ (with_pieces n xs >>= λ m. with_pieces m ys))
+    → (r >>= λ n. with_pieces n (xs ++ ys)) ≡ ((r >>= λ n. with_pieces n xs) >>= λ m. with_pieces m ys)
+with_pieces-then (Ok n) xs ys h = h n
+with_pieces-then (Err e) xs ys h = refl
 
 -- joined pieces go on from what the first ones said
-after_pieces-append : (m : Magic) (xs ys : List (List ℕ)) → after_pieces m (xs ++ ys) ≡ (after_pieces m xs >>= λ n. after_pieces n ys)
-after_pieces-append m [] ys = refl
-after_pieces-append m (x ∷ xs) ys = after_pieces-then (after_piece m x (keyword_of x)) xs ys (λ n. after_pieces-append n xs ys)
+with_pieces-append : (m : Magic) (xs ys : List (List ℕ)) → with_pieces m (xs ++ ys) ≡ (with_pieces m xs >>= λ n. with_pieces n ys)
+with_pieces-append m [] ys = refl
+with_pieces-append m (x ∷ xs) ys = with_pieces-then (with_piece m x (keyword_of x)) xs ys (λ n. with_pieces-append n xs ys)
 
 -- pieces that say n leave the rest to n
-after_pieces-onto : (m n : Magic) (xs ys : List (List ℕ)) → after_pieces m xs ≡ Ok n → after_pieces m (xs ++ ys) ≡ after_pieces n ys
-after_pieces-onto m n xs ys h = after_pieces-append m xs ys ∙ ap (λ r. r >>= λ k. after_pieces k ys) h
+with_pieces-onto : (m n : Magic) (xs ys : List (List ℕ)) → with_pieces m xs ≡ Ok n → with_pieces m (xs ++ ys) ≡ with_pieces n ys
+with_pieces-onto m n xs ys h = with_pieces-append m xs ys ∙ ap (λ r. r >>= λ k. with_pieces k ys) h
 
 -- the signature that the bits' keywords add up to
 abbrev word_of : Bool → Bool → Bool → ℕ
@@ -173,7 +173,7 @@ abbrev said : ℕ → Option SearchMode → List Assignment → Magic
 said signature mode list = record { signature = signature; mode = mode; attributes = list }
 
 -- the keywords of bits say them
-bits_said : (t e i : Bool) → after_pieces (said 0 None []) ((cond t (codes "top" ∷ []) [] ++ cond e (codes "exclude" ∷ []) []) ++ cond i (codes "icase" ∷ []) []) ≡ Ok (said (word_of t e i) None [])
+bits_said : (t e i : Bool) → with_pieces (said 0 None []) ((cond t (codes "top" ∷ []) [] ++ cond e (codes "exclude" ∷ []) []) ++ cond i (codes "icase" ∷ []) []) ≡ Ok (said (word_of t e i) None [])
 bits_said true true true = refl
 bits_said true true false = refl
 bits_said true false true = refl
@@ -190,7 +190,7 @@ picked_mode Literal = Some Literal
 picked_mode PathAwareGlob = Some PathAwareGlob
 
 -- the keyword of a mode picks it
-mode_said : (w : ℕ) (mode : SearchMode) → after_pieces (said w None []) (mode_text mode) ≡ Ok (said w (picked_mode mode) [])
+mode_said : (w : ℕ) (mode : SearchMode) → with_pieces (said w None []) (mode_text mode) ≡ Ok (said w (picked_mode mode) [])
 mode_said w ShellGlob = refl
 mode_said w Literal = refl
 mode_said w PathAwareGlob = refl
@@ -206,20 +206,20 @@ keyword_of-attr : (list : List ℕ) → keyword_of (codes "attr:" ++ list) ≡ L
 keyword_of-attr list = refl
 
 -- the keyword of attributes lists them
-attributes_said : (w : ℕ) (mode : Option SearchMode) (list : List Assignment) → list_all is_sayable_assignment list ≡ true → after_pieces (said w mode []) (attributes_text list) ≡ Ok (said w mode list)
+attributes_said : (w : ℕ) (mode : Option SearchMode) (list : List Assignment) → list_all is_expressible_assignment list ≡ true → with_pieces (said w mode []) (attributes_text list) ≡ Ok (said w mode list)
 attributes_said w mode [] h = refl
 attributes_said w mode (a ∷ list) h = rw (assignments_of-list_text a list h) refl
 
 -- the keywords of a spec say its known bits but the directory's, its mode and its attributes
-keywords_said : (s : Spec) → list_all is_sayable_assignment s.attributes ≡ true
-    → after_pieces (said 0 None []) (keywords s) ≡ Ok (said (word_of (has top s.signature) (has exclude s.signature) (has icase s.signature)) (picked_mode s.mode) s.attributes)
+keywords_said : (s : Spec) → list_all is_expressible_assignment s.attributes ≡ true
+    → with_pieces (said 0 None []) (keywords s) ≡ Ok (said (word_of (has top s.signature) (has exclude s.signature) (has icase s.signature)) (picked_mode s.mode) s.attributes)
 keywords_said s h =
     let t = bit_text top s.signature (codes "top") in
     let e = bit_text exclude s.signature (codes "exclude") in
     let i = bit_text icase s.signature (codes "icase") in
     let w = word_of (has top s.signature) (has exclude s.signature) (has icase s.signature) in
-    after_pieces-onto (said 0 None []) (said w (picked_mode s.mode) []) (((t ++ e) ++ i) ++ mode_text s.mode) (attributes_text s.attributes)
-    (after_pieces-onto (said 0 None []) (said w None []) ((t ++ e) ++ i) (mode_text s.mode) (bits_said (has top s.signature) (has exclude s.signature) (has icase s.signature)) ∙ mode_said w s.mode)
+    with_pieces-onto (said 0 None []) (said w (picked_mode s.mode) []) (((t ++ e) ++ i) ++ mode_text s.mode) (attributes_text s.attributes)
+    (with_pieces-onto (said 0 None []) (said w None []) ((t ++ e) ++ i) (mode_text s.mode) (bits_said (has top s.signature) (has exclude s.signature) (has icase s.signature)) ∙ mode_said w s.mode)
     ∙ attributes_said w (picked_mode s.mode) s.attributes h
 
 -- a signature of known bits is the bits that it has
@@ -236,7 +236,7 @@ signature_is_bits n h = eqb-true (signature_back n) n (agree_below_at (λ k. sig
 last_at : (path : List ℕ) → length (path ++ slash ∷ []) - 1 ≡ length path
 last_at path = omega (arith, length-append path (slash ∷ []))
 
--- a path with a slash behind it ends with one
+-- a path with a slash after it ends with one
 ends_with_slash-append : (path : List ℕ) → ends_with_slash (path ++ slash ∷ []) ≡ true
 ends_with_slash-append path = rw (last_at path, drop-append_seam path (slash ∷ [])) refl
 
@@ -280,18 +280,18 @@ join-lacks_close : (xs : List (List ℕ)) → list_all is_piece xs ≡ true → 
 join-lacks_close xs h = join-lacks close_paren comma xs refl (list_all-weaker is_piece (λ t. not (list_any is_close t)) xs (λ t k. (and_parts (is_filled t && is_uncut 0 t) (not (list_any is_close t)) k).1) h)
 
 -- it is a cut
-is_cut_for : (s : Spec) → list_all is_sayable_assignment s.attributes ≡ true → IsCut (cut_for s)
+is_cut_for : (s : Spec) → list_all is_expressible_assignment s.attributes ≡ true → IsCut (cut_for s)
 is_cut_for s h = record { short = refl; long = join-lacks_close (keywords s) (are_pieces s h); body = first_is-never (body_of s) }
 
 -- the magic of this cut says what the spec has
-magic_said : (s : Spec) → list_all is_sayable_assignment s.attributes ≡ true
+magic_said : (s : Spec) → list_all is_expressible_assignment s.attributes ≡ true
     → magic_of (cut_for s) ≡ Ok (said (word_of (has top s.signature) (has exclude s.signature) (has icase s.signature)) (picked_mode s.mode) s.attributes)
 unfolding magic_of
 magic_said s h =
     let p = are_pieces s h in
     let u = list_all-weaker is_piece (is_uncut 0) (keywords s) (λ t k. (and_parts (is_filled t) (is_uncut 0 t) (and_parts (is_filled t && is_uncut 0 t) (not (list_any is_close t)) k).0).1) p in
     let f = list_all-weaker is_piece is_filled (keywords s) (λ t k. (and_parts (is_filled t) (is_uncut 0 t) (and_parts (is_filled t && is_uncut 0 t) (not (list_any is_close t)) k).0).0) p in
-    ap (after_pieces (said 0 None [])) (long_pieces-join (keywords s) u f) ∙ keywords_said s h
+    ap (with_pieces (said 0 None [])) (long_pieces-join (keywords s) u f) ∙ keywords_said s h
 
 -- specs with equal parts are equal
 spec_by_parts : (p q : List ℕ) (a b : ℕ) (m n : SearchMode) (list : List Assignment) (x y : Bool) (k l : ℕ) → p ≡ q → a ≡ b → m ≡ n → x ≡ y → k ≡ l
@@ -299,7 +299,7 @@ spec_by_parts : (p q : List ℕ) (a b : ℕ) (m n : SearchMode) (list : List Ass
 spec_by_parts p q a b m n list x y k l e f g h i = cc
 
 -- the spec of this cut is the spec
-spec_back : (s : Spec) → IsSayable s → s.nil ≡ false → spec_of no_defaults (said (word_of (has top s.signature) (has exclude s.signature) (has icase s.signature)) (picked_mode s.mode) s.attributes) (body_of s) ≡ s
+spec_back : (s : Spec) → IsExpressible s → s.nil ≡ false → spec_of no_defaults (said (word_of (has top s.signature) (has exclude s.signature) (has icase s.signature)) (picked_mode s.mode) s.attributes) (body_of s) ≡ s
 unfolding spec_of
 spec_back s w n =
     let e = ends_with_slash-body s.path (wants_directory s) w.path in
@@ -319,7 +319,7 @@ not_alone : (b : ℕ) (rest : List ℕ) → colon ∷ b ∷ rest ≢ colon ∷ [
 not_alone b rest e = cc
 
 -- a long text is cut as it was made
-reads_long : (s : Spec) → IsSayable s → s.nil ≡ false → Reads no_defaults (text_of (cut_for s)) s
+reads_long : (s : Spec) → IsExpressible s → s.nil ≡ false → Reads no_defaults (text_of (cut_for s)) s
 reads_long s w n = magic refl (not_alone open_paren _) (cut_for s) (is_cut_for s w.assignments) refl _ (magic_said s w.assignments) (sym (spec_back s w n))
 
 -- the nil spec reads back
@@ -339,9 +339,9 @@ same_ok : (s t : Spec) → ◌≡◌ {A = Result Spec Fault} (Ok s) (Ok t) → s
 same_ok s t e = cc
 
 -- Two sayable specs are equal exactly where their long texts are.
-pub long_texts_tell : LongTextsTell
-long_texts_tell s t w v = (λ e. ap long_text e, λ e. same_ok s t (sym (round_trip s w) ∙ (ap (reading no_defaults) e ∙ round_trip t v)))
+pub long_text_is_injective : LongTextIsInjective
+long_text_is_injective s t w v = (λ e. ap long_text e, λ e. same_ok s t (sym (round_trip s w) ∙ (ap (reading no_defaults) e ∙ round_trip t v)))
 
 -- The long text says the spec, in the words of the relation.
-pub long_text_reads : (s : Spec) → IsSayable s → Reads no_defaults (long_text s) s
+pub long_text_reads : (s : Spec) → IsExpressible s → Reads no_defaults (long_text s) s
 long_text_reads s w = ((reading_is_exact no_defaults (long_text s)).0 s).1 (round_trip s w)

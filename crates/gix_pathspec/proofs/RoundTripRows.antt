@@ -7,7 +7,7 @@ use Rattle.gix_pathspec.specs.Faults.Fault.{EmptyAttributes, InvalidValueByte}
 use Rattle.pathspec_parts.specs.Attributes.State.{Set, Unset, Value, Unspecified}
 use Rattle.gix_pathspec.specs.Specs.{Spec}
 use Rattle.gix_pathspec.specs.LongText.{long_text}
-use Rattle.gix_pathspec.proofs.Asking.{parse, spec, spec_with, assigned}
+use Rattle.gix_pathspec.proofs.Asking.{parse, spec, spec_with, apply_assignments}
 
 -- what the long text of a spec says
 unfoldable again : Spec → Result Spec Fault
@@ -15,8 +15,8 @@ unfolding parse long_text
 again s = parse (long_text s)
 
 -- each known bit, each mode and each state come back
-all_parts : again (spec_with (codes "p") 15 PathAwareGlob (assigned (codes "a") (Value (codes ",b,,")) ∷ assigned (codes "b") Unset ∷ assigned (codes "c") Set ∷ []))
-    ≡ Ok (spec_with (codes "p") 15 PathAwareGlob (assigned (codes "a") (Value (codes ",b,,")) ∷ assigned (codes "b") Unset ∷ assigned (codes "c") Set ∷ []))
+all_parts : again (spec_with (codes "p") 15 PathAwareGlob (apply_assignments (codes "a") (Value (codes ",b,,")) ∷ apply_assignments (codes "b") Unset ∷ apply_assignments (codes "c") Set ∷ []))
+    ≡ Ok (spec_with (codes "p") 15 PathAwareGlob (apply_assignments (codes "a") (Value (codes ",b,,")) ∷ apply_assignments (codes "b") Unset ∷ apply_assignments (codes "c") Set ∷ []))
 unfolding again
 all_parts = refl
 
@@ -36,37 +36,37 @@ unfolding again
 bit_lost = refl
 
 -- an empty name that is not set comes back
-empty_unset : again (spec_with [] 0 ShellGlob (assigned [] Unset ∷ [])) ≡ Ok (spec_with [] 0 ShellGlob (assigned [] Unset ∷ []))
+empty_unset : again (spec_with [] 0 ShellGlob (apply_assignments [] Unset ∷ [])) ≡ Ok (spec_with [] 0 ShellGlob (apply_assignments [] Unset ∷ []))
 unfolding again
 empty_unset = refl
 
 -- so does one that is unspecified
-empty_unspecified : again (spec_with [] 0 ShellGlob (assigned [] Unspecified ∷ [])) ≡ Ok (spec_with [] 0 ShellGlob (assigned [] Unspecified ∷ []))
+empty_unspecified : again (spec_with [] 0 ShellGlob (apply_assignments [] Unspecified ∷ [])) ≡ Ok (spec_with [] 0 ShellGlob (apply_assignments [] Unspecified ∷ []))
 unfolding again
 empty_unspecified = refl
 
 -- so does one with a value
-empty_value : again (spec_with [] 0 ShellGlob (assigned [] (Value []) ∷ [])) ≡ Ok (spec_with [] 0 ShellGlob (assigned [] (Value []) ∷ []))
+empty_value : again (spec_with [] 0 ShellGlob (apply_assignments [] (Value []) ∷ [])) ≡ Ok (spec_with [] 0 ShellGlob (apply_assignments [] (Value []) ∷ []))
 unfolding again
 empty_value = refl
 
 -- one that is set does not
-empty_set : again (spec_with [] 0 ShellGlob (assigned [] Set ∷ [])) ≡ Err EmptyAttributes
+empty_set : again (spec_with [] 0 ShellGlob (apply_assignments [] Set ∷ [])) ≡ Err EmptyAttributes
 unfolding again
 empty_set = refl
 
 -- nor does it beside another
-empty_set_beside : again (spec_with [] 0 ShellGlob (assigned (codes "a") Set ∷ assigned [] Set ∷ [])) ≡ Ok (spec_with [] 0 ShellGlob (assigned (codes "a") Set ∷ []))
+empty_set_beside : again (spec_with [] 0 ShellGlob (apply_assignments (codes "a") Set ∷ apply_assignments [] Set ∷ [])) ≡ Ok (spec_with [] 0 ShellGlob (apply_assignments (codes "a") Set ∷ []))
 unfolding again
 empty_set_beside = refl
 
 -- nor a name with another byte
-name_byte : again (spec_with [] 0 ShellGlob (assigned (codes "a b") Set ∷ [])) ≡ Ok (spec_with [] 0 ShellGlob (assigned (codes "a") Set ∷ assigned (codes "b") Set ∷ []))
+name_byte : again (spec_with [] 0 ShellGlob (apply_assignments (codes "a b") Set ∷ [])) ≡ Ok (spec_with [] 0 ShellGlob (apply_assignments (codes "a") Set ∷ apply_assignments (codes "b") Set ∷ []))
 unfolding again
 name_byte = refl
 
 -- nor a value with another byte
-value_byte : again (spec_with [] 0 ShellGlob (assigned (codes "a") (Value (codes ".")) ∷ [])) ≡ Err (InvalidValueByte 46)
+value_byte : again (spec_with [] 0 ShellGlob (apply_assignments (codes "a") (Value (codes ".")) ∷ [])) ≡ Err (InvalidValueByte 46)
 unfolding again
 value_byte = refl
 

@@ -7,9 +7,9 @@ use Rattle.std.proofs.lemmas.List.Elements.{All-from_recursion}
 use Rattle.std.specs.Prelude.{codes, filter}
 use Rattle.std.specs.List.{list_any, onto_first, AllByRecursion}
 use Rattle.pathspec_parts.specs.Bytes.{slash, is_empty}
-use Rattle.pathspec_parts.specs.Paths.{pieces, is_component, is_up, components, joined, is_absolute, behind_front}
+use Rattle.pathspec_parts.specs.Paths.{pieces, is_component, is_parent_dir, components, join_names, is_absolute, strip_names}
 use Rattle.gix_pathspec.specs.Specs.{Spec, top, has, wants_directory}
-use Rattle.gix_pathspec.specs.NormalForm.{Base, base, base_names, own_components, is_inside, new_prefix_length, climb, survivors, walked, resolved, resolve, normal_form, IsNormal, stays_empty}
+use Rattle.gix_pathspec.specs.NormalForm.{Base, base, base_names, own_components, is_inside, new_prefix_length, climb, survivors, components_to_resolve, resolved, resolve, normal_form, IsNormal, stays_empty}
 use Rattle.gix_pathspec.specs.NormalForm.Base.{Root, Prefix, Top}
 use Rattle.gix_pathspec.proofs.NormalFormProofs.{climb-name}
 
@@ -23,11 +23,11 @@ IsPart c = (is_component c ≡ true) × IsUncut c
 
 -- a name without a slash
 abbrev pub IsWholeName : List ℕ → Type 0
-IsWholeName c = (is_up c ≡ false) × IsPart c
+IsWholeName c = (is_parent_dir c ≡ false) × IsPart c
 
 -- ---- lists whose elements all pass
 
--- two lists one behind the other
+-- two lists one after the other
 AllByRecursion-append : {X : Type 0} (P : X → Type 0) (xs ys : List X) → AllByRecursion P xs → AllByRecursion P ys → AllByRecursion P (xs ++ ys)
 AllByRecursion-append P [] ys a b = b
 AllByRecursion-append P (x ∷ xs) ys a b = (a.0, AllByRecursion-append P xs ys a.1 b)
@@ -88,8 +88,8 @@ base-parts prefix s = elim (cases_Bool (is_absolute s.path)) [
 -- so are its own
 own-parts : (b : Base) (root path : List ℕ) → AllParts (own_components b root path)
 own-parts Root root path =
-    AllParts-cond (is_absolute root && is_absolute path) (behind_front (components root) (components path)) None (AllParts-cond _ (Some (drop (length (components root)) (components path))) None (AllByRecursion-drop IsPart (length (components root)) (components path) (components-parts path)) tt) tt
-own-parts (Prefix names) root path = components-parts path
+    AllParts-cond (is_absolute root && is_absolute path) (strip_names (components root) (components path)) None (AllParts-cond _ (Some (drop (length (components root)) (components path))) None (AllByRecursion-drop IsPart (length (components root)) (components path) (components-parts path)) tt) tt
+own-parts (Prefix name_count) root path = components-parts path
 own-parts Top root path = components-parts path
 
 -- ---- survivors are names
@@ -97,21 +97,21 @@ own-parts Top root path = components-parts path
 -- a survivor is a component and no `..`
 survivors-whole : (cs : List (List ℕ)) → AllByRecursion IsPart cs → AllByRecursion IsWholeName (survivors cs)
 survivors-whole [] a = tt
-survivors-whole (c ∷ cs) a = elim (cases_Bool (not (is_up c) && climb cs == 0)) [
-  | inl y ↦ rw y ((not-true (is_up c) (and_parts (not (is_up c)) (climb cs == 0) y).0, a.0), survivors-whole cs a.1)
+survivors-whole (c ∷ cs) a = elim (cases_Bool (not (is_parent_dir c) && climb cs == 0)) [
+  | inl y ↦ rw y ((not-true (is_parent_dir c) (and_parts (not (is_parent_dir c)) (climb cs == 0) y).0, a.0), survivors-whole cs a.1)
   | inr n ↦ rw n (survivors-whole cs a.1)
 ]
 
 -- names do not climb
-climb-names : (names : List (List ℕ)) → AllByRecursion IsWholeName names → climb names ≡ 0
+climb-name_count : (name_count : List (List ℕ)) → AllByRecursion IsWholeName name_count → climb name_count ≡ 0
 unfolding climb
-climb-names [] a = refl
-climb-names (c ∷ cs) a = climb-name c cs a.0.0 ∙ ap (λ k. k - 1) (climb-names cs a.1)
+climb-name_count [] a = refl
+climb-name_count (c ∷ cs) a = climb-name c cs a.0.0 ∙ ap (λ k. k - 1) (climb-name_count cs a.1)
 
 -- names by themselves all survive
-survivors-names : (names : List (List ℕ)) → AllByRecursion IsWholeName names → survivors names ≡ names
-survivors-names [] a = refl
-survivors-names (c ∷ cs) a = rw (a.0.0, climb-names cs a.1) (ap (λ k. c ∷ k) (survivors-names cs a.1))
+survivors-name_count : (name_count : List (List ℕ)) → AllByRecursion IsWholeName name_count → survivors name_count ≡ name_count
+survivors-name_count [] a = refl
+survivors-name_count (c ∷ cs) a = rw (a.0.0, climb-name_count cs a.1) (ap (λ k. c ∷ k) (survivors-name_count cs a.1))
 
 -- ---- joined names
 
@@ -121,10 +121,10 @@ uncut-all [] h = tt
 uncut-all (b ∷ bs) h = let p = or_parts (b == slash) (list_any (λ b. b == slash) bs) h in (p.0, uncut-all bs p.1)
 
 -- The components of joined names are those names.
-pub components-joined : (names : List (List ℕ)) → AllByRecursion IsWholeName names → components (joined names) ≡ names
-components-joined [] a = refl
-components-joined (x ∷ []) a = rw (slice_split_none (λ b. b == slash) x (All-from_recursion (λ b. (b == slash) ≡ false) x (uncut-all x a.0.1.1)), a.0.1.0) refl
-components-joined (x ∷ y ∷ more) a = rw (slice_split_at (λ b. b == slash) x slash (joined (y ∷ more)) (All-from_recursion (λ b. (b == slash) ≡ false) x (uncut-all x a.0.1.1)) refl, a.0.1.0) (ap (λ k. x ∷ k) (components-joined (y ∷ more) a.1))
+pub components-join_names : (name_count : List (List ℕ)) → AllByRecursion IsWholeName name_count → components (join_names name_count) ≡ name_count
+components-join_names [] a = refl
+components-join_names (x ∷ []) a = rw (slice_split_none (λ b. b == slash) x (All-from_recursion (λ b. (b == slash) ≡ false) x (uncut-all x a.0.1.1)), a.0.1.0) refl
+components-join_names (x ∷ y ∷ more) a = rw (slice_split_at (λ b. b == slash) x slash (join_names (y ∷ more)) (All-from_recursion (λ b. (b == slash) ≡ false) x (uncut-all x a.0.1.1)) refl, a.0.1.0) (ap (λ k. x ∷ k) (components-join_names (y ∷ more) a.1))
 
 -- ---- what a normal form's path is, and that it stays
 
@@ -132,7 +132,7 @@ components-joined (x ∷ y ∷ more) a = rw (slice_split_at (λ b. b == slash) x
 data IsSettled (n : Spec) : Type 0 where
   empty : n.path ≡ [] → IsSettled n
   here : n.path ≡ codes "." → n.nil ≡ true → IsSettled n
-  named : (name : List ℕ) (more : List (List ℕ)) → AllByRecursion IsWholeName (name ∷ more) → n.path ≡ joined (name ∷ more) → IsSettled n
+  named : (name : List ℕ) (more : List (List ℕ)) → AllByRecursion IsWholeName (name ∷ more) → n.path ≡ join_names (name ∷ more) → IsSettled n
 
 -- a name does not begin with a slash
 relative_front : (x rest : List ℕ) → IsWholeName x → is_absolute (x ++ rest) ≡ false
@@ -140,15 +140,15 @@ relative_front [] rest a = let no : false ≡ true = a.1.0 in cc
 relative_front (b ∷ x) rest a = let p = or_parts (b == slash) (list_any (λ b. b == slash) x) a.1.1 in and_left (slash == b) true (ne_eqb slash b (λ e. eqb-false b slash p.0 (sym e)))
 
 -- nor do joined names
-is_absolute-joined : (name : List ℕ) (more : List (List ℕ)) → IsWholeName name → is_absolute (joined (name ∷ more)) ≡ false
-is_absolute-joined name [] a = subst (λ t. is_absolute t ≡ false) (append-nil name) (relative_front name [] a)
-is_absolute-joined name (x ∷ more) a = relative_front name (slash ∷ joined (x ∷ more)) a
+is_absolute-join_names : (name : List ℕ) (more : List (List ℕ)) → IsWholeName name → is_absolute (join_names (name ∷ more)) ≡ false
+is_absolute-join_names name [] a = subst (λ t. is_absolute t ≡ false) (append-nil name) (relative_front name [] a)
+is_absolute-join_names name (x ∷ more) a = relative_front name (slash ∷ join_names (x ∷ more)) a
 
 -- so a normal form is relative
-settled-relative : (n : Spec) → IsSettled n → is_absolute n.path ≡ false
-settled-relative n (empty e) = ap is_absolute e
-settled-relative n (here e nil) = ap is_absolute e
-settled-relative n (named name more a e) = ap is_absolute e ∙ is_absolute-joined name more a.0
+idempotent-relative : (n : Spec) → IsSettled n → is_absolute n.path ≡ false
+idempotent-relative n (empty e) = ap is_absolute e
+idempotent-relative n (here e nil) = ap is_absolute e
+idempotent-relative n (named name more a e) = ap is_absolute e ∙ is_absolute-join_names name more a.0
 
 -- a relative path is resolved by its own components
 normal_form-relative : (root : List ℕ) (n : Spec) (cs : List (List ℕ)) → is_absolute n.path ≡ false → components n.path ≡ cs → climb cs ≡ 0 → normal_form [] root n ≡ Ok (resolved Top n cs (survivors cs))
@@ -174,8 +174,8 @@ resolved-here : (n : Spec) → n.path ≡ codes "." → n.nil ≡ true → resol
 resolved-here n e nil = rw (e, nil) refl
 
 -- names stay
-resolved-names : (n : Spec) (name : List ℕ) (more : List (List ℕ)) → n.path ≡ joined (name ∷ more) → resolved Top n (name ∷ more) (name ∷ more) ≡ record n { prefix_length = 0 }
-resolved-names n name more e = with_path n (joined (name ∷ more)) n.nil (new_prefix_length Top n (name ∷ more) (name ∷ more)) (sym e) refl (no_prefix n (name ∷ more) (name ∷ more))
+resolved-name_count : (n : Spec) (name : List ℕ) (more : List (List ℕ)) → n.path ≡ join_names (name ∷ more) → resolved Top n (name ∷ more) (name ∷ more) ≡ record n { prefix_length = 0 }
+resolved-name_count n name more e = with_path n (join_names (name ∷ more)) n.nil (new_prefix_length Top n (name ∷ more) (name ∷ more)) (sym e) refl (no_prefix n (name ∷ more) (name ∷ more))
 
 -- what stands in normal form stays
 again : (root : List ℕ) (n : Spec) → IsSettled n → normal_form [] root n ≡ Ok (record n { prefix_length = 0 })
@@ -183,35 +183,35 @@ unfolding climb
 again root n (empty e) = normal_form-relative root n [] (ap is_absolute e) (ap components e) refl ∙ ap Ok (resolved-empty n e)
 again root n (here e nil) = normal_form-relative root n [] (ap is_absolute e) (ap components e) refl ∙ ap Ok (resolved-here n e nil)
 again root n (named name more a e) =
-    let names = name ∷ more in
-    let r = settled-relative n (named name more a e) in
-    normal_form-relative root n names r (ap components e ∙ components-joined names a) (climb-names names a)
-    ∙ ap Ok (ap (λ left. resolved Top n names left) (survivors-names names a) ∙ resolved-names n name more e)
+    let name_count = name ∷ more in
+    let r = idempotent-relative n (named name more a e) in
+    normal_form-relative root n name_count r (ap components e ∙ components-join_names name_count a) (climb-name_count name_count a)
+    ∙ ap Ok (ap (λ left. resolved Top n name_count left) (survivors-name_count name_count a) ∙ resolved-name_count n name more e)
 
 -- what is resolved stands in normal form
-resolved-settled : (b : Base) (s : Spec) (own left : List (List ℕ)) → AllByRecursion IsWholeName left → IsSettled (resolved b s own left)
-resolved-settled b s own [] a = elim (cases_Bool (stays_empty b s own)) [
+resolved-idempotent : (b : Base) (s : Spec) (own left : List (List ℕ)) → AllByRecursion IsWholeName left → IsSettled (resolved b s own left)
+resolved-idempotent b s own [] a = elim (cases_Bool (stays_empty b s own)) [
   | inl y ↦ rw y (empty refl)
   | inr n ↦ rw n (here refl refl)
 ]
-resolved-settled b s own (name ∷ more) a = named name more a refl
+resolved-idempotent b s own (name ∷ more) a = named name more a refl
 
 -- the same where it does not climb out
-resolve-settled : (b : Base) (s n : Spec) (found : Option (List (List ℕ))) → AllByRecursion IsPart (base_names b) → AllParts found → resolve b s found ≡ Ok n → IsSettled n
-resolve-settled b s n None f a h = cc
-resolve-settled b s n (Some own) f a h = elim (cases_Bool (is_inside b own)) [
+resolve-idempotent : (b : Base) (s n : Spec) (found : Option (List (List ℕ))) → AllByRecursion IsPart (base_names b) → AllParts found → resolve b s found ≡ Ok n → IsSettled n
+resolve-idempotent b s n None f a h = cc
+resolve-idempotent b s n (Some own) f a h = elim (cases_Bool (is_inside b own)) [
   | inl y ↦
-      let e : resolved b s own (survivors (walked b own)) ≡ n = (let k = rw y at h in cc) in
-      let whole = survivors-whole (walked b own) (AllByRecursion-append IsPart (base_names b) own f a) in
-      subst IsSettled e (resolved-settled b s own (survivors (walked b own)) whole)
+      let e : resolved b s own (survivors (components_to_resolve b own)) ≡ n = (let k = rw y at h in cc) in
+      let whole = survivors-whole (components_to_resolve b own) (AllByRecursion-append IsPart (base_names b) own f a) in
+      subst IsSettled e (resolved-idempotent b s own (survivors (components_to_resolve b own)) whole)
   | inr up ↦ let k = rw up at h in cc
 ]
 
 -- the same of the whole call
-settled : (prefix root : List ℕ) (s n : Spec) → normal_form prefix root s ≡ Ok n → IsSettled n
+idempotent : (prefix root : List ℕ) (s n : Spec) → normal_form prefix root s ≡ Ok n → IsSettled n
 unfolding normal_form
-settled prefix root s n h = resolve-settled (base prefix s) s n (own_components (base prefix s) root s.path) (base-parts prefix s) (own-parts (base prefix s) root s.path) h
+idempotent prefix root s n h = resolve-idempotent (base prefix s) s n (own_components (base prefix s) root s.path) (base-parts prefix s) (own-parts (base prefix s) root s.path) h
 
 -- A second normalising without a prefix, with whatever root, leaves all but the prefix length, which becomes 0.
 pub normal_form_again : (prefix root : List ℕ) (s n : Spec) → normal_form prefix root s ≡ Ok n → IsNormal n
-normal_form_again prefix root s n h other = again other n (settled prefix root s n h)
+normal_form_again prefix root s n h other = again other n (idempotent prefix root s n h)

@@ -14,17 +14,17 @@ abbrev pub name_of : List ℕ → Result (List ℕ) Fault
 name_of name = if is_attribute_name name then Ok name else Err (InvalidName name)
 
 -- A value as it is written is a row of units: a byte, a backslash with the byte after it, or a backslash that nothing follows.
-pub data Written : Type 0 where
-  Plain : (byte : ℕ) → Written
-  Escaped : (byte : ℕ) → Written
-  LoneBackslash : Written
+pub data ValueUnit : Type 0 where
+  Plain : (byte : ℕ) → ValueUnit
+  Escaped : (byte : ℕ) → ValueUnit
+  LoneBackslash : ValueUnit
 
 -- a backslash is no unit yet, and another byte is one
-abbrev pub plain_before : ℕ → List Written → List Written
+abbrev pub plain_before : ℕ → List ValueUnit → List ValueUnit
 plain_before b units = if b == backslash then units else Plain b ∷ units
 
 -- the units of a text, after a backslash or not
-abbrev pub units_from : Bool → List ℕ → List Written
+abbrev pub units_from : Bool → List ℕ → List ValueUnit
 units_from false [] = []
 units_from true [] = LoneBackslash ∷ []
 units_from false (b ∷ bs) = plain_before b (units_from (b == backslash) bs)
@@ -39,30 +39,30 @@ abbrev pub checked_byte : ℕ → Result ℕ Fault
 checked_byte b = if is_value_byte b then Ok b else Err (InvalidValueByte b)
 
 -- the byte that a unit stands for, or its fault
-abbrev pub byte_of : List ℕ → Written → Result ℕ Fault
-byte_of written (Plain b) = checked_byte b
-byte_of written (Escaped b) = checked_byte b
-byte_of written LoneBackslash = Err (TrailingEscape written)
+abbrev pub unit_byte : List ℕ → ValueUnit → Result ℕ Fault
+unit_byte written (Plain b) = checked_byte b
+unit_byte written (Escaped b) = checked_byte b
+unit_byte written LoneBackslash = Err (TrailingEscape written)
 
 -- the value that a text writes, or the fault of its first unit at fault
 abbrev pub value_of : List ℕ → Result (List ℕ) Fault
-value_of written = all_ok (map (byte_of written) (units_from false written))
+value_of written = all_ok (map (unit_byte written) (units_from false written))
 
 -- `name` with a state that has no value
-abbrev pub named : State → List ℕ → Result Assignment Fault
-named state name = name_of name >>= λ n. Ok (record { name = n; state = state })
+abbrev pub assignment_with_state : State → List ℕ → Result Assignment Fault
+assignment_with_state state name = name_of name >>= λ n. Ok (record { name = n; state = state })
 
 -- `name=value`, where the value is looked at before the name
-abbrev pub valued : List ℕ → List ℕ → Result Assignment Fault
-valued name written = value_of written >>= λ v. named (Value v) name
+abbrev pub assignment_with_value : List ℕ → List ℕ → Result Assignment Fault
+assignment_with_value name written = value_of written >>= λ v. assignment_with_state (Value v) name
 
 -- `!name` is unspecified, `-name` is unset, `name=value` has the value, and `name` is set.
 unfoldable pub assignment_of : List ℕ → Result Assignment Fault
 assignment_of part =
-    if first_is (λ b. b == bang) part then named Unspecified (drop 1 part)
-    else if first_is (λ b. b == dash) part then named Unset (drop 1 part)
-    else if list_any (λ b. b == equals_sign) part then valued (before_first (λ b. b == equals_sign) part) (after_first (λ b. b == equals_sign) part)
-    else named Set part
+    if first_is (λ b. b == bang) part then assignment_with_state Unspecified (drop 1 part)
+    else if first_is (λ b. b == dash) part then assignment_with_state Unset (drop 1 part)
+    else if list_any (λ b. b == equals_sign) part then assignment_with_value (before_first (λ b. b == equals_sign) part) (after_first (λ b. b == equals_sign) part)
+    else assignment_with_state Set part
 
 -- The parts of a list stand between spaces, and empty ones do not count.
 abbrev pub parts : List ℕ → List (List ℕ)

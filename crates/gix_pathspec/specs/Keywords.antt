@@ -5,9 +5,9 @@ use Rattle.gix_pathspec.specs.Reading.{Keyword as Asked}
 use Rattle.gix_pathspec.specs.Signatures.{signature_bits}
 
 -- what a keyword asks for
-abbrev pub asked_by : Keyword → Asked
-asked_by (told.Adds flag) = Asked.Adds (signature_bits flag)
-asked_by (told.Picks mode) = Asked.Picks mode
-asked_by told.Ignored = Asked.Ignored
-asked_by (told.Lists list) = Asked.Lists list.now
-asked_by told.Unknown = Asked.Unknown
+abbrev pub keyword_view : Keyword → Asked
+keyword_view (told.Adds flag) = Asked.Adds (signature_bits flag)
+keyword_view (told.Picks mode) = Asked.Picks mode
+keyword_view told.Ignored = Asked.Ignored
+keyword_view (told.Lists list) = Asked.Lists list.now
+keyword_view told.Unknown = Asked.Unknown

@@ -51,7 +51,7 @@ keywords s =
 
 -- `:(` and words with commas between them, none of them empty
 pub record HoldsWords (text : List ℕ) (words : List (List ℕ)) : Type 0 where
-  pub joined : text ≡ codes ":(" ++ join_with_byte comma words
+  pub join_names : text ≡ codes ":(" ++ join_with_byte comma words
   pub filled : IsTrue (list_all (λ word. not (is_empty word)) words)
 
 -- Words are written after those that a text holds, unless memory runs out.

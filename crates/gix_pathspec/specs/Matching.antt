@@ -8,7 +8,7 @@ use Rattle.gix_pathspec.specs.declared.search.MatchKind.TheVariants.{Always, Pre
 use Rattle.pathspec_glob.specs.declared.Mode.TheVariants.{Shell, PathAware}
 use Rattle.pathspec_glob.specs.declared.Case.{Case}
 use Rattle.pathspec_glob.specs.declared.Case.TheVariants.{Sensitive, Fold}
-use Rattle.pathspec_parts.specs.Bytes.{is_empty, folded}
+use Rattle.pathspec_parts.specs.Bytes.{is_empty, fold_case}
 use Rattle.pathspec_parts.specs.Paths.{is_below}
 use Rattle.pathspec_parts.specs.Attributes.{State, Assignment, Question, Table}
 use Rattle.pathspec_parts.specs.Attributes.State.{Set, Unset, Value, Unspecified}
@@ -23,8 +23,8 @@ abbrev pub prefix_directory : Spec → List ℕ
 prefix_directory s = take s.prefix_length s.path
 
 -- A spec without case and with a prefix directory wants a path below that directory, or the directory itself, compared with case.
-abbrev pub keeps_prefix : Spec → List ℕ → Bool → Bool
-keeps_prefix s path is_dir =
+abbrev pub is_in_prefix_directory : Spec → List ℕ → Bool → Bool
+is_in_prefix_directory s path is_dir =
     not (ignores_case s) || is_empty (prefix_directory s) || is_below path (prefix_directory s) || bytes_eq path (prefix_directory s) && is_dir
 
 -- whether case counts for the spec
@@ -42,29 +42,29 @@ abbrev pub takes_kind : Spec → Bool → Bool
 takes_kind s is_dir = not (wants_directory s) || is_dir
 
 -- it has a wildcard, and its glob matches
-abbrev pub is_globbed : Spec → List ℕ → Bool → Bool
-is_globbed s path is_dir = has_wildcard s && glob_matches s.mode s path && takes_kind s is_dir
+abbrev pub is_glob_match : Spec → List ℕ → Bool → Bool
+is_glob_match s path is_dir = has_wildcard s && glob_matches s.mode s path && takes_kind s is_dir
 
 -- the path is the spec's path
-abbrev pub is_verbatim : Spec → List ℕ → Bool → Bool
-is_verbatim s path is_dir = bytes_eq (folded (ignores_case s) path) (folded (ignores_case s) s.path) && takes_kind s is_dir
+abbrev pub is_verbatim_match : Spec → List ℕ → Bool → Bool
+is_verbatim_match s path is_dir = bytes_eq (fold_case (ignores_case s) path) (fold_case (ignores_case s) s.path) && takes_kind s is_dir
 
 -- the path lies below the spec's path
-abbrev pub is_prefixed : Spec → List ℕ → Bool
-is_prefixed s path = is_below (folded (ignores_case s) path) (folded (ignores_case s) s.path)
+abbrev pub is_prefix_match : Spec → List ℕ → Bool
+is_prefix_match s path = is_below (fold_case (ignores_case s) path) (fold_case (ignores_case s) s.path)
 
 -- the first of the ways to match that holds
-abbrev pub way : Spec → List ℕ → Bool → Option MatchKind
-way s path is_dir =
+abbrev pub match_way : Spec → List ℕ → Bool → Option MatchKind
+match_way s path is_dir =
     if always_matches s then Some Always
-    else if is_globbed s path is_dir then Some WildcardMatch
-    else if is_verbatim s path is_dir then Some Verbatim
-    else if is_prefixed s path then Some Prefix
+    else if is_glob_match s path is_dir then Some WildcardMatch
+    else if is_verbatim_match s path is_dir then Some Verbatim
+    else if is_prefix_match s path then Some Prefix
     else None
 
 -- How a spec fits a path: the prefix directory is kept, and the path matches in this way.
 unfoldable pub fit : Spec → List ℕ → Bool → Option MatchKind
-fit s path is_dir = if keeps_prefix s path is_dir then way s path is_dir else None
+fit s path is_dir = if is_in_prefix_directory s path is_dir then match_way s path is_dir else None
 
 -- a spec fits a path in some way
 abbrev pub fits : Spec → List ℕ → Bool → Bool
@@ -81,10 +81,10 @@ same_state Unspecified Unspecified = true
 same_state _ _ = false
 
 -- each assignment has its state in the reply
-abbrev pub are_left : List State → List Assignment → Bool
-are_left [] [] = true
-are_left (state ∷ states) (a ∷ rest) = same_state state a.state && are_left states rest
-are_left _ _ = false
+abbrev pub have_states : List State → List Assignment → Bool
+have_states [] [] = true
+have_states (state ∷ states) (a ∷ rest) = same_state state a.state && have_states states rest
+have_states _ _ = false
 
 -- what is asked for a spec
 abbrev pub question : Spec → List ℕ → Bool → Question
@@ -93,21 +93,21 @@ question s path is_dir = record { path = path; case = Sensitive; is_dir = is_dir
 -- the look-up says each state that the spec lists, where it lists any
 unfoldable pub has_attributes : Table → Spec → List ℕ → Bool → Bool
 has_attributes table s path is_dir =
-    let reply = table (question s path is_dir) in is_empty s.attributes || reply.found && are_left reply.states s.attributes
+    let reply = table (question s path is_dir) in is_empty s.attributes || reply.found && have_states reply.states s.attributes
 
 -- A spec matches a path where it fits and the look-up says what it lists.
-unfoldable pub means : Table → Spec → List ℕ → Bool → Bool
-means table s path is_dir = fits s path is_dir && has_attributes table s path is_dir
+unfoldable pub spec_matches : Table → Spec → List ℕ → Bool → Bool
+spec_matches table s path is_dir = fits s path is_dir && has_attributes table s path is_dir
 
 -- ---- chosen
 
 -- A path is chosen where no exclude matches it, and some include matches it or there is no include.
 pub record IsChosen (table : Table) (specs : List Spec) (path : List ℕ) (is_dir : Bool) : Type 0 where
-  pub not_excluded : (s : Spec) → Contains specs s → IsTrue (is_exclude s) → IsFalse (means table s path is_dir)
-  pub included : ((s : Spec) × Contains specs s × IsTrue (is_include s) × IsTrue (means table s path is_dir)) ⊎ ((s : Spec) → Contains specs s → IsTrue (is_exclude s))
+  pub not_excluded : (s : Spec) → Contains specs s → IsTrue (is_exclude s) → IsFalse (spec_matches table s path is_dir)
+  pub included : ((s : Spec) × Contains specs s × IsTrue (is_include s) × IsTrue (spec_matches table s path is_dir)) ⊎ ((s : Spec) → Contains specs s → IsTrue (is_exclude s))
 
 -- the same as a test
-unfoldable pub chosen : Table → List Spec → List ℕ → Bool → Bool
-chosen table specs path is_dir =
-    not (list_any (λ s. is_exclude s && means table s path is_dir) specs)
-    && (list_any (λ s. is_include s && means table s path is_dir) specs || not (list_any is_include specs))
+unfoldable pub is_chosen : Table → List Spec → List ℕ → Bool → Bool
+is_chosen table specs path is_dir =
+    not (list_any (λ s. is_exclude s && spec_matches table s path is_dir) specs)
+    && (list_any (λ s. is_include s && spec_matches table s path is_dir) specs || not (list_any is_include specs))

@@ -1,7 +1,7 @@
 -- What a spec means from a folder of the repository: its path from the root, resolved (normalising).
 use Rattle.std.specs.Prelude.{◌≡◌, ℕ, ◌-◌, min, max, Bool, true, false, not, ◌&&◌, ◌||◌, List, [], ◌∷◌, ◌++◌, length, take, map, filter, codes, ◌==◌, if◌then◌else◌, Option, Some, None, Result, Ok, Err}
 use Rattle.pathspec_parts.specs.Bytes.{is_empty}
-use Rattle.pathspec_parts.specs.Paths.{components, joined, is_up, is_absolute, after_root}
+use Rattle.pathspec_parts.specs.Paths.{components, join_names, is_parent_dir, is_absolute, strip_root}
 use Rattle.gix_pathspec.specs.Faults.{Fault}
 use Rattle.gix_pathspec.specs.Faults.Fault.{OutsideRoot, LeavesRepository}
 use Rattle.gix_pathspec.specs.Specs.{Spec, top, has, wants_directory}
@@ -14,26 +14,26 @@ fronts [] = [] ∷ []
 fronts (x ∷ xs) = [] ∷ map (λ front. x ∷ front) (fronts xs)
 
 -- how many of the components are `..`
-abbrev pub ups : List (List ℕ) → ℕ
-ups cs = length (filter is_up cs)
+abbrev pub parent_dir_count : List (List ℕ) → ℕ
+parent_dir_count cs = length (filter is_parent_dir cs)
 
 -- how many of them are names
-abbrev pub names : List (List ℕ) → ℕ
-names cs = length (filter (λ c. not (is_up c)) cs)
+abbrev pub name_count : List (List ℕ) → ℕ
+name_count cs = length (filter (λ c. not (is_parent_dir c)) cs)
 
 -- the greatest of numbers, and 0 of none
-abbrev pub greatest : List ℕ → ℕ
-greatest [] = 0
-greatest (n ∷ ns) = max n (greatest ns)
+abbrev pub maximum : List ℕ → ℕ
+maximum [] = 0
+maximum (n ∷ ns) = max n (maximum ns)
 
 -- How far components climb above where they begin: the greatest excess of `..` over names among their fronts.
 unfoldable pub climb : List (List ℕ) → ℕ
-climb cs = greatest (map (λ front. ups front - names front) (fronts cs))
+climb cs = maximum (map (λ front. parent_dir_count front - name_count front) (fronts cs))
 
 -- A name survives where what follows it does not climb.
 abbrev pub survivors : List (List ℕ) → List (List ℕ)
 survivors [] = []
-survivors (c ∷ cs) = let others = survivors cs in if not (is_up c) && climb cs == 0 then c ∷ others else others
+survivors (c ∷ cs) = let others = survivors cs in if not (is_parent_dir c) && climb cs == 0 then c ∷ others else others
 
 -- ---- what a path stands on
 
@@ -58,17 +58,17 @@ base_names Top = []
 
 -- A path's own components: on the root those after the root's, outside which it may lie.
 abbrev pub own_components : Base → List ℕ → List ℕ → Option (List (List ℕ))
-own_components Root root path = after_root root path
+own_components Root root path = strip_root root path
 own_components (Prefix front) root path = Some (components path)
 own_components Top root path = Some (components path)
 
 -- What is resolved: the names that a path stands on, and then its own components.
-abbrev pub walked : Base → List (List ℕ) → List (List ℕ)
-walked b own = base_names b ++ own
+abbrev pub components_to_resolve : Base → List (List ℕ) → List (List ℕ)
+components_to_resolve b own = base_names b ++ own
 
 -- A path lies inside the repository where it does not climb above what it stands on.
 abbrev pub is_inside : Base → List (List ℕ) → Bool
-is_inside b own = climb (walked b own) == 0
+is_inside b own = climb (components_to_resolve b own) == 0
 
 -- ---- the normal form
 
@@ -84,11 +84,11 @@ directory_count b s own left = min (kept b own left) (length left - (if wants_di
 
 -- the prefix length of a spec whose path becomes these survivors
 abbrev pub new_prefix_length : Base → Spec → List (List ℕ) → List (List ℕ) → ℕ
-new_prefix_length b s own left = if s.nil then 0 else length (joined (take (directory_count b s own left) left))
+new_prefix_length b s own left = if s.nil then 0 else length (join_names (take (directory_count b s own left) left))
 
 -- Whether a path that leaves nothing stays an empty path: it is the root itself, or it was empty and stands on the top.
 abbrev pub stays_empty : Base → Spec → List (List ℕ) → Bool
-stays_empty Root s own = ups own == 0
+stays_empty Root s own = parent_dir_count own == 0
 stays_empty (Prefix front) s own = false
 stays_empty Top s own = is_empty s.path
 
@@ -97,12 +97,12 @@ abbrev pub resolved : Base → Spec → List (List ℕ) → List (List ℕ) → 
 resolved b s own [] =
     if stays_empty b s own then record s { path = []; prefix_length = 0 }
     else record s { path = codes "."; nil = true; prefix_length = 0 }
-resolved b s own (name ∷ more) = record s { path = joined (name ∷ more); prefix_length = new_prefix_length b s own (name ∷ more) }
+resolved b s own (name ∷ more) = record s { path = join_names (name ∷ more); prefix_length = new_prefix_length b s own (name ∷ more) }
 
 -- the resolved spec, or why the path lies outside
 abbrev pub resolve : Base → Spec → Option (List (List ℕ)) → Result Spec Fault
 resolve b s None = Err (OutsideRoot s.path)
-resolve b s (Some own) = if is_inside b own then Ok (resolved b s own (survivors (walked b own))) else Err (LeavesRepository s.path)
+resolve b s (Some own) = if is_inside b own then Ok (resolved b s own (survivors (components_to_resolve b own))) else Err (LeavesRepository s.path)
 
 -- The spec as it is meant from a clean prefix, in a repository with this root, or why it lies outside.
 unfoldable pub normal_form : List ℕ → List ℕ → Spec → Result Spec Fault

@@ -2,7 +2,7 @@
 use Rattle.std.specs.Prelude.{◌≡◌, ◌↔◌, Bool, IsTrue, map, Result}
 use Rattle.bstr.specs.declared.BStr.{BStr}
 use Rattle.bstr.specs.BStr.{bstr_bytes}
-use Rattle.pathspec_parts.specs.AttributeStates.{attribute_of}
+use Rattle.pathspec_parts.specs.AttributeStates.{assignment_view}
 use Rattle.gix_pathspec.specs.declared.pattern.Pattern.{Pattern}
 use Rattle.gix_pathspec.specs.Signatures.{signature_bits}
 use Rattle.gix_pathspec.specs.Specs.{Spec}
@@ -16,7 +16,7 @@ pattern_spec p =
       path = p.path.items;
       signature = signature_bits p.signature;
       mode = p.search_mode;
-      attributes = map attribute_of p.attributes.items;
+      attributes = map assignment_view p.attributes.items;
       nil = p.nil;
       prefix_length = p.prefix_length;
     }

@@ -81,27 +81,27 @@ same_mode PathAwareGlob PathAwareGlob = true
 same_mode _ _ = false
 
 -- a mode may be picked again, and not beside another
-abbrev pub picked : Magic → List ℕ → SearchMode → Result Magic Fault
-picked magic piece mode = if same_mode (unwrap_or magic.mode mode) mode then Ok (record magic { mode = Some mode }) else Err (LiteralWithGlob piece)
+abbrev pub with_mode : Magic → List ℕ → SearchMode → Result Magic Fault
+with_mode magic piece mode = if same_mode (unwrap_or magic.mode mode) mode then Ok (record magic { mode = Some mode }) else Err (LiteralWithGlob piece)
 
 -- only one list of attributes may stand, unless the one before was of spaces alone
-abbrev pub listed : Magic → List ℕ → List ℕ → Result Magic Fault
-listed magic piece list =
+abbrev pub with_list : Magic → List ℕ → List ℕ → Result Magic Fault
+with_list magic piece list =
     if is_empty magic.attributes then (assignments_of list >>= λ assignments. Ok (record magic { attributes = assignments }))
     else Err (SecondAttributes piece)
 
 -- what a piece makes of the magic before it, or its fault
-abbrev pub after_piece : Magic → List ℕ → Keyword → Result Magic Fault
-after_piece magic piece (Adds flag) = Ok (record magic { signature = bit_or magic.signature flag })
-after_piece magic piece (Picks mode) = picked magic piece mode
-after_piece magic piece Ignored = Ok magic
-after_piece magic piece (Lists list) = listed magic piece list
-after_piece magic piece Unknown = Err (InvalidKeyword piece)
+abbrev pub with_piece : Magic → List ℕ → Keyword → Result Magic Fault
+with_piece magic piece (Adds flag) = Ok (record magic { signature = bit_or magic.signature flag })
+with_piece magic piece (Picks mode) = with_mode magic piece mode
+with_piece magic piece Ignored = Ok magic
+with_piece magic piece (Lists list) = with_list magic piece list
+with_piece magic piece Unknown = Err (InvalidKeyword piece)
 
 -- what the pieces make of the magic before them, from left to right, or the fault of the first at fault
-abbrev pub after_pieces : Magic → List (List ℕ) → Result Magic Fault
-after_pieces magic [] = Ok magic
-after_pieces magic (piece ∷ pieces) = after_piece magic piece (keyword_of piece) >>= λ next. after_pieces next pieces
+abbrev pub with_pieces : Magic → List (List ℕ) → Result Magic Fault
+with_pieces magic [] = Ok magic
+with_pieces magic (piece ∷ pieces) = with_piece magic piece (keyword_of piece) >>= λ next. with_pieces next pieces
 
 -- ---- the cut of a text
 
@@ -188,9 +188,9 @@ unfoldable pub cut_of : List ℕ → Result Cut Fault
 cut_of text = let magic = drop 1 text in cut_end text (take_while is_short magic) (drop (prefix_len is_short magic) magic)
 
 -- what follows an end mark, if there is one
-abbrev pub behind_mark : List ℕ → List ℕ
-behind_mark [] = []
-behind_mark (b ∷ bs) = if b == colon then bs else b ∷ bs
+abbrev pub after_mark : List ℕ → List ℕ
+after_mark [] = []
+after_mark (b ∷ bs) = if b == colon then bs else b ∷ bs
 
 -- ---- the value
 
@@ -200,7 +200,7 @@ short_bits short = bit_or (if list_any (λ b. b == slash) short then top else 0)
 
 -- what a cut's magic says
 unfoldable pub magic_of : Cut → Result Magic Fault
-magic_of cut = after_pieces (record { signature = short_bits cut.short; mode = None; attributes = [] }) (long_pieces (unwrap_or cut.long []))
+magic_of cut = with_pieces (record { signature = short_bits cut.short; mode = None; attributes = [] }) (long_pieces (unwrap_or cut.long []))
 
 -- the spec that magic and a body say: a last slash is stripped and asks for a directory, and the defaults fill in
 unfoldable pub spec_of : Defaults → Magic → List ℕ → Spec
@@ -255,8 +255,8 @@ pub data IsRefused (defaults : Defaults) (text : List ℕ) (fault : Fault) : Typ
   piece : IsFalse defaults.literal → (cut : Cut) → IsCut cut → text ≡ text_of cut → magic_of cut ≡ Err fault → IsRefused defaults text fault
 
 -- what a text with magic says
-abbrev pub magic_says : Defaults → List ℕ → Result Spec Fault
-magic_says defaults text = cut_of text >>= λ cut. magic_of cut >>= λ asked. Ok (spec_of defaults asked cut.body)
+abbrev pub magic_reading : Defaults → List ℕ → Result Spec Fault
+magic_reading defaults text = cut_of text >>= λ cut. magic_of cut >>= λ asked. Ok (spec_of defaults asked cut.body)
 
 -- The spec that a text says, or why it says none: the same as a function.
 unfoldable pub reading : Defaults → List ℕ → Result Spec Fault
@@ -264,7 +264,7 @@ reading defaults text =
     if is_empty text then Err Empty
     else if defaults.literal then Ok (literal_spec (signature_bits defaults.signature) text)
     else if bytes_eq text (colon ∷ []) then Ok nil_spec
-    else if first_is is_colon text then magic_says defaults text
+    else if first_is is_colon text then magic_reading defaults text
     else Ok (spec_of defaults no_magic text)
 
 -- the defaults that ask for nothing

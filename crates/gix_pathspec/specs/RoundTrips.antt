@@ -13,9 +13,9 @@ use Rattle.gix_pathspec.specs.Reading.{reading, nil_spec, no_defaults}
 use Rattle.gix_pathspec.specs.LongText.{long_text}
 
 -- a state that a list can hold
-abbrev pub is_written_state : State → Bool
-is_written_state (Value v) = list_all is_value_byte v
-is_written_state _ = true
+abbrev pub is_expressible_state : State → Bool
+is_expressible_state (Value v) = list_all is_value_byte v
+is_expressible_state _ = true
 
 -- a name that stands alone
 abbrev pub is_set : State → Bool
@@ -23,12 +23,12 @@ is_set Set = true
 is_set _ = false
 
 -- an assignment that a list can say: the names of states other than set may be empty
-abbrev pub is_sayable_assignment : Assignment → Bool
-is_sayable_assignment a = is_attribute_name a.name && is_written_state a.state && not (is_set a.state && is_empty a.name)
+abbrev pub is_expressible_assignment : Assignment → Bool
+is_expressible_assignment a = is_attribute_name a.name && is_expressible_state a.state && not (is_set a.state && is_empty a.name)
 
 -- the same of an assignment whose name is known to be one
 abbrev pub is_sayable_state : Assignment → Bool
-is_sayable_state a = is_written_state a.state && not (is_set a.state && is_empty a.name)
+is_sayable_state a = is_expressible_state a.state && not (is_set a.state && is_empty a.name)
 
 -- A spec that a text can say, where the test tells which assignments a list can say: only known bits, no prefix directory, no last slash in the path unless a directory is wanted, and where it is nil, nothing else.
 pub record IsSayableBy (can_say : Assignment → Bool) (s : Spec) : Type 0 where
@@ -39,8 +39,8 @@ pub record IsSayableBy (can_say : Assignment → Bool) (s : Spec) : Type 0 where
   pub nil : IsTrue s.nil → s ≡ nil_spec
 
 -- A spec that a text can say.
-abbrev pub IsSayable : Spec → Type 0
-IsSayable = IsSayableBy is_sayable_assignment
+abbrev pub IsExpressible : Spec → Type 0
+IsExpressible = IsSayableBy is_expressible_assignment
 
 -- The spec of a pattern that a text can say: a pattern's attributes have valid names.
 abbrev pub IsSayablePattern : Spec → Type 0
@@ -48,20 +48,20 @@ IsSayablePattern = IsSayableBy is_sayable_state
 
 -- The long text of a sayable spec reads as the spec.
 abbrev pub RoundTrip : Type 0
-RoundTrip = (s : Spec) → IsSayable s → reading no_defaults (long_text s) ≡ Ok s
+RoundTrip = (s : Spec) → IsExpressible s → reading no_defaults (long_text s) ≡ Ok s
 
 -- Two sayable specs are equal exactly where their long texts are.
-abbrev pub LongTextsTell : Type 0
-LongTextsTell = (s t : Spec) → IsSayable s → IsSayable t → (s ≡ t) ↔ (long_text s ≡ long_text t)
+abbrev pub LongTextIsInjective : Type 0
+LongTextIsInjective = (s t : Spec) → IsExpressible s → IsExpressible t → (s ≡ t) ↔ (long_text s ≡ long_text t)
 
 -- Just the sayable specs come back from their long text.
 abbrev pub RoundTripIsExact : Type 0
-RoundTripIsExact = (s : Spec) → (reading no_defaults (long_text s) ≡ Ok s) ↔ IsSayable s
+RoundTripIsExact = (s : Spec) → (reading no_defaults (long_text s) ≡ Ok s) ↔ IsExpressible s
 
 -- What a text says is sayable, under any defaults of known bits that do not ask for literal specs.
-abbrev pub SaidIsSayable : Type 0
-SaidIsSayable = (d : Defaults) (text : List ℕ) (s : Spec) → IsFalse d.literal → signature_bits d.signature < 16 → reading d text ≡ Ok s → IsSayable s
+abbrev pub ParsedIsExpressible : Type 0
+ParsedIsExpressible = (d : Defaults) (text : List ℕ) (s : Spec) → IsFalse d.literal → signature_bits d.signature < 16 → reading d text ≡ Ok s → IsExpressible s
 
 -- So what a text says comes back from its long text.
-abbrev pub SaidComesBack : Type 0
-SaidComesBack = (d : Defaults) (text : List ℕ) (s : Spec) → IsFalse d.literal → signature_bits d.signature < 16 → reading d text ≡ Ok s → reading no_defaults (long_text s) ≡ Ok s
+abbrev pub ParsedRoundTrips : Type 0
+ParsedRoundTrips = (d : Defaults) (text : List ℕ) (s : Spec) → IsFalse d.literal → signature_bits d.signature < 16 → reading d text ≡ Ok s → reading no_defaults (long_text s) ≡ Ok s

@@ -4,7 +4,7 @@ ghost use Rattle.std.specs.List.{list_any};
 ghost use Rattle.pathspec_parts.specs.Bytes.{colon, first_is, is_one_of};
 ghost use Rattle.gix_pathspec.specs.Errors.{Computes, IsAnswer, IsMemory, IsMemoryOr};
 ghost use Rattle.gix_pathspec.specs.Signatures.{signature_bits};
-ghost use Rattle.gix_pathspec.specs.Reading.{Reads, IsRefused, reading, magic_says, magic_of, short_bits, spec_of, is_colon, OneCut, ReadingIsExact};
+ghost use Rattle.gix_pathspec.specs.Reading.{Reads, IsRefused, reading, magic_reading, magic_of, short_bits, spec_of, is_colon, OneCut, ReadingIsExact};
 ghost use Rattle.gix_pathspec.specs.Patterns.{pattern_spec};
 
 mod cut;
@@ -67,7 +67,7 @@ fn pattern_of(alloc: Global, input: &[u8], defaults: Defaults) -> Result<Pattern
 
 /// The pattern that a text says, which begins with `:` and doesn't end there.
 fn pattern_with_magic(alloc: Global, text: &[u8], defaults: Defaults) -> Result<Pattern, Error>
-    ensures { Computes pattern_spec (magic_says defaults text.now) result }
+    ensures { Computes pattern_spec (magic_reading defaults text.now) result }
 {
     let cut = cut::cut_text(alloc, text)?;
     let magic = magic_of(alloc, &cut)?;

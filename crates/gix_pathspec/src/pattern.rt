@@ -1,7 +1,7 @@
 //! A pathspec as it is read from a text, and its normal form.
 ghost use Rattle.std.specs.Prelude.{◌≡◌, map, IfOk, IfErr};
 ghost use Rattle.bstr.specs.BStr.{bstr_bytes};
-ghost use Rattle.pathspec_parts.specs.AttributeStates.{attribute_of};
+ghost use Rattle.pathspec_parts.specs.AttributeStates.{assignment_view};
 ghost use Rattle.gix_pathspec.specs.Errors.{IsMemory, IsMemoryOr, Computes};
 ghost use Rattle.gix_pathspec.specs.Signatures.{signature_bits};
 ghost use Rattle.gix_pathspec.specs.Specs.{is_exclude, always_matches, has_wildcard, is_glob};
@@ -174,7 +174,7 @@ impl Pattern {
 
 /// The same assignments.
 fn cloned(alloc: Global, assignments: &[Assignment]) -> Result<Vec<Assignment>, AllocError>
-    ensures { IfOk result (λ copy. map attribute_of copy.items ≡ map attribute_of assignments.now) }
+    ensures { IfOk result (λ copy. map assignment_view copy.items ≡ map assignment_view assignments.now) }
 {
     let mut copy = Vec::new(alloc);
     for assignment in assignments {

@@ -6,8 +6,8 @@ use Rattle.pathspec_glob.specs.declared.Mode.{Mode}
 use Rattle.pathspec_glob.specs.declared.Case.{Case}
 use Rattle.pathspec_glob.specs.Tokens.{tokens}
 use Rattle.pathspec_glob.specs.GlobRelation.{matches}
-use Rattle.pathspec_glob.specs.GlobSteps.{Parts, parts_of}
-use Rattle.pathspec_glob.specs.Globs.{Compiled, AnswersGlob, AnswersTail, is_tail_pattern}
+use Rattle.pathspec_glob.specs.GlobSteps.{TokenList, token_list}
+use Rattle.pathspec_glob.specs.Globs.{GlobSource, AnswersGlob, AnswersTail, is_tail_pattern}
 use Rattle.pathspec_glob.proofs.GlobProofs.{glob_is_relation}
 use Rattle.pathspec_glob.proofs.TokenProofs.{few_tokens}
 use Rattle.pathspec_glob.proofs.TailProofs.{matches-ends_with, tail-fits}
@@ -37,8 +37,8 @@ pub answers-tail : (mode : Mode) (case : Case) (pattern text : List ℕ) (given 
 answers-tail mode case pattern text given is tail apart = is ∙ matches-ends_with mode case pattern text tail apart
 
 -- the same of a glob whose tokens are its pattern's
-pub glob-answers : (parts : Parts) (pattern : List ℕ) (glob : Compiled) (case : Case) (text : List ℕ) (given : Bool) (steps : ℕ)
-    → parts ≡ parts_of parts.mode pattern → record { mode = parts.mode; pattern = pattern } ≡ glob
+pub glob-answers : (parts : TokenList) (pattern : List ℕ) (glob : GlobSource) (case : Case) (text : List ℕ) (given : Bool) (steps : ℕ)
+    → parts ≡ token_list parts.mode pattern → record { mode = parts.mode; pattern = pattern } ≡ glob
     → given ≡ matches parts.mode case parts.tokens text → steps ≤ length parts.tokens * length text → (given ≡ true → length text ≤ steps)
     → AnswersGlob glob.mode case glob.pattern text given steps
 glob-answers parts pattern glob case text given steps whole view is most read =
@@ -46,8 +46,8 @@ glob-answers parts pattern glob case text given steps whole view is most read =
     subst (λ g. AnswersGlob g.mode case g.pattern text given steps) view
     (answers parts.mode case pattern text given steps (is ∙ ap (λ ts. matches parts.mode case ts text) same) (subst (λ ts. steps ≤ length ts * length text) same most) read)
 
-pub glob-answers-tail : (parts : Parts) (pattern : List ℕ) (glob : Compiled) (case : Case) (text : List ℕ) (given : Bool)
-    → parts ≡ parts_of parts.mode pattern → record { mode = parts.mode; pattern = pattern } ≡ glob
+pub glob-answers-tail : (parts : TokenList) (pattern : List ℕ) (glob : GlobSource) (case : Case) (text : List ℕ) (given : Bool)
+    → parts ≡ token_list parts.mode pattern → record { mode = parts.mode; pattern = pattern } ≡ glob
     → given ≡ matches parts.mode case parts.tokens text
     → AnswersTail glob.mode case glob.pattern text given
 glob-answers-tail parts pattern glob case text given whole view is =

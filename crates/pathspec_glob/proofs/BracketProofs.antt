@@ -9,33 +9,33 @@ use Rattle.pathspec_glob.specs.declared.Case.TheVariants.{Sensitive, Fold}
 use Rattle.pathspec_glob.specs.declared.brackets.Item.{Item as Kept}
 use Rattle.pathspec_glob.specs.Bytes.{dash, colon, open_bracket, close_bracket, backslash, first_is, is_empty}
 use Rattle.pathspec_glob.specs.Tokens.{Item, Items, Front, item_before, items_from, front_of, single_of, class_of, class_item, escaped_item, range_item, range_from, makes_range}
-use Rattle.pathspec_glob.specs.Tokens.Item.{Lone, Class}
+use Rattle.pathspec_glob.specs.Tokens.Item.{Literal, Class}
 use Rattle.pathspec_glob.specs.Tokens.Front.{Listed, Closed, Broken}
-use Rattle.pathspec_glob.specs.GlobRelation.{hold, item_holds, items_hold}
-use Rattle.pathspec_glob.specs.GlobForms.{item_of, items_of}
+use Rattle.pathspec_glob.specs.GlobRelation.{bracket_holds, item_holds, items_hold}
+use Rattle.pathspec_glob.specs.GlobForms.{item_view, items_view}
 
 -- items hold a byte where their forms do
-items_hold_forms : (items : List Kept) (b : ℕ) → items_hold (items_of items) b ≡ list_any (λ i. item_holds b (item_of i)) items
+items_hold_forms : (items : List Kept) (b : ℕ) → items_hold (items_view items) b ≡ list_any (λ i. item_holds b (item_view i)) items
 items_hold_forms [] b = refl
 items_hold_forms (x ∷ xs) b = rw (items_hold_forms xs b) refl
 
-pub holds-in_Sensitive : (case : Case) (items : List Kept) (b : ℕ) (r : Bool) → case ≡ Sensitive → r ≡ list_any (λ i. item_holds b (item_of i)) items → r ≡ hold case (items_of items) b
+pub holds-in_Sensitive : (case : Case) (items : List Kept) (b : ℕ) (r : Bool) → case ≡ Sensitive → r ≡ list_any (λ i. item_holds b (item_view i)) items → r ≡ bracket_holds case (items_view items) b
 holds-in_Sensitive case items b r s e = rw s (e ∙ sym (items_hold_forms items b))
 
 -- the answer for the lower form, where that is yes
-pub holds-by_lower : (case : Case) (items : List Kept) (b low : ℕ) (r : Bool) → case ≡ Fold → low ≡ to_ascii_lowercase b → r ≡ list_any (λ i. item_holds low (item_of i)) items → r ≡ true → r ≡ hold case (items_of items) b
+pub holds-by_lower : (case : Case) (items : List Kept) (b low : ℕ) (r : Bool) → case ≡ Fold → low ≡ to_ascii_lowercase b → r ≡ list_any (λ i. item_holds low (item_view i)) items → r ≡ true → r ≡ bracket_holds case (items_view items) b
 holds-by_lower case items b low r s l e t =
-    let yes : items_hold (items_of items) (to_ascii_lowercase b) ≡ true = rw (← l) (items_hold_forms items low ∙ (sym e ∙ t)) in
+    let yes : items_hold (items_view items) (to_ascii_lowercase b) ≡ true = rw (← l) (items_hold_forms items low ∙ (sym e ∙ t)) in
     rw (s, t, yes) refl
 
 -- and the answer for the upper form, where it is no
-pub holds-by_upper : (case : Case) (items : List Kept) (b low up : ℕ) (lost r : Bool) → case ≡ Fold → low ≡ to_ascii_lowercase b → up ≡ to_ascii_uppercase b → lost ≡ list_any (λ i. item_holds low (item_of i)) items → lost ≡ false → r ≡ list_any (λ i. item_holds up (item_of i)) items → r ≡ hold case (items_of items) b
+pub holds-by_upper : (case : Case) (items : List Kept) (b low up : ℕ) (lost r : Bool) → case ≡ Fold → low ≡ to_ascii_lowercase b → up ≡ to_ascii_uppercase b → lost ≡ list_any (λ i. item_holds low (item_view i)) items → lost ≡ false → r ≡ list_any (λ i. item_holds up (item_view i)) items → r ≡ bracket_holds case (items_view items) b
 holds-by_upper case items b low up lost r s l u n f e =
-    let fails : items_hold (items_of items) (to_ascii_lowercase b) ≡ false = rw (← l) (items_hold_forms items low ∙ (sym n ∙ f)) in
-    let same : r ≡ items_hold (items_of items) (to_ascii_uppercase b) = rw (← u) (e ∙ sym (items_hold_forms items up)) in
+    let fails : items_hold (items_view items) (to_ascii_lowercase b) ≡ false = rw (← l) (items_hold_forms items low ∙ (sym n ∙ f)) in
+    let same : r ≡ items_hold (items_view items) (to_ascii_uppercase b) = rw (← u) (e ∙ sym (items_hold_forms items up)) in
     rw (s, fails) same
 
--- the first place that passes, behind elements that stand before it
+-- the first place that passes, after elements that stand before it
 first-drop : {X : Type 0} (p : X → Bool) (xs : List X) (size : ℕ) → size ≤ position_or_len p xs → position_or_len p (drop size xs) ≡ position_or_len p xs - size
 first-drop p xs zero h = omega arith
 first-drop p [] (suc s) h = absurd (omega arith)
@@ -52,15 +52,15 @@ first-Some p xs place e = grind (arith, nat_tests)
 first-None : {X : Type 0} (p : X → Bool) (xs : List X) → position p xs ≡ None → length xs ≤ position_or_len p xs
 first-None p xs e = grind (arith, nat_tests)
 
-pub position-behind : {X : Type 0} (p : X → Bool) (xs : List X) (size place : ℕ) → position p xs ≡ Some place → size ≤ place → Some (place - size) ≡ position p (drop size xs)
-position-behind p xs size place e h =
+pub position-after : {X : Type 0} (p : X → Bool) (xs : List X) (size place : ℕ) → position p xs ≡ Some place → size ≤ place → Some (place - size) ≡ position p (drop size xs)
+position-after p xs size place e h =
     let f : (position_or_len p xs < length xs) × (position_or_len p xs ≡ place) = first-Some p xs place e in
     let d : position_or_len p (drop size xs) ≡ position_or_len p xs - size = first-drop p xs size (omega arith) in
     let l : length (drop size xs) ≡ length xs - size = length-drop size xs in
     grind (arith, nat_tests)
 
-pub position-behind_none : {X : Type 0} (p : X → Bool) (xs : List X) (size : ℕ) → size ≤ length xs → position p xs ≡ None → None ≡ position p (drop size xs)
-position-behind_none p xs size h e =
+pub position-after_none : {X : Type 0} (p : X → Bool) (xs : List X) (size : ℕ) → size ≤ length xs → position p xs ≡ None → None ≡ position p (drop size xs)
+position-after_none p xs size h e =
     let f : length xs ≤ position_or_len p xs = first-None p xs e in
     let d : position_or_len p (drop size xs) ≡ position_or_len p xs - size = first-drop p xs size (omega arith) in
     let l : length (drop size xs) ≡ length xs - size = length-drop size xs in
@@ -90,7 +90,7 @@ class_item-none bytes e =
 -- with one, and with these bytes before it
 abbrev inside_item : List ℕ → Front
 inside_item inside =
-    if not (first_is (λ b. b == colon) (drop (length inside - 1) inside)) then Listed (Lone open_bracket) 1
+    if not (first_is (λ b. b == colon) (drop (length inside - 1) inside)) then Listed (Literal open_bracket) 1
     else if is_some (class_of (take (length inside - 1) inside)) then Listed (Class (take (length inside - 1) inside)) (length inside + 3)
     else Broken
 
@@ -116,7 +116,7 @@ pub class_item-named : (bytes : List ℕ) (end : ℕ) (name : List ℕ) → posi
 class_item-named bytes end name e n = sym (class_item-inside bytes end e ∙ inside_item-named (take end bytes) name n)
 
 -- where it is not
-pub class_item-lone : (bytes : List ℕ) (end : ℕ) → position (λ b. b == close_bracket) bytes ≡ Some end → None ≡ (if first_is (λ b. b == colon) (drop (length (take end bytes) - 1) (take end bytes)) then Some (take (length (take end bytes) - 1) (take end bytes)) else None) → Listed (Lone open_bracket) 1 ≡ class_item bytes
+pub class_item-lone : (bytes : List ℕ) (end : ℕ) → position (λ b. b == close_bracket) bytes ≡ Some end → None ≡ (if first_is (λ b. b == colon) (drop (length (take end bytes) - 1) (take end bytes)) then Some (take (length (take end bytes) - 1) (take end bytes)) else None) → Listed (Literal open_bracket) 1 ≡ class_item bytes
 class_item-lone bytes end e n = elim (cases_Bool (first_is (λ b. b == colon) (drop (length (take end bytes) - 1) (take end bytes)))) [
   | inl t ↦ let e2 : None ≡ Some (take (length (take end bytes) - 1) (take end bytes)) = rw t at n in absurd (cc)
   | inr f ↦ sym (class_item-inside bytes end e ∙ (rw f refl))
@@ -162,7 +162,7 @@ named-sized : (n : ℕ) (inside : List ℕ) → length inside + 3 ≤ n → 1 �
 named-sized n inside h k =
     let named : (0 < length inside + 3) × (length inside + 3 ≤ n) = (omega arith, omega arith) in
     let lone : (0 < 1) × (1 ≤ n) = (omega arith, omega arith) in
-    sized-if n (not (first_is (λ b. b == colon) (drop (length inside - 1) inside))) (Listed (Lone open_bracket) 1) (if is_some (class_of (take (length inside - 1) inside)) then Listed (Class (take (length inside - 1) inside)) (length inside + 3) else Broken) (λ h. lone)
+    sized-if n (not (first_is (λ b. b == colon) (drop (length inside - 1) inside))) (Listed (Literal open_bracket) 1) (if is_some (class_of (take (length inside - 1) inside)) then Listed (Class (take (length inside - 1) inside)) (length inside + 3) else Broken) (λ h. lone)
     (λ h. sized-if n (is_some (class_of (take (length inside - 1) inside))) (Listed (Class (take (length inside - 1) inside)) (length inside + 3)) Broken (λ m. named) (λ m. tt))
 
 class_item-sized : (rest : List ℕ) → Sized (2 + length rest) (class_item rest)
@@ -175,12 +175,12 @@ class_at-sized : (rest : List ℕ) → first_is (λ c. c == colon) rest ≡ true
 class_at-sized [] h = absurd (cc)
 class_at-sized (c ∷ rest) h = let n : 2 + length rest ≡ suc (suc (length rest)) = omega arith in rw n at (class_item-sized rest)
 
-other-sized : (last : Option ℕ) (b : ℕ) (rest : List ℕ) → Sized (suc (length rest)) (if b == open_bracket && first_is (λ c. c == colon) rest then class_item (drop 1 rest) else Listed (Lone b) 1)
+other-sized : (last : Option ℕ) (b : ℕ) (rest : List ℕ) → Sized (suc (length rest)) (if b == open_bracket && first_is (λ c. c == colon) rest then class_item (drop 1 rest) else Listed (Literal b) 1)
 other-sized last b rest =
     let lone : (0 < 1) × (1 ≤ suc (length rest)) = (omega arith, omega arith) in
-    sized-if _ (b == open_bracket && first_is (λ c. c == colon) rest) (class_item (drop 1 rest)) (Listed (Lone b) 1) (λ n. class_at-sized rest (both-second _ _ n)) (λ n. lone)
+    sized-if _ (b == open_bracket && first_is (λ c. c == colon) rest) (class_item (drop 1 rest)) (Listed (Literal b) 1) (λ n. class_at-sized rest (both-second _ _ n)) (λ n. lone)
 
-dashed-sized : (last : Option ℕ) (b : ℕ) (rest : List ℕ) → Sized (suc (length rest)) (if b == dash && makes_range last rest then range_from last rest else if b == open_bracket && first_is (λ c. c == colon) rest then class_item (drop 1 rest) else Listed (Lone b) 1)
+dashed-sized : (last : Option ℕ) (b : ℕ) (rest : List ℕ) → Sized (suc (length rest)) (if b == dash && makes_range last rest then range_from last rest else if b == open_bracket && first_is (λ c. c == colon) rest then class_item (drop 1 rest) else Listed (Literal b) 1)
 dashed-sized last b rest = sized-if _ (b == dash && makes_range last rest) (range_from last rest) _ (λ n. range_from-sized last rest) (λ n. other-sized last b rest)
 
 front-sized : (first : Bool) (last : Option ℕ) (bytes : List ℕ) → Sized (length bytes) (front_of first last bytes)
@@ -238,26 +238,26 @@ empty-push : {X : Type 0} (xs : List X) (x : X) → is_empty (xs ++ (x ∷ [])) 
 empty-push [] x = refl
 empty-push (y ∷ ys) x = refl
 
-items_of-push : (items : List Kept) (item : Kept) → items_of (items ++ (item ∷ [])) ≡ items_of items ++ (item_of item ∷ [])
-items_of-push [] item = refl
-items_of-push (x ∷ xs) item = ap (λ is. item_of x ∷ is) (items_of-push xs item)
+items_view-push : (items : List Kept) (item : Kept) → items_view (items ++ (item ∷ [])) ≡ items_view items ++ (item_view item ∷ [])
+items_view-push [] item = refl
+items_view-push (x ∷ xs) item = ap (λ is. item_view x ∷ is) (items_view-push xs item)
 
 -- one more item
-pub so_far-Listed : (items more : List Kept) (item : Kept) (size count : ℕ) (first : Bool) (last next : Option ℕ) (rest behind : List ℕ) (whole : Option Items) → items_before (items_of items) (items_from 0 (is_empty items) last rest) ≡ whole → count ≡ length items → first ≡ (count == 0) → Listed (item_of item) size ≡ front_of first last rest → more ≡ items ++ (item ∷ []) → next ≡ single_of (Listed (item_of item) size) → behind ≡ drop size rest → items_before (items_of more) (items_from 0 (is_empty more) next behind) ≡ whole
-so_far-Listed items more item size count first last next rest behind whole h k f e m n b =
-    let front : front_of (is_empty items) last rest ≡ Listed (item_of item) size = rw (f, k, empty-none items) at (sym e) in
-    let one : items_from 0 (is_empty items) last rest ≡ item_before (item_of item) (items_from 0 false (single_of (Listed (item_of item) size)) (drop size rest)) = items_from-Listed (is_empty items) last rest (item_of item) size front (Listed-sized (is_empty items) last rest (item_of item) size front).0 in
-    rw (m, n, b, empty-push items item, items_of-push items item) (items_before-push (items_of items) (item_of item) _ ∙ (ap (items_before (items_of items)) (sym one) ∙ h))
+pub so_far-Listed : (items more : List Kept) (item : Kept) (size count : ℕ) (first : Bool) (last next : Option ℕ) (rest after : List ℕ) (whole : Option Items) → items_before (items_view items) (items_from 0 (is_empty items) last rest) ≡ whole → count ≡ length items → first ≡ (count == 0) → Listed (item_view item) size ≡ front_of first last rest → more ≡ items ++ (item ∷ []) → next ≡ single_of (Listed (item_view item) size) → after ≡ drop size rest → items_before (items_view more) (items_from 0 (is_empty more) next after) ≡ whole
+so_far-Listed items more item size count first last next rest after whole h k f e m n b =
+    let front : front_of (is_empty items) last rest ≡ Listed (item_view item) size = rw (f, k, empty-none items) at (sym e) in
+    let one : items_from 0 (is_empty items) last rest ≡ item_before (item_view item) (items_from 0 false (single_of (Listed (item_view item) size)) (drop size rest)) = items_from-Listed (is_empty items) last rest (item_view item) size front (Listed-sized (is_empty items) last rest (item_view item) size front).0 in
+    rw (m, n, b, empty-push items item, items_view-push items item) (items_before-push (items_view items) (item_view item) _ ∙ (ap (items_before (items_view items)) (sym one) ∙ h))
 
-pub so_far-Closed : (items : List Kept) (count : ℕ) (first : Bool) (last : Option ℕ) (rest behind : List ℕ) (whole : Option Items) → items_before (items_of items) (items_from 0 (is_empty items) last rest) ≡ whole → count ≡ length items → first ≡ (count == 0) → Closed ≡ front_of first last rest → behind ≡ drop 1 rest → Some (record { items = items_of items; rest = behind }) ≡ whole
-so_far-Closed items count first last rest behind whole h k f e b =
+pub so_far-Closed : (items : List Kept) (count : ℕ) (first : Bool) (last : Option ℕ) (rest after : List ℕ) (whole : Option Items) → items_before (items_view items) (items_from 0 (is_empty items) last rest) ≡ whole → count ≡ length items → first ≡ (count == 0) → Closed ≡ front_of first last rest → after ≡ drop 1 rest → Some (record { items = items_view items; rest = after }) ≡ whole
+so_far-Closed items count first last rest after whole h k f e b =
     let front : front_of (is_empty items) last rest ≡ Closed = rw (f, k, empty-none items) at (sym e) in
-    rw b (sym (items_before-Some (items_of items) (drop 1 rest)) ∙ (ap (items_before (items_of items)) (sym (items_from-Closed (is_empty items) last rest front)) ∙ h))
+    rw b (sym (items_before-Some (items_view items) (drop 1 rest)) ∙ (ap (items_before (items_view items)) (sym (items_from-Closed (is_empty items) last rest front)) ∙ h))
 
-pub so_far-Broken : (items : List Kept) (count : ℕ) (first : Bool) (last : Option ℕ) (rest : List ℕ) (whole : Option Items) → items_before (items_of items) (items_from 0 (is_empty items) last rest) ≡ whole → count ≡ length items → first ≡ (count == 0) → Broken ≡ front_of first last rest → None ≡ whole
+pub so_far-Broken : (items : List Kept) (count : ℕ) (first : Bool) (last : Option ℕ) (rest : List ℕ) (whole : Option Items) → items_before (items_view items) (items_from 0 (is_empty items) last rest) ≡ whole → count ≡ length items → first ≡ (count == 0) → Broken ≡ front_of first last rest → None ≡ whole
 so_far-Broken items count first last rest whole h k f e =
     let front : front_of (is_empty items) last rest ≡ Broken = rw (f, k, empty-none items) at (sym e) in
-    sym (items_before-None (items_of items)) ∙ (ap (items_before (items_of items)) (sym (items_from-Broken (is_empty items) last rest front)) ∙ h)
+    sym (items_before-None (items_view items)) ∙ (ap (items_before (items_view items)) (sym (items_from-Broken (is_empty items) last rest front)) ∙ h)
 
 -- a list of six numbers is known by each
 pub six_letters : (xs : List ℕ) (a b c d e f : ℕ) → length xs ≡ 6 → get_or xs 0 0 ≡ a → get_or xs 1 0 ≡ b → get_or xs 2 0 ≡ c → get_or xs 3 0 ≡ d → get_or xs 4 0 ≡ e → get_or xs 5 0 ≡ f → xs ≡ a ∷ b ∷ c ∷ d ∷ e ∷ f ∷ []

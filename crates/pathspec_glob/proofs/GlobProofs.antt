@@ -10,28 +10,28 @@ use Rattle.pathspec_glob.specs.Bytes.{slash}
 use Rattle.pathspec_glob.specs.Tokens.{Token}
 use Rattle.pathspec_glob.specs.Tokens.Single.{Byte, Quoted, Any, Bracket, Dead}
 use Rattle.pathspec_glob.specs.Tokens.Token.{One, Star, Deep}
-use Rattle.pathspec_glob.specs.GlobRelation.{Matches, matches, some_end, takes, passes_over, IsPassedOver}
+use Rattle.pathspec_glob.specs.GlobRelation.{Matches, matches, some_suffix, takes, passes_over, IsPassedOver}
 use Rattle.pathspec_glob.specs.GlobRelation.Matches.{none, one, star, deep, over}
 use Rattle.pathspec_glob.specs.Globs.{GlobIsRelation}
 
 -- where some end passes, what may be skipped stands before it
-found : (skip : ℕ → Bool) (test : List ℕ → Bool) (text : List ℕ) → some_end skip test text ≡ true
+found : (skip : ℕ → Bool) (test : List ℕ → Bool) (text : List ℕ) → some_suffix skip test text ≡ true
     → (u : List ℕ) × (v : List ℕ) × (text ≡ u ++ v) × (list_all skip u ≡ true) × (test v ≡ true)
 found skip test [] h = ([], [], refl, refl, h)
 found skip test (b ∷ bs) h = elim (or_cases (test (b ∷ bs)) _ h) [
   | inl t ↦ ([], b ∷ bs, refl, refl, t)
   | inr s ↦
-      let p = and_parts (skip b) (some_end skip test bs) s in
+      let p = and_parts (skip b) (some_suffix skip test bs) s in
       let r = found skip test bs p.1 in
       (b ∷ r.0, r.1, ap (λ t. b ∷ t) r.2, and_from (skip b) (list_all skip r.0) p.0 r.3, r.4)
 ]
 
-finds : (skip : ℕ → Bool) (test : List ℕ → Bool) (u v : List ℕ) → list_all skip u ≡ true → test v ≡ true → some_end skip test (u ++ v) ≡ true
+finds : (skip : ℕ → Bool) (test : List ℕ → Bool) (u v : List ℕ) → list_all skip u ≡ true → test v ≡ true → some_suffix skip test (u ++ v) ≡ true
 finds skip test [] [] a t = t
 finds skip test [] (b ∷ bs) a t = or_left (test (b ∷ bs)) _ t
 finds skip test (x ∷ u) v a t =
     let p = and_parts (skip x) (list_all skip u) a in
-    or_right (test (x ∷ (u ++ v))) (skip x && some_end skip test (u ++ v)) (and_from (skip x) (some_end skip test (u ++ v)) p.0 (finds skip test u v p.1 t))
+    or_right (test (x ∷ (u ++ v))) (skip x && some_suffix skip test (u ++ v)) (and_from (skip x) (some_suffix skip test (u ++ v)) p.0 (finds skip test u v p.1 t))
 
 no_slash : (u : List ℕ) → list_all (λ b. not (b == slash)) u ≡ true → list_any (λ b. b == slash) u ≡ false
 no_slash [] h = refl
@@ -70,7 +70,7 @@ module _ (mode : Mode) (case : Case) where
       let r = found (λ b. not (b == slash)) (matches mode case ts) text h in
       star r.0 r.1 r.2 (no_slash r.0 r.3) (holds ts r.1 r.4)
   holds (Deep ∷ []) text h = deep text [] (sym (append-nil text)) none
-  holds (Deep ∷ t ∷ ts) text h = elim (or_cases (some_end (λ b. true) (matches mode case (t ∷ ts)) text) _ h) [
+  holds (Deep ∷ t ∷ ts) text h = elim (or_cases (some_suffix (λ b. true) (matches mode case (t ∷ ts)) text) _ h) [
     | inl s ↦ let r = found (λ b. true) (matches mode case (t ∷ ts)) text s in deep r.0 r.1 r.2 (holds (t ∷ ts) r.1 r.4)
     | inr s ↦ let p = and_parts (passes_over mode t) (matches mode case ts text) s in over (passed mode t p.0) (holds ts text p.1)
   ]
@@ -78,15 +78,15 @@ module _ (mode : Mode) (case : Case) where
   deep_takes : (ts : List Token) (u v : List ℕ) → matches mode case ts v ≡ true → matches mode case (Deep ∷ ts) (u ++ v) ≡ true
   unfolding matches
   deep_takes [] u v h = refl
-  deep_takes (t ∷ ts) u v h = or_left (some_end (λ b. true) (matches mode case (t ∷ ts)) (u ++ v)) _ (finds (λ b. true) (matches mode case (t ∷ ts)) u v (any_skip u) h)
+  deep_takes (t ∷ ts) u v h = or_left (some_suffix (λ b. true) (matches mode case (t ∷ ts)) (u ++ v)) _ (finds (λ b. true) (matches mode case (t ∷ ts)) u v (any_skip u) h)
 
   passes_all : {ts : List Token} {text : List ℕ} → Matches mode case ts text → matches mode case ts text ≡ true
   unfolding matches
   passes_all none = refl
   passes_all (one {single = s} {ts = ts} {b = b} {bs = bs} p m) = and_from (takes mode case s b) (matches mode case ts bs) p (passes_all m)
-  passes_all (star {ts = ts} u v e n m) = subst (λ x. some_end (λ b. not (b == slash)) (matches mode case ts) x ≡ true) (sym e) (finds (λ b. not (b == slash)) (matches mode case ts) u v (all_skip u n) (passes_all m))
+  passes_all (star {ts = ts} u v e n m) = subst (λ x. some_suffix (λ b. not (b == slash)) (matches mode case ts) x ≡ true) (sym e) (finds (λ b. not (b == slash)) (matches mode case ts) u v (all_skip u n) (passes_all m))
   passes_all (deep {ts = ts} u v e m) = subst (λ x. matches mode case (Deep ∷ ts) x ≡ true) (sym e) (deep_takes ts u v (passes_all m))
-  passes_all (over {t = t} {ts = ts} {text = text} p m) = or_right (some_end (λ b. true) (matches mode case (t ∷ ts)) text) _ (and_from (passes_over mode t) (matches mode case ts text) (passes mode t p) (passes_all m))
+  passes_all (over {t = t} {ts = ts} {text = text} p m) = or_right (some_suffix (λ b. true) (matches mode case (t ∷ ts)) text) _ (and_from (passes_over mode t) (matches mode case ts text) (passes mode t p) (passes_all m))
 
 pub glob_is_relation : GlobIsRelation
 glob_is_relation mode case ts text = (holds mode case ts text, passes_all mode case)

@@ -4,7 +4,7 @@ use Rattle.std.specs.Prelude.{codes, ◌++◌}
 use Rattle.pathspec_glob.specs.declared.Mode.TheVariants.{Shell, PathAware}
 use Rattle.pathspec_glob.specs.declared.Case.TheVariants.{Sensitive, Fold}
 use Rattle.pathspec_glob.specs.Tokens.{tokens_from, tokens}
-use Rattle.pathspec_glob.specs.Tokens.Item.{Lone, Range, Class}
+use Rattle.pathspec_glob.specs.Tokens.Item.{Literal, Range, Class}
 use Rattle.pathspec_glob.specs.Tokens.Single.{Byte, Quoted, Bracket, Dead}
 use Rattle.pathspec_glob.specs.Tokens.Token.{One, Star, Deep}
 use Rattle.pathspec_glob.proofs.Asking.{globbed}
@@ -373,9 +373,9 @@ run_at_start : tokens PathAware (codes "**/x") ≡ (Deep ∷ One (Byte 47) ∷ O
 unfolding tokens_from
 run_at_start = refl
 
-run_behind_byte : tokens PathAware (codes "a**/b") ≡ (One (Byte 97) ∷ Star ∷ One (Byte 47) ∷ One (Byte 98) ∷ [])
+run_after_byte : tokens PathAware (codes "a**/b") ≡ (One (Byte 97) ∷ Star ∷ One (Byte 47) ∷ One (Byte 98) ∷ [])
 unfolding tokens_from
-run_behind_byte = refl
+run_after_byte = refl
 
 run_before_byte : tokens PathAware (codes "a/**b") ≡ (One (Byte 97) ∷ One (Byte 47) ∷ Star ∷ One (Byte 98) ∷ [])
 unfolding tokens_from
@@ -385,9 +385,9 @@ run_before_escaped_slash : tokens PathAware (codes "**\\/x") ≡ (Deep ∷ One (
 unfolding tokens_from
 run_before_escaped_slash = refl
 
-run_behind_escaped_slash : tokens PathAware (codes "\\/**") ≡ (One (Quoted 47) ∷ Deep ∷ [])
+run_after_escaped_slash : tokens PathAware (codes "\\/**") ≡ (One (Quoted 47) ∷ Deep ∷ [])
 unfolding tokens_from
-run_behind_escaped_slash = refl
+run_after_escaped_slash = refl
 
 run_in_shell : tokens Shell (codes "a***b") ≡ (One (Byte 97) ∷ Deep ∷ One (Byte 98) ∷ [])
 unfolding tokens_from
@@ -401,19 +401,19 @@ dead_ends : tokens Shell (codes "a[bc") ≡ (One (Byte 97) ∷ One Dead ∷ [])
 unfolding tokens_from
 dead_ends = refl
 
-close_first : tokens Shell (codes "[]x]") ≡ (One (Bracket false (Lone 93 ∷ Lone 120 ∷ [])) ∷ [])
+close_first : tokens Shell (codes "[]x]") ≡ (One (Bracket false (Literal 93 ∷ Literal 120 ∷ [])) ∷ [])
 unfolding tokens_from
 close_first = refl
 
-range_behind_range : tokens Shell (codes "[a-c-e]") ≡ (One (Bracket false (Lone 97 ∷ Range 97 99 ∷ Lone 45 ∷ Lone 101 ∷ [])) ∷ [])
+range_after_range : tokens Shell (codes "[a-c-e]") ≡ (One (Bracket false (Literal 97 ∷ Range 97 99 ∷ Literal 45 ∷ Literal 101 ∷ [])) ∷ [])
 unfolding tokens_from
-range_behind_range = refl
+range_after_range = refl
 
-class_item : tokens Shell (codes "[[:digit:]-z]") ≡ (One (Bracket false (Class (codes "digit") ∷ Lone 45 ∷ Lone 122 ∷ [])) ∷ [])
+class_item : tokens Shell (codes "[[:digit:]-z]") ≡ (One (Bracket false (Class (codes "digit") ∷ Literal 45 ∷ Literal 122 ∷ [])) ∷ [])
 unfolding tokens_from
 class_item = refl
 
-no_class : tokens Shell (codes "[[:]x]") ≡ (One (Bracket false (Lone 91 ∷ Lone 58 ∷ [])) ∷ One (Byte 120) ∷ One (Byte 93) ∷ [])
+no_class : tokens Shell (codes "[[:]x]") ≡ (One (Bracket false (Literal 91 ∷ Literal 58 ∷ [])) ∷ One (Byte 120) ∷ One (Byte 93) ∷ [])
 unfolding tokens_from
 no_class = refl
 
@@ -425,11 +425,11 @@ class_without_close : tokens Shell (codes "[[:alpha") ≡ (One Dead ∷ [])
 unfolding tokens_from
 class_without_close = refl
 
-negated_close : tokens Shell (codes "[!]a]z") ≡ (One (Bracket true (Lone 93 ∷ Lone 97 ∷ [])) ∷ One (Byte 122) ∷ [])
+negated_close : tokens Shell (codes "[!]a]z") ≡ (One (Bracket true (Literal 93 ∷ Literal 97 ∷ [])) ∷ One (Byte 122) ∷ [])
 unfolding tokens_from
 negated_close = refl
 
-escaped_range_end : tokens Shell (codes "[a-\\c]") ≡ (One (Bracket false (Lone 97 ∷ Range 97 99 ∷ [])) ∷ [])
+escaped_range_end : tokens Shell (codes "[a-\\c]") ≡ (One (Bracket false (Literal 97 ∷ Range 97 99 ∷ [])) ∷ [])
 unfolding tokens_from
 escaped_range_end = refl
 

@@ -3,7 +3,7 @@ pub mod TokenProofs
 pub mod GlobProofs
 pub mod TailProofs
 pub mod PlaceProofs
-pub mod LeadsProofs
+pub mod AcceptProofs
 pub mod WindowProofs
 pub mod AnswerProofs
 mod Asking

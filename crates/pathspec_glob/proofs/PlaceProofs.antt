@@ -3,24 +3,24 @@ use Rattle.std.proofs.Common.{◌≡◌, ℕ, ◌+◌, ◌<◌, sym, ◌∙◌, 
 use Rattle.std.proofs.lemmas.List.{drop_more, drop-map, length-map, length-drop, take_all}
 use Rattle.pathspec_glob.specs.declared.scratch.tokens.Token.{Token as Part}
 use Rattle.pathspec_glob.specs.Tokens.{Token}
-use Rattle.pathspec_glob.specs.GlobForms.{token_of, tokens_of}
+use Rattle.pathspec_glob.specs.GlobForms.{token_view, tokens_view}
 
--- from a place on stand the token there and those behind it
-pub tokens-at : (parts : List Part) (tokens : List Token) (place : ℕ) (part : Part) → tokens_of parts ≡ tokens → place < length tokens → part ≡ get_or parts place part
-    → drop place tokens ≡ token_of part ∷ drop (place + 1) tokens
+-- from a place on stand the token there and those after it
+pub tokens-at : (parts : List Part) (tokens : List Token) (place : ℕ) (part : Part) → tokens_view parts ≡ tokens → place < length tokens → part ≡ get_or parts place part
+    → drop place tokens ≡ token_view part ∷ drop (place + 1) tokens
 tokens-at parts tokens place part view within read =
-    let len : length tokens ≡ length parts = ap length (sym view) ∙ length-map parts token_of in
+    let len : length tokens ≡ length parts = ap length (sym view) ∙ length-map parts token_view in
     let h : place < length parts = subst (λ n. place < n) len within in
     let e : drop place parts ≡ part ∷ drop (place + 1) parts = drop_more parts place part h ∙ ap (λ x. x ∷ drop (place + 1) parts) (sym read) in
-    let f : drop place (tokens_of parts) ≡ token_of part ∷ drop (place + 1) (tokens_of parts) = drop-map token_of place parts ∙ ap (map token_of) e ∙ ap (λ ts. token_of part ∷ ts) (sym (drop-map token_of (place + 1) parts)) in
-    subst (λ ts. drop place ts ≡ token_of part ∷ drop (place + 1) ts) view f
+    let f : drop place (tokens_view parts) ≡ token_view part ∷ drop (place + 1) (tokens_view parts) = drop-map token_view place parts ∙ ap (map token_view) e ∙ ap (λ ts. token_view part ∷ ts) (sym (drop-map token_view (place + 1) parts)) in
+    subst (λ ts. drop place ts ≡ token_view part ∷ drop (place + 1) ts) view f
 
--- from the position of a byte on stand that byte and those behind it
+-- from the position of a byte on stand that byte and those after it
 pub text-at : (text : List ℕ) (position b : ℕ) → position < length text → b ≡ get_or text position b → drop position text ≡ b ∷ drop (position + 1) text
 text-at text position b within read = drop_more text position b within ∙ ap (λ x. x ∷ drop (position + 1) text) (sym read)
 
 -- the tokens from a place on
-pub tokens-from : (parts all : List Part) (tokens : List Token) (place : ℕ) → tokens_of parts ≡ tokens → all ≡ parts → tokens_of (take (length all - place) (drop place all)) ≡ drop place tokens
+pub tokens-from : (parts all : List Part) (tokens : List Token) (place : ℕ) → tokens_view parts ≡ tokens → all ≡ parts → tokens_view (take (length all - place) (drop place all)) ≡ drop place tokens
 tokens-from parts all tokens place view same =
-    ap tokens_of (take_all (length all - place) (drop place all) (omega (arith, length-drop place all)))
-    ∙ ap (λ ps. tokens_of (drop place ps)) same ∙ sym (drop-map token_of place parts) ∙ ap (drop place) view
+    ap tokens_view (take_all (length all - place) (drop place all) (omega (arith, length-drop place all)))
+    ∙ ap (λ ps. tokens_view (drop place ps)) same ∙ sym (drop-map token_view place parts) ∙ ap (drop place) view

@@ -12,11 +12,11 @@ use Rattle.pathspec_glob.specs.declared.Mode.{Mode}
 use Rattle.pathspec_glob.specs.declared.Mode.TheVariants.{Shell, PathAware}
 use Rattle.pathspec_glob.specs.declared.Case.{Case}
 use Rattle.pathspec_glob.specs.declared.Case.TheVariants.{Sensitive, Fold}
-use Rattle.pathspec_glob.specs.Bytes.{slash, star, question_mark, open_bracket, backslash, folded, is_wildcard}
+use Rattle.pathspec_glob.specs.Bytes.{slash, star, question_mark, open_bracket, backslash, fold_case, is_wildcard}
 use Rattle.pathspec_glob.specs.Tokens.{Token, piece_of, tokens, tokens_from}
 use Rattle.pathspec_glob.specs.Tokens.Single.{Byte}
 use Rattle.pathspec_glob.specs.Tokens.Token.{One, Star, Deep}
-use Rattle.pathspec_glob.specs.GlobRelation.{matches, some_end, same_byte}
+use Rattle.pathspec_glob.specs.GlobRelation.{matches, some_suffix, is_same_byte}
 use Rattle.pathspec_glob.specs.Globs.{folds, is_tail_pattern, TailPatternEnds}
 use Rattle.pathspec_glob.proofs.GlobProofs.{glob_is_relation}
 
@@ -34,11 +34,11 @@ pointwise-apart : (E : ℕ → ℕ → Bool) (xs ys : List ℕ) → (length xs �
 pointwise-apart E xs ys n = false_from_ne_true (pointwise E xs ys) (λ h. n (length-pointwise E xs ys h))
 
 -- some end agrees with the rest where the end of its length does, and what stands before may be skipped
-some_end-pointwise : (E : ℕ → ℕ → Bool) (skip : ℕ → Bool) (test : List ℕ → Bool) (rest text : List ℕ) → ((v : List ℕ) → test v ≡ pointwise E rest v)
-    → some_end skip test text ≡ (list_all skip (take (length text - length rest) text) && pointwise E rest (drop (length text - length rest) text))
-some_end-pointwise E skip test rest [] t = let n : 0 - length rest ≡ 0 = omega arith in rw n (t [])
-some_end-pointwise E skip test rest (b ∷ bs) t =
-    let ih = some_end-pointwise E skip test rest bs t in
+some_suffix-pointwise : (E : ℕ → ℕ → Bool) (skip : ℕ → Bool) (test : List ℕ → Bool) (rest text : List ℕ) → ((v : List ℕ) → test v ≡ pointwise E rest v)
+    → some_suffix skip test text ≡ (list_all skip (take (length text - length rest) text) && pointwise E rest (drop (length text - length rest) text))
+some_suffix-pointwise E skip test rest [] t = let n : 0 - length rest ≡ 0 = omega arith in rw n (t [])
+some_suffix-pointwise E skip test rest (b ∷ bs) t =
+    let ih = some_suffix-pointwise E skip test rest bs t in
     elim (cases_lt (length bs) (length rest)) [
       | inl l ↦
           let n : suc (length bs) - length rest ≡ 0 = omega arith in
@@ -54,8 +54,8 @@ some_end-pointwise E skip test rest (b ∷ bs) t =
 -- ---- tokens of bytes without a wildcard
 
 -- a byte that is no wildcard is a token of its own
-plain_piece : (mode : Mode) (behind : Bool) (b : ℕ) (rest : List ℕ) → is_wildcard b ≡ false → piece_of mode behind b rest ≡ record { token = One (Byte b); size = 1 }
-plain_piece mode behind b rest h =
+plain_piece : (mode : Mode) (after_slash : Bool) (b : ℕ) (rest : List ℕ) → is_wildcard b ≡ false → piece_of mode after_slash b rest ≡ record { token = One (Byte b); size = 1 }
+plain_piece mode after_slash b rest h =
     let p = or_parts (b == star) ((b == question_mark) || ((b == open_bracket) || ((b == backslash) || false))) h in
     let q = or_parts (b == question_mark) ((b == open_bracket) || ((b == backslash) || false)) p.1 in
     let r = or_parts (b == open_bracket) ((b == backslash) || false) q.1 in
@@ -66,19 +66,19 @@ plain_piece mode behind b rest h =
 abbrev plain_tokens : List ℕ → List Token
 plain_tokens front = map (λ b. One (Byte b)) front
 
--- whether what follows the bytes stands behind a slash, or where they stood
-abbrev behind_after : Bool → List ℕ → Bool
-behind_after behind [] = behind
-behind_after behind (b ∷ bs) = behind_after (b == slash) bs
+-- whether what follows the bytes stands after a slash, or where they stood
+abbrev slash_before_rest : Bool → List ℕ → Bool
+slash_before_rest after_slash [] = after_slash
+slash_before_rest after_slash (b ∷ bs) = slash_before_rest (b == slash) bs
 
--- a front without a wildcard is its bytes, and the rest is read behind it
-pub tokens_from-plain : (mode : Mode) (behind : Bool) (front rest : List ℕ) → list_any is_wildcard front ≡ false
-    → tokens_from mode 0 behind (front ++ rest) ≡ plain_tokens front ++ tokens_from mode 0 (behind_after behind front) rest
+-- a front without a wildcard is its bytes, and the rest is read after it
+pub tokens_from-plain : (mode : Mode) (after_slash : Bool) (front rest : List ℕ) → list_any is_wildcard front ≡ false
+    → tokens_from mode 0 after_slash (front ++ rest) ≡ plain_tokens front ++ tokens_from mode 0 (slash_before_rest after_slash front) rest
 unfolding tokens_from
-tokens_from-plain mode behind [] rest h = refl
-tokens_from-plain mode behind (b ∷ front) rest h =
+tokens_from-plain mode after_slash [] rest h = refl
+tokens_from-plain mode after_slash (b ∷ front) rest h =
     let p = or_parts (is_wildcard b) (list_any is_wildcard front) h in
-    rw (plain_piece mode behind b (front ++ rest) p.0) (ap (λ ts. One (Byte b) ∷ ts) (tokens_from-plain mode (b == slash) front rest p.1))
+    rw (plain_piece mode after_slash b (front ++ rest) p.0) (ap (λ ts. One (Byte b) ∷ ts) (tokens_from-plain mode (b == slash) front rest p.1))
 
 -- ---- tokens of a tail pattern
 
@@ -92,9 +92,9 @@ tail_token Shell = Deep
 tail_token PathAware = Star
 
 -- a pattern without a wildcard is its bytes
-tokens_from-whole : (mode : Mode) (behind : Bool) (rest : List ℕ) → list_any is_wildcard rest ≡ false → tokens_from mode 0 behind rest ≡ map (λ b. One (Byte b)) rest
+tokens_from-whole : (mode : Mode) (after_slash : Bool) (rest : List ℕ) → list_any is_wildcard rest ≡ false → tokens_from mode 0 after_slash rest ≡ map (λ b. One (Byte b)) rest
 unfolding tokens_from
-tokens_from-whole mode behind rest h = ap (tokens_from mode 0 behind) (sym (append-nil rest)) ∙ (tokens_from-plain mode behind rest [] h ∙ append-nil (map (λ b. One (Byte b)) rest))
+tokens_from-whole mode after_slash rest h = ap (tokens_from mode 0 after_slash) (sym (append-nil rest)) ∙ (tokens_from-plain mode after_slash rest [] h ∙ append-nil (map (λ b. One (Byte b)) rest))
 
 -- the tokens of a tail pattern
 tokens-tail : (mode : Mode) (rest : List ℕ) → list_any is_wildcard rest ≡ false → tokens mode (star ∷ rest) ≡ tail_token mode ∷ map (λ b. One (Byte b)) rest
@@ -103,7 +103,7 @@ tokens-tail Shell rest h = rw (no_star rest h) (ap (λ ts. Deep ∷ ts) (tokens_
 tokens-tail PathAware rest h = rw (no_star rest h) (ap (λ ts. Star ∷ ts) (tokens_from-whole PathAware false rest h))
 
 -- bytes match the text that agrees with them
-matches-plain : (mode : Mode) (case : Case) (rest v : List ℕ) → matches mode case (map (λ b. One (Byte b)) rest) v ≡ pointwise (same_byte case) rest v
+matches-plain : (mode : Mode) (case : Case) (rest v : List ℕ) → matches mode case (map (λ b. One (Byte b)) rest) v ≡ pointwise (is_same_byte case) rest v
 unfolding matches
 matches-plain mode case [] [] = refl
 matches-plain mode case [] (c ∷ v) = refl
@@ -122,34 +122,34 @@ no_slash-take (suc n) [] h = refl
 no_slash-take (suc n) (b ∷ text) h = let p = or_parts (b == slash) (list_any (λ b. b == slash) text) h in and_from (not (b == slash)) _ (not_from_false (b == slash) p.0) (no_slash-take n text p.1)
 
 -- deep in a shell glob takes any bytes
-matches-shell : (case : Case) (rest text : List ℕ) → matches Shell case (Deep ∷ map (λ b. One (Byte b)) rest) text ≡ pointwise (same_byte case) rest (drop (length text - length rest) text)
+matches-shell : (case : Case) (rest text : List ℕ) → matches Shell case (Deep ∷ map (λ b. One (Byte b)) rest) text ≡ pointwise (is_same_byte case) rest (drop (length text - length rest) text)
 unfolding matches
 matches-shell case [] text = rw (drop_all (length text - 0) text (omega arith)) refl
 matches-shell case (b ∷ rest) text =
-    or-false _ ∙ (some_end-pointwise (same_byte case) (λ b. true) _ (b ∷ rest) text (matches-plain Shell case (b ∷ rest)) ∙ rw (any_skip (take (length text - length (b ∷ rest)) text)) refl)
+    or-false _ ∙ (some_suffix-pointwise (is_same_byte case) (λ b. true) _ (b ∷ rest) text (matches-plain Shell case (b ∷ rest)) ∙ rw (any_skip (take (length text - length (b ∷ rest)) text)) refl)
 
 -- star takes bytes without a slash
 matches-star : (case : Case) (rest text : List ℕ)
-    → matches PathAware case (Star ∷ map (λ b. One (Byte b)) rest) text ≡ (list_all (λ b. not (b == slash)) (take (length text - length rest) text) && pointwise (same_byte case) rest (drop (length text - length rest) text))
+    → matches PathAware case (Star ∷ map (λ b. One (Byte b)) rest) text ≡ (list_all (λ b. not (b == slash)) (take (length text - length rest) text) && pointwise (is_same_byte case) rest (drop (length text - length rest) text))
 unfolding matches
-matches-star case rest text = some_end-pointwise (same_byte case) (λ b. not (b == slash)) _ rest text (matches-plain PathAware case rest)
+matches-star case rest text = some_suffix-pointwise (is_same_byte case) (λ b. not (b == slash)) _ rest text (matches-plain PathAware case rest)
 
 -- agreeing up to case is agreeing in lower case
-ends_with-folded : (case : Case) (rest text : List ℕ) → pointwise (same_byte case) rest (drop (length text - length rest) text) ≡ ends_with nat_eq (folded (folds case) text) (folded (folds case) rest)
-ends_with-folded Sensitive rest text = refl
-ends_with-folded Fold rest text =
+ends_with-fold_case : (case : Case) (rest text : List ℕ) → pointwise (is_same_byte case) rest (drop (length text - length rest) text) ≡ ends_with nat_eq (fold_case (folds case) text) (fold_case (folds case) rest)
+ends_with-fold_case Sensitive rest text = refl
+ends_with-fold_case Fold rest text =
     rw (length-map text to_ascii_lowercase, length-map rest to_ascii_lowercase, drop-map to_ascii_lowercase (length text - length rest) text, pointwise-map to_ascii_lowercase nat_eq rest (drop (length text - length rest) text)) refl
 
 -- both modes at once
 matches-tail : (mode : Mode) (case : Case) (rest text : List ℕ) → (mode ≡ Shell) ⊎ IsFalse (list_any (λ b. b == slash) text)
-    → matches mode case (tail_token mode ∷ map (λ b. One (Byte b)) rest) text ≡ ends_with nat_eq (folded (folds case) text) (folded (folds case) rest)
-matches-tail Shell case rest text m = matches-shell case rest text ∙ ends_with-folded case rest text
+    → matches mode case (tail_token mode ∷ map (λ b. One (Byte b)) rest) text ≡ ends_with nat_eq (fold_case (folds case) text) (fold_case (folds case) rest)
+matches-tail Shell case rest text m = matches-shell case rest text ∙ ends_with-fold_case case rest text
 matches-tail PathAware case rest text (inl e) = cc
-matches-tail PathAware case rest text (inr h) = matches-star case rest text ∙ (rw (no_slash-take (length text - length rest) text h) refl ∙ ends_with-folded case rest text)
+matches-tail PathAware case rest text (inr h) = matches-star case rest text ∙ (rw (no_slash-take (length text - length rest) text h) refl ∙ ends_with-fold_case case rest text)
 
 -- The same as an equation of tests.
 pub matches-ends_with : (mode : Mode) (case : Case) (pattern text : List ℕ) → is_tail_pattern pattern ≡ true → (mode ≡ Shell) ⊎ IsFalse (list_any (λ b. b == slash) text)
-    → matches mode case (tokens mode pattern) text ≡ ends_with nat_eq (folded (folds case) text) (folded (folds case) (drop 1 pattern))
+    → matches mode case (tokens mode pattern) text ≡ ends_with nat_eq (fold_case (folds case) text) (fold_case (folds case) (drop 1 pattern))
 matches-ends_with mode case [] text t m = cc
 matches-ends_with mode case (b ∷ rest) text t m =
     let p = and_parts (b == star) (not (list_any is_wildcard rest)) t in
@@ -171,10 +171,10 @@ pub tail-fits : (mode : Mode) (case : Case) (pattern text : List ℕ) → is_tai
 tail-fits mode case [] text t h = cc
 tail-fits Shell case (b ∷ rest) text t h =
     let p = and_parts (b == star) (not (list_any is_wildcard rest)) t in
-    tail-agrees (same_byte case) rest text (length text - length rest)
+    tail-agrees (is_same_byte case) rest text (length text - length rest)
     (sym (matches-shell case rest text) ∙ (rw (eqb-true b star p.0, tokens-tail Shell rest (not-true (list_any is_wildcard rest) p.1)) at h))
 tail-fits PathAware case (b ∷ rest) text t h =
     let p = and_parts (b == star) (not (list_any is_wildcard rest)) t in
     let both = sym (matches-star case rest text) ∙ (rw (eqb-true b star p.0, tokens-tail PathAware rest (not-true (list_any is_wildcard rest) p.1)) at h) in
-    tail-agrees (same_byte case) rest text (length text - length rest)
-    (and_parts (list_all (λ b. not (b == slash)) (take (length text - length rest) text)) (pointwise (same_byte case) rest (drop (length text - length rest) text)) both).1
+    tail-agrees (is_same_byte case) rest text (length text - length rest)
+    (and_parts (list_all (λ b. not (b == slash)) (take (length text - length rest) text)) (pointwise (is_same_byte case) rest (drop (length text - length rest) text)) both).1

@@ -52,7 +52,7 @@ bracket_with-within negated len (Some read) below =
     let left : length read.rest ≤ len = below read refl in
     record { some = omega arith; all = omega arith }
 
--- the rest behind a negation is no longer than with it
+-- the rest after a negation is no longer than with it
 listed-within : (negated : Bool) (rest : List ℕ) (read : Items) → items_from 0 true None (if negated then drop 1 rest else rest) ≡ Some read → length read.rest ≤ length rest
 listed-within true [] read e = absurd (let no : ⊥ = cc in no)
 listed-within true (b ∷ rest) read e =
@@ -67,32 +67,32 @@ bracket-within rest =
     let negated : Bool = first_is (is_one_of (codes "!^")) rest in
     bracket_with-within negated (length rest) (items_from 0 true None (if negated then drop 1 rest else rest)) (listed-within negated rest)
 
-run-within : (mode : Mode) (behind : Bool) (b : ℕ) (rest : List ℕ) → b == star ≡ true → Within (run_piece mode behind (prefix_len (λ c. c == star) (b ∷ rest)) (b ∷ rest)) (length rest)
-run-within mode behind b rest is =
+run-within : (mode : Mode) (after_slash : Bool) (b : ℕ) (rest : List ℕ) → b == star ≡ true → Within (run_piece mode after_slash (prefix_len (λ c. c == star) (b ∷ rest)) (b ∷ rest)) (length rest)
+run-within mode after_slash b rest is =
     let stars : ℕ → Bool = λ c. c == star in
     let least : prefix_len stars rest ≤ length rest = prefix_len-le-length stars rest in
     let size : prefix_len stars (b ∷ rest) ≡ 1 + prefix_len stars rest = rw is refl in
     record { some = omega arith; all = omega arith }
 
-pub piece-within : (mode : Mode) (behind : Bool) (b : ℕ) (rest : List ℕ) → Within (piece_of mode behind b rest) (length rest)
-piece-within mode behind b rest = elim (cases_Bool (b == backslash)) [
+pub piece-within : (mode : Mode) (after_slash : Bool) (b : ℕ) (rest : List ℕ) → Within (piece_of mode after_slash b rest) (length rest)
+piece-within mode after_slash b rest = elim (cases_Bool (b == backslash)) [
   | inl h ↦ rw h (escaped-within rest)
   | inr h ↦ rw h (elim (cases_Bool (b == question_mark)) [
     | inl i ↦ rw i (record { some = omega arith; all = omega arith })
     | inr i ↦ rw i (elim (cases_Bool (b == open_bracket)) [
       | inl j ↦ rw j (bracket-within rest)
       | inr j ↦ rw j (elim (cases_Bool (b == star)) [
-        | inl k ↦ rw k (rw k at (run-within mode behind b rest k))
+        | inl k ↦ rw k (rw k at (run-within mode after_slash b rest k))
         | inr k ↦ rw k (record { some = omega arith; all = omega arith })
       ])
     ])
   ])
 ]
 
--- a run of stars, read behind its first
-pub run-read : (mode : Mode) (behind : Bool) (rest : List ℕ) (more : ℕ) (token : Token) → more ≡ prefix_len (λ c. c == star) rest → token ≡ run_token mode behind (more + 1) (drop more rest)
-    → record { token = token; size = more + 1 } ≡ run_piece mode behind (prefix_len (λ c. c == star) (star ∷ rest)) (star ∷ rest)
-run-read mode behind rest more token count is = rw (← count, one-add, is, add-one) refl
+-- a run of stars, read after its first
+pub run-read : (mode : Mode) (after_slash : Bool) (rest : List ℕ) (more : ℕ) (token : Token) → more ≡ prefix_len (λ c. c == star) rest → token ≡ run_token mode after_slash (more + 1) (drop more rest)
+    → record { token = token; size = more + 1 } ≡ run_piece mode after_slash (prefix_len (λ c. c == star) (star ∷ rest)) (star ∷ rest)
+run-read mode after_slash rest more token count is = rw (← count, one-add, is, add-one) refl
 
 -- what follows bytes that belong to a token
 skipped : (mode : Mode) (k b : ℕ) (bs : List ℕ) → tokens_from mode k (b == slash) bs ≡ tokens_from mode 0 (get_or (b ∷ bs) k 0 == slash) (drop k bs)
@@ -102,41 +102,41 @@ skipped mode (suc k) b [] = refl
 skipped mode (suc k) b (c ∷ cs) = skipped mode k c cs
 
 -- a token and what follows it
-pub tokens-next : (mode : Mode) (behind : Bool) (b : ℕ) (bs : List ℕ) (size : ℕ) (token : Token) → record { token = token; size = size } ≡ piece_of mode behind b bs
-    → tokens_from mode 0 behind (b ∷ bs) ≡ token_before token (tokens_from mode 0 (get_or (b ∷ bs) (size - 1) 0 == slash) (drop size (b ∷ bs)))
+pub tokens-next : (mode : Mode) (after_slash : Bool) (b : ℕ) (bs : List ℕ) (size : ℕ) (token : Token) → record { token = token; size = size } ≡ piece_of mode after_slash b bs
+    → tokens_from mode 0 after_slash (b ∷ bs) ≡ token_before token (tokens_from mode 0 (get_or (b ∷ bs) (size - 1) 0 == slash) (drop size (b ∷ bs)))
 unfolding tokens_from
-tokens-next mode behind b bs zero token is =
-    let within = subst (λ p. Within p (length bs)) (sym is) (piece-within mode behind b bs) in
+tokens-next mode after_slash b bs zero token is =
+    let within = subst (λ p. Within p (length bs)) (sym is) (piece-within mode after_slash b bs) in
     let some : 1 ≤ zero = within.some in
     absurd (omega arith)
-tokens-next mode behind b bs (suc k) token is =
+tokens-next mode after_slash b bs (suc k) token is =
     let less : suc k - 1 ≡ k = omega arith in
     ap (λ p. token_before p.token (tokens_from mode (p.size - 1) (b == slash) bs)) (sym is) ∙ rw less (ap (token_before token) (skipped mode k b bs))
 
 -- the front of a text that isn't empty is read: its token and what follows it
-pub tokens-read : (mode : Mode) (behind : Bool) (text : List ℕ) (size : ℕ) (token : Token) → 1 ≤ length text → record { token = token; size = size } ≡ piece_of mode behind (get_or text 0 0) (drop 1 text)
-    → tokens_from mode 0 behind text ≡ token_before token (tokens_from mode 0 (get_or text (size - 1) 0 == slash) (drop size text))
-tokens-read mode behind [] size token some is = absurd (omega arith)
-tokens-read mode behind (b ∷ bs) size token some is = tokens-next mode behind b bs size token is
+pub tokens-read : (mode : Mode) (after_slash : Bool) (text : List ℕ) (size : ℕ) (token : Token) → 1 ≤ length text → record { token = token; size = size } ≡ piece_of mode after_slash (get_or text 0 0) (drop 1 text)
+    → tokens_from mode 0 after_slash text ≡ token_before token (tokens_from mode 0 (get_or text (size - 1) 0 == slash) (drop size text))
+tokens-read mode after_slash [] size token some is = absurd (omega arith)
+tokens-read mode after_slash (b ∷ bs) size token some is = tokens-next mode after_slash b bs size token is
 
 -- a dead token is the last
-pub tokens-last : (mode : Mode) (behind : Bool) (all whole : List Token) (text : List ℕ) (size : ℕ) (token : Token) → all ++ tokens_from mode 0 behind text ≡ whole → 1 ≤ length text
-    → record { token = token; size = size } ≡ piece_of mode behind (get_or text 0 0) (drop 1 text) → ((others : List Token) → token_before token others ≡ token ∷ []) → all ++ token ∷ [] ≡ whole
-tokens-last mode behind all whole text size token so_far some is last =
-    ap (λ ts. all ++ ts) (sym (tokens-read mode behind text size token some is ∙ last _)) ∙ so_far
+pub tokens-last : (mode : Mode) (after_slash : Bool) (all whole : List Token) (text : List ℕ) (size : ℕ) (token : Token) → all ++ tokens_from mode 0 after_slash text ≡ whole → 1 ≤ length text
+    → record { token = token; size = size } ≡ piece_of mode after_slash (get_or text 0 0) (drop 1 text) → ((others : List Token) → token_before token others ≡ token ∷ []) → all ++ token ∷ [] ≡ whole
+tokens-last mode after_slash all whole text size token so_far some is last =
+    ap (λ ts. all ++ ts) (sym (tokens-read mode after_slash text size token some is ∙ last _)) ∙ so_far
 
 -- another is not
-pub tokens-more : (mode : Mode) (behind : Bool) (all whole : List Token) (text : List ℕ) (size : ℕ) (token : Token) → all ++ tokens_from mode 0 behind text ≡ whole → 1 ≤ length text
-    → record { token = token; size = size } ≡ piece_of mode behind (get_or text 0 0) (drop 1 text) → ((others : List Token) → token_before token others ≡ token ∷ others)
+pub tokens-more : (mode : Mode) (after_slash : Bool) (all whole : List Token) (text : List ℕ) (size : ℕ) (token : Token) → all ++ tokens_from mode 0 after_slash text ≡ whole → 1 ≤ length text
+    → record { token = token; size = size } ≡ piece_of mode after_slash (get_or text 0 0) (drop 1 text) → ((others : List Token) → token_before token others ≡ token ∷ others)
     → (all ++ token ∷ []) ++ tokens_from mode 0 (get_or text (size - 1) 0 == slash) (drop size text) ≡ whole
-tokens-more mode behind all whole text size token so_far some is more =
-    append_assoc all (token ∷ []) _ ∙ ap (λ ts. all ++ ts) (sym (tokens-read mode behind text size token some is ∙ more _)) ∙ so_far
+tokens-more mode after_slash all whole text size token so_far some is more =
+    append_assoc all (token ∷ []) _ ∙ ap (λ ts. all ++ ts) (sym (tokens-read mode after_slash text size token some is ∙ more _)) ∙ so_far
 
--- behind the last byte there are none
-pub tokens-all : (mode : Mode) (behind : Bool) (all whole : List Token) (text : List ℕ) → all ++ tokens_from mode 0 behind text ≡ whole → length text < 1 → all ≡ whole
+-- after the last byte there are none
+pub tokens-all : (mode : Mode) (after_slash : Bool) (all whole : List Token) (text : List ℕ) → all ++ tokens_from mode 0 after_slash text ≡ whole → length text < 1 → all ≡ whole
 unfolding tokens_from
-tokens-all mode behind all whole [] so_far none = sym (append-nil all) ∙ so_far
-tokens-all mode behind all whole (b ∷ bs) so_far none = absurd (omega arith)
+tokens-all mode after_slash all whole [] so_far none = sym (append-nil all) ∙ so_far
+tokens-all mode after_slash all whole (b ∷ bs) so_far none = absurd (omega arith)
 
 -- at most a token for each byte
 token_before-few : (token : Token) (others : List Token) (len : ℕ) → length others ≤ len → length (token_before token others) ≤ suc len
@@ -148,14 +148,14 @@ token_before-few (One (Bracket negated items)) others len few = omega arith
 token_before-few Star others len few = omega arith
 token_before-few Deep others len few = omega arith
 
-few_from : (mode : Mode) (skip : ℕ) (behind : Bool) (text : List ℕ) → length (tokens_from mode skip behind text) ≤ length text
+few_from : (mode : Mode) (skip : ℕ) (after_slash : Bool) (text : List ℕ) → length (tokens_from mode skip after_slash text) ≤ length text
 unfolding tokens_from
-few_from mode skip behind [] = omega arith
-few_from mode (suc skip) behind (b ∷ bs) =
+few_from mode skip after_slash [] = omega arith
+few_from mode (suc skip) after_slash (b ∷ bs) =
     let few : length (tokens_from mode skip (b == slash) bs) ≤ length bs = few_from mode skip (b == slash) bs in
     omega arith
-few_from mode zero behind (b ∷ bs) =
-    let piece : Piece = piece_of mode behind b bs in
+few_from mode zero after_slash (b ∷ bs) =
+    let piece : Piece = piece_of mode after_slash b bs in
     token_before-few piece.token (tokens_from mode (piece.size - 1) (b == slash) bs) (length bs) (few_from mode (piece.size - 1) (b == slash) bs)
 
 -- A pattern has at most as many tokens as bytes.

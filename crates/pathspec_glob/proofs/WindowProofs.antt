@@ -9,40 +9,40 @@ use Rattle.pathspec_glob.specs.declared.Case.{Case}
 use Rattle.pathspec_glob.specs.Tokens.{Token}
 use Rattle.pathspec_glob.specs.GlobRelation.{matches}
 use Rattle.pathspec_glob.specs.GlobSteps.{is_wide_at, may_pass_over_at}
-use Rattle.pathspec_glob.specs.GlobPlaces.{holds, leads, leads_before, is_inside, raised, closed, HoldsWithin, first_behind, end_behind, end_after}
-use Rattle.pathspec_glob.proofs.LeadsProofs.{goes_on, holds-raised, leads-split, leads-from, leads-behind, matches-behind, leads_before-same, leads-end_come}
+use Rattle.pathspec_glob.specs.GlobPlaces.{holds, accepts, accepts_before, either_holds, with_place, rows_closure, HoldsWithin, window_start, window_end, closure_end}
+use Rattle.pathspec_glob.proofs.AcceptProofs.{goes_on, holds-with_place, accepts-split, accepts-from, accepts-after, matches-after, accepts_before-same, accepts-end_come}
 
--- a place that is raised changes none behind it
-raised-before : (more : Bool) (place other : ℕ) (row : List Bool) → place < other → holds (raised more place row) other ≡ holds row other
-raised-before true place other row below = get_or-set_other row place other true false (λ e. omega arith)
-raised-before false place other row below = refl
+-- a place that is raised changes none after it
+with_place-before : (more : Bool) (place other : ℕ) (row : List Bool) → place < other → holds (with_place more place row) other ≡ holds row other
+with_place-before true place other row below = get_or-set_other row place other true false (λ e. omega arith)
+with_place-before false place other row below = refl
 
 -- where the end is once a place is closed
-pub end-least : (held : Bool) (place end : ℕ) → end ≤ end_after held place end
+pub end-least : (held : Bool) (place end : ℕ) → end ≤ closure_end held place end
 end-least false place end = omega arith
 end-least true place end = elim (cases_lt end (place + 3)) [
   | inl l ↦ rw (lt-ltb end (place + 3) l) (omega arith)
   | inr g ↦ rw (le-ltb end (place + 3) g) (omega arith)
 ]
 
-end-held : (place end : ℕ) → place + 3 ≤ end_after true place end
+end-held : (place end : ℕ) → place + 3 ≤ closure_end true place end
 end-held place end = elim (cases_lt end (place + 3)) [
   | inl l ↦ rw (lt-ltb end (place + 3) l) (omega arith)
   | inr g ↦ rw (le-ltb end (place + 3) g) (omega arith)
 ]
 
 -- a place that is closed comes to none from the end on
-closed-none : (mode : Mode) (ts : List Token) (place : ℕ) (E S : List Bool) → is_inside E S place ≡ false → closed mode ts place E S ≡ E
-closed-none mode ts place E S off = let parts = or_parts (holds E place) (holds S place) off in rw (parts.0, parts.1) refl
+rows_closure-none : (mode : Mode) (ts : List Token) (place : ℕ) (E S : List Bool) → either_holds E S place ≡ false → rows_closure mode ts place E S ≡ E
+rows_closure-none mode ts place E S off = let parts = or_parts (holds E place) (holds S place) off in rw (parts.0, parts.1) refl
 
-pub closed-behind : (mode : Mode) (ts : List Token) (place end i : ℕ) (E S : List Bool) → end_after (is_inside E S place) place end ≤ i → holds (closed mode ts place E S) i ≡ holds E i
-closed-behind mode ts place end i E S h = elim (cases_Bool (is_inside E S place)) [
+pub rows_closure-after : (mode : Mode) (ts : List Token) (place end i : ℕ) (E S : List Bool) → closure_end (either_holds E S place) place end ≤ i → holds (rows_closure mode ts place E S) i ≡ holds E i
+rows_closure-after mode ts place end i E S h = elim (cases_Bool (either_holds E S place)) [
   | inl t ↦
       let far : place + 3 ≤ i = let least = end-held place end in let k = rw t at h in omega arith in
-      let once = raised (is_inside E S place && is_wide_at (drop place ts)) (place + 1) E in
-      raised-before (holds E place && may_pass_over_at mode (drop place ts)) (place + 2) i once (omega arith)
-      ∙ raised-before (is_inside E S place && is_wide_at (drop place ts)) (place + 1) i E (omega arith)
-  | inr f ↦ ap (λ row. holds row i) (closed-none mode ts place E S f)
+      let once = with_place (either_holds E S place && is_wide_at (drop place ts)) (place + 1) E in
+      with_place-before (holds E place && may_pass_over_at mode (drop place ts)) (place + 2) i once (omega arith)
+      ∙ with_place-before (either_holds E S place && is_wide_at (drop place ts)) (place + 1) i E (omega arith)
+  | inr f ↦ ap (λ row. holds row i) (rows_closure-none mode ts place E S f)
 ]
 
 -- rows that have been left hold no place
@@ -57,69 +57,69 @@ begin-window n R Q = record {
   within = omega arith;
   before_entered = λ i h. absurd (let no : ⊥ = omega arith in no);
   before_staying = λ i h. absurd (let no : ⊥ = omega arith in no);
-  behind_entered = λ i g h. get_or-set_other (replicate (n + 1) false ++ R) 0 i true false (λ e. omega arith) ∙ left-row (n + 1) i R (omega arith);
-  behind_staying = λ i g h. left-row n i Q h;
+  after_entered = λ i g h. get_or-set_other (replicate (n + 1) false ++ R) 0 i true false (λ e. omega arith) ∙ left-row (n + 1) i R (omega arith);
+  after_staying = λ i g h. left-row n i Q h;
 }
 
 -- a place that is visited changes none before it, and none from the end on
-pub comes-before : (mode : Mode) (ts : List Token) (place i : ℕ) (E S : List Bool) (arrives : Bool) → i < place → holds (set (closed mode ts place E S) place arrives) i ≡ holds E i
+pub comes-before : (mode : Mode) (ts : List Token) (place i : ℕ) (E S : List Bool) (arrives : Bool) → i < place → holds (set (rows_closure mode ts place E S) place arrives) i ≡ holds E i
 comes-before mode ts place i E S arrives h =
-    let once = raised (is_inside E S place && is_wide_at (drop place ts)) (place + 1) E in
-    get_or-set_other (closed mode ts place E S) place i arrives false (λ e. omega arith)
-    ∙ holds-raised (holds E place && may_pass_over_at mode (drop place ts)) (place + 2) i once (omega arith)
-    ∙ holds-raised (is_inside E S place && is_wide_at (drop place ts)) (place + 1) i E (omega arith)
+    let once = with_place (either_holds E S place && is_wide_at (drop place ts)) (place + 1) E in
+    get_or-set_other (rows_closure mode ts place E S) place i arrives false (λ e. omega arith)
+    ∙ holds-with_place (holds E place && may_pass_over_at mode (drop place ts)) (place + 2) i once (omega arith)
+    ∙ holds-with_place (either_holds E S place && is_wide_at (drop place ts)) (place + 1) i E (omega arith)
 
-pub comes-behind : (mode : Mode) (ts : List Token) (place end i : ℕ) (E S : List Bool) (arrives : Bool) → place < i → end_after (is_inside E S place) place end ≤ i
-    → holds (set (closed mode ts place E S) place arrives) i ≡ holds E i
-comes-behind mode ts place end i E S arrives h far = get_or-set_other (closed mode ts place E S) place i arrives false (λ e. omega arith) ∙ closed-behind mode ts place end i E S far
+pub comes-after : (mode : Mode) (ts : List Token) (place end i : ℕ) (E S : List Bool) (arrives : Bool) → place < i → closure_end (either_holds E S place) place end ≤ i
+    → holds (set (rows_closure mode ts place E S) place arrives) i ≡ holds E i
+comes-after mode ts place end i E S arrives h far = get_or-set_other (rows_closure mode ts place E S) place i arrives false (λ e. omega arith) ∙ rows_closure-after mode ts place end i E S far
 
 module _ (mode : Mode) (case : Case) where
   -- places that are not held lead to nothing
   pub before-none : (n : ℕ) (ts : List Token) (E S : List Bool) (text : List ℕ) → ((i : ℕ) → i < n → holds E i ≡ false) → ((i : ℕ) → i < n → holds S i ≡ false)
-      → leads_before mode case n ts E S text ≡ false
+      → accepts_before mode case n ts E S text ≡ false
   before-none zero ts E S text e s = refl
   before-none (suc n) ts E S text e s =
       rw (before-none n ts E S text (λ i h. e i (omega arith)) (λ i h. s i (omega arith)), e n (omega arith), s n (omega arith)) refl
 
   unheld : (ts : List Token) (E S : List Bool) (text : List ℕ) → ((i : ℕ) → i ≤ length ts → holds E i ≡ false) → ((i : ℕ) → i < length ts → holds S i ≡ false)
-      → leads mode case ts E S text ≡ false
+      → accepts mode case ts E S text ≡ false
   unheld [] E S text e s = rw (e 0 (omega arith)) refl
   unheld (t ∷ ts) E S text e s =
       let ih = unheld ts (drop 1 E) (drop 1 S) text (λ i h. get_or-drop 1 E i false ∙ e (1 + i) (omega arith)) (λ i h. get_or-drop 1 S i false ∙ s (1 + i) (omega arith)) in
       rw (e 0 (omega arith), s 0 (omega arith), ih) refl
 
-  pub behind-none : (n : ℕ) (ts : List Token) (E S : List Bool) (text : List ℕ) → n ≤ length ts
+  pub after-none : (n : ℕ) (ts : List Token) (E S : List Bool) (text : List ℕ) → n ≤ length ts
       → ((i : ℕ) → n ≤ i → i ≤ length ts → holds E i ≡ false) → ((i : ℕ) → n ≤ i → i < length ts → holds S i ≡ false)
-      → leads mode case (drop n ts) (drop n E) (drop n S) text ≡ false
-  behind-none n ts E S text h e s =
+      → accepts mode case (drop n ts) (drop n E) (drop n S) text ≡ false
+  after-none n ts E S text h e s =
       let len = length-drop n ts in
       unheld (drop n ts) (drop n E) (drop n S) text
       (λ i k. get_or-drop n E i false ∙ e (n + i) (omega arith) (omega (arith, len, k)))
       (λ i k. get_or-drop n S i false ∙ s (n + i) (omega arith) (omega (arith, len, k)))
 
   -- what all lead to, those from the first that is held on lead to
-  pub window-leads : (first : ℕ) (ts : List Token) (E S : List Bool) (text : List ℕ) → first ≤ length ts
+  pub window-accepts : (first : ℕ) (ts : List Token) (E S : List Bool) (text : List ℕ) → first ≤ length ts
       → ((i : ℕ) → i < first → holds E i ≡ false) → ((i : ℕ) → i < first → holds S i ≡ false)
-      → leads mode case (drop first ts) (drop first E) (drop first S) text ≡ leads mode case ts E S text
-  window-leads first ts E S text h e s = sym (leads-split mode case first ts E S text h ∙ rw (before-none first ts E S text e s) refl)
+      → accepts mode case (drop first ts) (drop first E) (drop first S) text ≡ accepts mode case ts E S text
+  window-accepts first ts E S text h e s = sym (accepts-split mode case first ts E S text h ∙ rw (before-none first ts E S text e s) refl)
 
-  -- Where no place behind one is held, all lead to what those before it do, and that one where it is come to.
-  pub settled-come : (n : ℕ) (ts : List Token) (E S : List Bool) (arrives : Bool) (text : List ℕ) → n ≤ length ts → length ts < length E
+  -- Where no place after one is held, all lead to what those before it do, and that one where it is come to.
+  pub idempotent-come : (n : ℕ) (ts : List Token) (E S : List Bool) (arrives : Bool) (text : List ℕ) → n ≤ length ts → length ts < length E
       → ((i : ℕ) → n < i → i ≤ length ts → holds E i ≡ false) → ((i : ℕ) → n ≤ i → i < length ts → holds S i ≡ false)
-      → leads mode case ts (set E n arrives) S text ≡ (leads_before mode case n ts E S text || (arrives && matches mode case (drop n ts) text))
-  settled-come n ts E S arrives text h g e s = elim (cases_lt n (length ts)) [
+      → accepts mode case ts (set E n arrives) S text ≡ (accepts_before mode case n ts E S text || (arrives && matches mode case (drop n ts) text))
+  idempotent-come n ts E S arrives text h g e s = elim (cases_lt n (length ts)) [
     | inr k ↦
         let all : n ≡ length ts = omega arith in
-        rw (all, matches-behind mode case ts text) (leads-end_come mode case ts E S arrives text g)
+        rw (all, matches-after mode case ts text) (accepts-end_come mode case ts E S arrives text g)
     | inl l ↦
         let come = set E n arrives in
-        let same : leads_before mode case n ts come S text ≡ leads_before mode case n ts E S text =
-        leads_before-same mode case n ts E come S S text (λ i k. get_or-set_other E n i arrives false (λ eq. omega arith)) (λ i k. refl) in
+        let same : accepts_before mode case n ts come S text ≡ accepts_before mode case n ts E S text =
+        accepts_before-same mode case n ts E come S S text (λ i k. get_or-set_other E n i arrives false (λ eq. omega arith)) (λ i k. refl) in
         let there : holds come n ≡ arrives = get_or-set_same E n arrives false (omega arith) in
-        let others : leads mode case (drop (suc n) ts) (drop (suc n) come) (drop (suc n) S) text ≡ false =
-        rw (drop-set-lt (suc n) E n arrives (omega arith)) (behind-none (suc n) ts E S text (omega arith) (λ i k. e i (omega arith)) (λ i k. s i (omega arith))) in
-        leads-split mode case n ts come S text (omega arith)
-        ∙ rw (leads-from mode case n ts come S text l, same, there, s n (omega arith) l, others, or-false (arrives && matches mode case (drop n ts) text), or-false (arrives && matches mode case (drop n ts) text)) refl
+        let others : accepts mode case (drop (suc n) ts) (drop (suc n) come) (drop (suc n) S) text ≡ false =
+        rw (drop-set-lt (suc n) E n arrives (omega arith)) (after-none (suc n) ts E S text (omega arith) (λ i k. e i (omega arith)) (λ i k. s i (omega arith))) in
+        accepts-split mode case n ts come S text (omega arith)
+        ∙ rw (accepts-from mode case n ts come S text l, same, there, s n (omega arith) l, others, or-false (arrives && matches mode case (drop n ts) text), or-false (arrives && matches mode case (drop n ts) text)) refl
   ]
 
   module _ (n end : ℕ) (ts : List Token) (E S : List Bool) (h : n ≤ length ts) (stop : (n ≡ length ts) ⊎ (end ≤ n))
@@ -138,33 +138,33 @@ module _ (mode : Mode) (case : Case) where
 
     -- Where the visits stop, at the end of all tokens or of those that are held, all lead to what those before lead to.
     pub stopped-come : (arrives : Bool) (text : List ℕ) → length ts < length E
-        → leads mode case ts (set E n arrives) S text ≡ (leads_before mode case n ts E S text || (arrives && matches mode case (drop n ts) text))
-    stopped-come arrives text g = settled-come n ts E S arrives text h g stopped-entered stopped-staying
+        → accepts mode case ts (set E n arrives) S text ≡ (accepts_before mode case n ts E S text || (arrives && matches mode case (drop n ts) text))
+    stopped-come arrives text g = idempotent-come n ts E S arrives text h g stopped-entered stopped-staying
 
-    stopped-rest : (b : ℕ) (bs : List ℕ) → leads mode case (drop n ts) (drop n E) (drop n S) (b ∷ bs) ≡ false
+    stopped-rest : (b : ℕ) (bs : List ℕ) → accepts mode case (drop n ts) (drop n E) (drop n S) (b ∷ bs) ≡ false
     stopped-rest b bs = elim stop [
-      | inl all ↦ rw all (leads-behind mode case ts (drop (length ts) E) (drop (length ts) S) (b ∷ bs) ∙ and-false (holds (drop (length ts) E) 0))
-      | inr past ↦ behind-none n ts E S (b ∷ bs) h (λ i k l. e i (omega arith) l) (λ i k l. s i (omega arith) l)
+      | inl all ↦ rw all (accepts-after mode case ts (drop (length ts) E) (drop (length ts) S) (b ∷ bs) ∙ and-false (holds (drop (length ts) E) 0))
+      | inr past ↦ after-none n ts E S (b ∷ bs) h (λ i k l. e i (omega arith) l) (λ i k l. s i (omega arith) l)
     ]
 
-    pub stopped-leads : (arrives : Bool) (b : ℕ) (bs : List ℕ) → length ts < length E → leads mode case ts (set E n arrives) S bs ≡ goes_on mode case n ts E S arrives b bs
-    stopped-leads arrives b bs g =
-        stopped-come arrives bs g ∙ sym (rw (stopped-rest b bs) (or-false (leads_before mode case n ts E S bs || (arrives && matches mode case (drop n ts) bs))))
+    pub stopped-accepts : (arrives : Bool) (b : ℕ) (bs : List ℕ) → length ts < length E → accepts mode case ts (set E n arrives) S bs ≡ goes_on mode case n ts E S arrives b bs
+    stopped-accepts arrives b bs g =
+        stopped-come arrives bs g ∙ sym (rw (stopped-rest b bs) (or-false (accepts_before mode case n ts E S bs || (arrives && matches mode case (drop n ts) bs))))
 
--- the window, once a place is behind
-pub first-within : (held : Bool) (place first : ℕ) → first ≤ place → first_behind held place first ≤ place + 1
+-- the window, once a place is after
+pub first-within : (held : Bool) (place first : ℕ) → first ≤ place → window_start held place first ≤ place + 1
 first-within true place first h = omega arith
 first-within false place first h = elim (cases_Bool (first == place)) [
   | inl e ↦ rw e (omega arith)
   | inr n ↦ rw n (omega arith)
 ]
 
-pub end-within : (held : Bool) (place end : ℕ) → end ≤ place → end_behind held place end ≤ place + 1
+pub end-within : (held : Bool) (place end : ℕ) → end ≤ place → window_end held place end ≤ place + 1
 end-within true place end h = omega arith
 end-within false place end h = omega arith
 
 pub before-first : (held : Bool) (place first : ℕ) (row : List Bool) → ((i : ℕ) → i < first → holds row i ≡ false) → (held ≡ false → holds row place ≡ false)
-    → (i : ℕ) → i < first_behind held place first → holds row i ≡ false
+    → (i : ℕ) → i < window_start held place first → holds row i ≡ false
 before-first true place first row before there i h = before i h
 before-first false place first row before there i h = elim (cases_Bool (first == place)) [
   | inl e ↦
@@ -177,10 +177,10 @@ before-first false place first row before there i h = elim (cases_Bool (first ==
   | inr n ↦ before i (rw n at h)
 ]
 
-pub left-behind : (held : Bool) (place end : ℕ) (row : List Bool) → ((i : ℕ) → end ≤ i → i < place → holds row i ≡ false) → (held ≡ false → holds row place ≡ false)
-    → (i : ℕ) → end_behind held place end ≤ i → i < place + 1 → holds row i ≡ false
-left-behind true place end row left there i g h = absurd (let no : ⊥ = omega arith in no)
-left-behind false place end row left there i g h = elim (cases_lt i place) [
+pub left-after : (held : Bool) (place end : ℕ) (row : List Bool) → ((i : ℕ) → end ≤ i → i < place → holds row i ≡ false) → (held ≡ false → holds row place ≡ false)
+    → (i : ℕ) → window_end held place end ≤ i → i < place + 1 → holds row i ≡ false
+left-after true place end row left there i g h = absurd (let no : ⊥ = omega arith in no)
+left-after false place end row left there i g h = elim (cases_lt i place) [
   | inl l ↦ left i g l
   | inr k ↦ let this : i ≡ place = omega arith in rw this (there refl)
 ]

@@ -69,8 +69,8 @@ abbrev pub begins_with : List ℕ → List ℕ → Bool
 begins_with text front = starts_with nat_eq text front
 
 -- the text, or its ASCII lower form where case does not count
-abbrev pub folded : Bool → List ℕ → List ℕ
-folded ignore_case text = if ignore_case then str_to_ascii_lowercase text else text
+abbrev pub fold_case : Bool → List ℕ → List ℕ
+fold_case ignore_case text = if ignore_case then str_to_ascii_lowercase text else text
 
 -- `*`, `?`, `[` and `\`
 abbrev pub is_wildcard : ℕ → Bool

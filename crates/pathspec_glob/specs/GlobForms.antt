@@ -13,7 +13,7 @@ use Rattle.pathspec_glob.specs.declared.scratch.tokens.Single.TheVariants as hel
 use Rattle.pathspec_glob.specs.declared.scratch.tokens.Token.{Token as Part}
 use Rattle.pathspec_glob.specs.declared.scratch.tokens.Token.TheVariants as part
 use Rattle.pathspec_glob.specs.Tokens.{Item, Front, Items, Single, Token, Piece}
-use Rattle.pathspec_glob.specs.Tokens.Item.{Lone, Range, Class}
+use Rattle.pathspec_glob.specs.Tokens.Item.{Literal, Range, Class}
 use Rattle.pathspec_glob.specs.Tokens.Front.{Listed, Closed, Broken}
 use Rattle.pathspec_glob.specs.Tokens.Single.{Byte, Quoted, Any, Bracket, Dead}
 use Rattle.pathspec_glob.specs.Tokens.Token.{One, Star, Deep}
@@ -34,43 +34,43 @@ class_name named.Upper = codes "upper"
 class_name named.Xdigit = codes "xdigit"
 
 -- the item that an `Item` is
-abbrev pub item_of : Kept → Item
-item_of (kept.Lone byte) = Lone byte
-item_of (kept.Range first last) = Range first last
-item_of (kept.Class class) = Class (class_name class)
+abbrev pub item_view : Kept → Item
+item_view (kept.Literal byte) = Literal byte
+item_view (kept.Range first last) = Range first last
+item_view (kept.Class class) = Class (class_name class)
 
 -- the items that a list of `Item` is
-abbrev pub items_of : List Kept → List Item
-items_of items = map item_of items
+abbrev pub items_view : List Kept → List Item
+items_view items = map item_view items
 
 -- the items of a bracket that has been read, and what follows them
-abbrev pub read_of : Read → Items
-read_of read = record { items = items_of read.items.items; rest = read.rest.now }
+abbrev pub bracket_view : Read → Items
+bracket_view read = record { items = items_view read.items.items; rest = read.rest.now }
 
 -- what stands at the front of what is left of a bracket
-abbrev pub front_form : Seen → Front
-front_form (seen.Listed item size) = Listed (item_of item) size
-front_form seen.Closed = Closed
-front_form seen.Broken = Broken
+abbrev pub front_view : Seen → Front
+front_view (seen.Listed item size) = Listed (item_view item) size
+front_view seen.Closed = Closed
+front_view seen.Broken = Broken
 
 -- what one byte of a text is held to
-abbrev pub single_form : Held → Single
-single_form (held.Byte byte) = Byte byte
-single_form (held.Quoted byte) = Quoted byte
-single_form held.Any = Any
-single_form (held.Bracket negated items) = Bracket negated (items_of items.items)
-single_form held.Dead = Dead
+abbrev pub single_view : Held → Single
+single_view (held.Byte byte) = Byte byte
+single_view (held.Quoted byte) = Quoted byte
+single_view held.Any = Any
+single_view (held.Bracket negated items) = Bracket negated (items_view items.items)
+single_view held.Dead = Dead
 
 -- the token that a `Token` is
-abbrev pub token_of : Part → Token
-token_of (part.One single) = One (single_form single)
-token_of part.Star = Star
-token_of part.Deep = Deep
+abbrev pub token_view : Part → Token
+token_view (part.One single) = One (single_view single)
+token_view part.Star = Star
+token_view part.Deep = Deep
 
 -- the tokens that a list of `Token` is
-abbrev pub tokens_of : List Part → List Token
-tokens_of parts = map token_of parts
+abbrev pub tokens_view : List Part → List Token
+tokens_view parts = map token_view parts
 
 -- the piece that a `Piece` is
-abbrev pub piece_form : Taken → Piece
-piece_form taken = record { token = token_of taken.token; size = taken.size }
+abbrev pub piece_view : Taken → Piece
+piece_view taken = record { token = token_view taken.token; size = taken.size }

@@ -6,67 +6,67 @@ use Rattle.pathspec_glob.specs.declared.places.Places.{Places}
 use Rattle.pathspec_glob.specs.Bytes.{slash, is_empty}
 use Rattle.pathspec_glob.specs.Tokens.{Token}
 use Rattle.pathspec_glob.specs.Tokens.Token.{One, Star, Deep}
-use Rattle.pathspec_glob.specs.GlobRelation.{matches, first_taken, some_end, takes}
-use Rattle.pathspec_glob.specs.GlobSteps.{Parts, is_wide_at, may_pass_over_at, token_takes}
+use Rattle.pathspec_glob.specs.GlobRelation.{matches, takes_first, some_suffix, takes}
+use Rattle.pathspec_glob.specs.GlobSteps.{TokenList, is_wide_at, may_pass_over_at, token_takes}
 
 -- The tokens match from within the first one: a deep token that has been come to before is no longer left out together with its slash.
-abbrev pub stays : Mode → Case → List Token → List ℕ → Bool
-stays mode case [] text = is_empty text
-stays mode case (One single ∷ ts) text = first_taken (takes mode case single) (matches mode case ts) text
-stays mode case (Star ∷ ts) text = some_end (λ b. not (b == slash)) (matches mode case ts) text
-stays mode case (Deep ∷ ts) text = some_end (λ b. true) (matches mode case ts) text
+abbrev pub matches_within : Mode → Case → List Token → List ℕ → Bool
+matches_within mode case [] text = is_empty text
+matches_within mode case (One single ∷ ts) text = takes_first (takes mode case single) (matches mode case ts) text
+matches_within mode case (Star ∷ ts) text = some_suffix (λ b. not (b == slash)) (matches mode case ts) text
+matches_within mode case (Deep ∷ ts) text = some_suffix (λ b. true) (matches mode case ts) text
 
 -- whether a row holds a place
 abbrev pub holds : List Bool → ℕ → Bool
 holds row place = get_or row place false
 
 -- one of two rows holds the first place, and from there the tokens match the text
-abbrev pub leads_here : Mode → Case → List Token → Bool → Bool → List ℕ → Bool
-leads_here mode case ts entered staying text = (entered && matches mode case ts text) || (staying && stays mode case ts text)
+abbrev pub accepts_at : Mode → Case → List Token → Bool → Bool → List ℕ → Bool
+accepts_at mode case ts entered staying text = (entered && matches mode case ts text) || (staying && matches_within mode case ts text)
 
 -- From some place of the two rows, the tokens match the text.
-abbrev pub leads : Mode → Case → List Token → List Bool → List Bool → List ℕ → Bool
-leads mode case [] entered staying text = holds entered 0 && is_empty text
-leads mode case (t ∷ ts) entered staying text =
-    leads_here mode case (t ∷ ts) (holds entered 0) (holds staying 0) text || leads mode case ts (drop 1 entered) (drop 1 staying) text
+abbrev pub accepts : Mode → Case → List Token → List Bool → List Bool → List ℕ → Bool
+accepts mode case [] entered staying text = holds entered 0 && is_empty text
+accepts mode case (t ∷ ts) entered staying text =
+    accepts_at mode case (t ∷ ts) (holds entered 0) (holds staying 0) text || accepts mode case ts (drop 1 entered) (drop 1 staying) text
 
 -- the same of the first places alone
-abbrev pub leads_before : Mode → Case → ℕ → List Token → List Bool → List Bool → List ℕ → Bool
-leads_before mode case zero ts entered staying text = false
-leads_before mode case (suc n) ts entered staying text =
-    leads_before mode case n ts entered staying text || leads_here mode case (drop n ts) (holds entered n) (holds staying n) text
+abbrev pub accepts_before : Mode → Case → ℕ → List Token → List Bool → List Bool → List ℕ → Bool
+accepts_before mode case zero ts entered staying text = false
+accepts_before mode case (suc n) ts entered staying text =
+    accepts_before mode case n ts entered staying text || accepts_at mode case (drop n ts) (holds entered n) (holds staying n) text
 
 -- the place is come to, or within its token
-abbrev pub is_inside : List Bool → List Bool → ℕ → Bool
-is_inside entered staying place = holds entered place || holds staying place
+abbrev pub either_holds : List Bool → List Bool → ℕ → Bool
+either_holds entered staying place = holds entered place || holds staying place
 
 -- the row with a place more
-abbrev pub raised : Bool → ℕ → List Bool → List Bool
-raised more place row = if more then set row place true else row
+abbrev pub with_place : Bool → ℕ → List Bool → List Bool
+with_place more place row = if more then set row place true else row
 
 -- the places that are come to once those that the token at this place leads to without a byte are too
-abbrev pub closed : Mode → List Token → ℕ → List Bool → List Bool → List Bool
-closed mode ts place entered staying =
-    raised (holds entered place && may_pass_over_at mode (drop place ts)) (place + 2) (raised (is_inside entered staying place && is_wide_at (drop place ts)) (place + 1) entered)
+abbrev pub rows_closure : Mode → List Token → ℕ → List Bool → List Bool → List Bool
+rows_closure mode ts place entered staying =
+    with_place (holds entered place && may_pass_over_at mode (drop place ts)) (place + 2) (with_place (either_holds entered staying place && is_wide_at (drop place ts)) (place + 1) entered)
 
 -- no place before the first or from the end on is held, in rows for so many tokens
 pub record HoldsWithin (tokens first end : ℕ) (entered staying : List Bool) : Type 0 where
   pub within : first ≤ tokens
   pub before_entered : (i : ℕ) → i < first → holds entered i ≡ false
   pub before_staying : (i : ℕ) → i < first → holds staying i ≡ false
-  pub behind_entered : (i : ℕ) → end ≤ i → i ≤ tokens → holds entered i ≡ false
-  pub behind_staying : (i : ℕ) → end ≤ i → i < tokens → holds staying i ≡ false
+  pub after_entered : (i : ℕ) → end ≤ i → i ≤ tokens → holds entered i ≡ false
+  pub after_staying : (i : ℕ) → end ≤ i → i < tokens → holds staying i ≡ false
 
 -- the end of the places that are held, once one that was held or not has been closed
-abbrev pub end_after : Bool → ℕ → ℕ → ℕ
-end_after held place end = if held && nat_lt end (place + 3) then place + 3 else end
+abbrev pub closure_end : Bool → ℕ → ℕ → ℕ
+closure_end held place end = if held && nat_lt end (place + 3) then place + 3 else end
 
--- where those that are held begin and end, once a place that is held or not is behind
-abbrev pub first_behind : Bool → ℕ → ℕ → ℕ
-first_behind held place first = if not held && (first == place) then place + 1 else first
+-- where those that are held begin and end, once a place that is held or not is after
+abbrev pub window_start : Bool → ℕ → ℕ → ℕ
+window_start held place first = if not held && (first == place) then place + 1 else first
 
-abbrev pub end_behind : Bool → ℕ → ℕ → ℕ
-end_behind held place end = if held then place + 1 else end
+abbrev pub window_end : Bool → ℕ → ℕ → ℕ
+window_end held place end = if held then place + 1 else end
 
 -- ---- the same of a set of places
 
@@ -95,45 +95,45 @@ IsBounded tokens places = HoldsWithin tokens places.first places.end places.ente
 
 -- the set holds the place
 abbrev pub is_held : Places → ℕ → Bool
-is_held places place = is_inside places.entered.items places.staying.items place
+is_held places place = either_holds places.entered.items places.staying.items place
 
 -- from some place of the set, the tokens match the text
-abbrev pub places_lead : Parts → Case → Places → List ℕ → Bool
-places_lead parts case places text = leads parts.mode case parts.tokens places.entered.items places.staying.items text
+abbrev pub places_accept : TokenList → Case → Places → List ℕ → Bool
+places_accept parts case places text = accepts parts.mode case parts.tokens places.entered.items places.staying.items text
 
 -- the places lead to just what the tokens match
-abbrev pub LeadsFromStart : Parts → Places → Type 0
-LeadsFromStart parts places =
-    (case : Case) (text : List ℕ) → places_lead parts case places text ≡ matches parts.mode case parts.tokens text
+abbrev pub AcceptsFromStart : TokenList → Places → Type 0
+AcceptsFromStart parts places =
+    (case : Case) (text : List ℕ) → places_accept parts case places text ≡ matches parts.mode case parts.tokens text
 
 -- the places lead no text to an end
-abbrev pub LeadsNowhere : Parts → Case → Places → Type 0
-LeadsNowhere parts case places = (text : List ℕ) → places_lead parts case places text ≡ false
+abbrev pub AcceptsNothing : TokenList → Case → Places → Type 0
+AcceptsNothing parts case places = (text : List ℕ) → places_accept parts case places text ≡ false
 
--- behind the first byte of the text, the new places lead to what the old ones lead to before it
-abbrev pub LeadsOn : Parts → Case → Places → Places → List ℕ → Type 0
-LeadsOn parts case old new text =
-    (b : ℕ) (bs : List ℕ) → text ≡ b ∷ bs → places_lead parts case new bs ≡ places_lead parts case old text
+-- after the first byte of the text, the new places lead to what the old ones lead to before it
+abbrev pub AcceptsAfterByte : TokenList → Case → Places → Places → List ℕ → Type 0
+AcceptsAfterByte parts case old new text =
+    (b : ℕ) (bs : List ℕ) → text ≡ b ∷ bs → places_accept parts case new bs ≡ places_accept parts case old text
 
 -- the places that are come to once those that the token at this place leads to without a byte are too
-abbrev pub closure_at : Parts → ℕ → Places → List Bool
-closure_at parts place places = closed parts.mode parts.tokens place places.entered.items places.staying.items
+abbrev pub closure_at : TokenList → ℕ → Places → List Bool
+closure_at parts place places = rows_closure parts.mode parts.tokens place places.entered.items places.staying.items
 
 -- the first byte of the text leads from this place to the next
-abbrev pub moves_behind : Parts → Case → Places → ℕ → List ℕ → Bool
-moves_behind parts case places place text =
+abbrev pub moves_on : TokenList → Case → Places → ℕ → List ℕ → Bool
+moves_on parts case places place text =
     is_held places place && token_takes parts case place text && not (is_wide_at (drop place parts.tokens))
 
 -- after the first byte of the text, the token at this place may take more
-abbrev pub moves_within : Parts → Case → Places → ℕ → List ℕ → Bool
+abbrev pub moves_within : TokenList → Case → Places → ℕ → List ℕ → Bool
 moves_within parts case places place text =
     is_held places place && token_takes parts case place text && is_wide_at (drop place parts.tokens)
 
 -- the places that are come to, and those whose tokens stay, once this place has taken a byte
-abbrev pub entered_after : Parts → ℕ → Bool → Places → List Bool
+abbrev pub entered_after : TokenList → ℕ → Bool → Places → List Bool
 entered_after parts place arrives places = set (closure_at parts place places) place arrives
 
-abbrev pub staying_after : Parts → Case → ℕ → List ℕ → Places → List Bool
+abbrev pub staying_after : TokenList → Case → ℕ → List ℕ → Places → List Bool
 staying_after parts case place text places =
     set places.staying.items place (moves_within parts case places place text)
 

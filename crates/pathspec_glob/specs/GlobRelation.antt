@@ -8,16 +8,16 @@ use Rattle.pathspec_glob.specs.declared.Case.{Case}
 use Rattle.pathspec_glob.specs.declared.Case.TheVariants.{Sensitive, Fold}
 use Rattle.pathspec_glob.specs.Bytes.{slash, is_empty}
 use Rattle.pathspec_glob.specs.Tokens.{Item, class_of, Single, Token}
-use Rattle.pathspec_glob.specs.Tokens.Item.{Lone, Range, Class}
+use Rattle.pathspec_glob.specs.Tokens.Item.{Literal, Range, Class}
 use Rattle.pathspec_glob.specs.Tokens.Single.{Byte, Quoted, Any, Bracket, Dead}
 use Rattle.pathspec_glob.specs.Tokens.Token.{One, Star, Deep}
 
 -- ---- one byte
 
 -- the bytes are one, up to case where it does not count
-abbrev pub same_byte : Case → ℕ → ℕ → Bool
-same_byte Sensitive x b = x == b
-same_byte Fold x b = eq_ignore_ascii_case x b
+abbrev pub is_same_byte : Case → ℕ → ℕ → Bool
+is_same_byte Sensitive x b = x == b
+is_same_byte Fold x b = eq_ignore_ascii_case x b
 
 -- the byte passes the test, where there is one
 abbrev pub passes : Option (ℕ → Bool) → ℕ → Bool
@@ -26,7 +26,7 @@ passes (Some test) b = test b
 
 -- the item holds the byte
 abbrev pub item_holds : ℕ → Item → Bool
-item_holds b (Lone x) = x == b
+item_holds b (Literal x) = x == b
 item_holds b (Range low high) = nat_le low b && nat_le b high
 item_holds b (Class name) = passes (class_of name) b
 
@@ -35,21 +35,21 @@ abbrev pub items_hold : List Item → ℕ → Bool
 items_hold items b = list_any (item_holds b) items
 
 -- items hold a byte; without case, they hold its lower or its upper form
-abbrev pub hold : Case → List Item → ℕ → Bool
-hold Sensitive items b = items_hold items b
-hold Fold items b = items_hold items (to_ascii_lowercase b) || items_hold items (to_ascii_uppercase b)
+abbrev pub bracket_holds : Case → List Item → ℕ → Bool
+bracket_holds Sensitive items b = items_hold items b
+bracket_holds Fold items b = items_hold items (to_ascii_lowercase b) || items_hold items (to_ascii_uppercase b)
 
 -- whether the mode bars the byte from `?` and from brackets
-abbrev pub bars : Mode → ℕ → Bool
-bars Shell b = false
-bars PathAware b = b == slash
+abbrev pub is_barred : Mode → ℕ → Bool
+is_barred Shell b = false
+is_barred PathAware b = b == slash
 
 -- What is held to one byte takes this one.
 abbrev pub takes : Mode → Case → Single → ℕ → Bool
-takes mode case (Byte x) b = same_byte case x b
-takes mode case (Quoted x) b = same_byte case x b
-takes mode case Any b = not (bars mode b)
-takes mode case (Bracket negated items) b = not (bars mode b) && (if negated then not (hold case items b) else hold case items b)
+takes mode case (Byte x) b = is_same_byte case x b
+takes mode case (Quoted x) b = is_same_byte case x b
+takes mode case Any b = not (is_barred mode b)
+takes mode case (Bracket negated items) b = not (is_barred mode b) && (if negated then not (bracket_holds case items b) else bracket_holds case items b)
 takes mode case Dead b = false
 
 -- ---- the relation
@@ -75,9 +75,9 @@ pub data Matches (mode : Mode) (case : Case) : List Token → List ℕ → Type 
 -- ---- the same as a function
 
 -- some end of the text passes the test, where what stands before it may be left out
-abbrev pub some_end : (ℕ → Bool) → (List ℕ → Bool) → List ℕ → Bool
-some_end may_skip test [] = test []
-some_end may_skip test (b ∷ bs) = test (b ∷ bs) || (may_skip b && some_end may_skip test bs)
+abbrev pub some_suffix : (ℕ → Bool) → (List ℕ → Bool) → List ℕ → Bool
+some_suffix may_skip test [] = test []
+some_suffix may_skip test (b ∷ bs) = test (b ∷ bs) || (may_skip b && some_suffix may_skip test bs)
 
 -- whether deep before this token may stand for nothing with it
 abbrev pub passes_over : Mode → Token → Bool
@@ -85,14 +85,14 @@ passes_over PathAware (One (Byte b)) = b == slash
 passes_over _ _ = false
 
 -- the first byte is taken, and the rest passes
-abbrev pub first_taken : (ℕ → Bool) → (List ℕ → Bool) → List ℕ → Bool
-first_taken takes rest [] = false
-first_taken takes rest (b ∷ bs) = takes b && rest bs
+abbrev pub takes_first : (ℕ → Bool) → (List ℕ → Bool) → List ℕ → Bool
+takes_first takes rest [] = false
+takes_first takes rest (b ∷ bs) = takes b && rest bs
 
 -- whether the tokens match the whole text
 unfoldable pub matches : Mode → Case → List Token → List ℕ → Bool
 matches mode case [] text = is_empty text
-matches mode case (One single ∷ ts) text = first_taken (takes mode case single) (matches mode case ts) text
-matches mode case (Star ∷ ts) text = some_end (λ b. not (b == slash)) (matches mode case ts) text
+matches mode case (One single ∷ ts) text = takes_first (takes mode case single) (matches mode case ts) text
+matches mode case (Star ∷ ts) text = some_suffix (λ b. not (b == slash)) (matches mode case ts) text
 matches mode case (Deep ∷ []) text = true
-matches mode case (Deep ∷ t ∷ ts) text = some_end (λ b. true) (matches mode case (t ∷ ts)) text || (passes_over mode t && matches mode case ts text)
+matches mode case (Deep ∷ t ∷ ts) text = some_suffix (λ b. true) (matches mode case (t ∷ ts)) text || (passes_over mode t && matches mode case ts text)

@@ -8,13 +8,13 @@ use Rattle.pathspec_glob.specs.Tokens.Token.{One, Star, Deep}
 use Rattle.pathspec_glob.specs.GlobRelation.{takes, passes_over}
 
 -- the tokens of a glob, and the mode that they are read in
-pub record Parts : Type 0 where
+pub record TokenList : Type 0 where
   pub mode : Mode
   pub tokens : List Token
 
 -- a pattern in parts
-abbrev pub parts_of : Mode → List ℕ → Parts
-parts_of mode pattern = record { mode = mode; tokens = tokens mode pattern }
+abbrev pub token_list : Mode → List ℕ → TokenList
+token_list mode pattern = record { mode = mode; tokens = tokens mode pattern }
 
 -- a token that takes any number of bytes
 abbrev pub is_wide : Token → Bool
@@ -51,5 +51,5 @@ tests_at mode case (t ∷ ts) [] = false
 tests_at mode case (t ∷ ts) (b ∷ bs) = takes_byte mode case t b
 
 -- The token at a place takes the first byte of the text.
-abbrev pub token_takes : Parts → Case → ℕ → List ℕ → Bool
+abbrev pub token_takes : TokenList → Case → ℕ → List ℕ → Bool
 token_takes parts case place text = tests_at parts.mode case (drop place parts.tokens) text

@@ -7,18 +7,18 @@ use Rattle.pathspec_glob.specs.declared.Case.{Case}
 use Rattle.pathspec_glob.specs.declared.Case.TheVariants.{Sensitive, Fold}
 use Rattle.pathspec_glob.specs.declared.places.Places.{Places}
 use Rattle.pathspec_glob.specs.declared.scratch.tokens.Steps.{Steps}
-use Rattle.pathspec_glob.specs.Bytes.{slash, star, first_is, folded, is_wildcard}
+use Rattle.pathspec_glob.specs.Bytes.{slash, star, first_is, fold_case, is_wildcard}
 use Rattle.pathspec_glob.specs.Tokens.{Token, tokens}
 use Rattle.pathspec_glob.specs.GlobRelation.{Matches, matches}
 
 -- a glob: its mode and its pattern
-pub record Compiled : Type 0 where
+pub record GlobSource : Type 0 where
   pub mode : Mode
   pub pattern : List ℕ
 
 -- the tokens of a glob
-abbrev pub tokens_in : Compiled → List Token
-tokens_in glob = tokens glob.mode glob.pattern
+abbrev pub glob_tokens : GlobSource → List Token
+glob_tokens glob = tokens glob.mode glob.pattern
 
 -- The room of a scratch: for so many tokens, and with so many steps counted in the last match, and in all together.
 pub record Room : Type 0 where
@@ -52,7 +52,7 @@ pub record AnswersGlob (mode : Mode) (case : Case) (pattern text : List ℕ) (gi
 -- The answer to a tail pattern is whether the text ends with its rest; in PathAware this is said of texts without a slash.
 abbrev pub AnswersTail : Mode → Case → List ℕ → List ℕ → Bool → Type 0
 AnswersTail mode case pattern text given = IsTrue (is_tail_pattern pattern) → (mode ≡ Shell) ⊎ IsFalse (list_any (λ b. b == slash) text)
-    → given ≡ ends_with nat_eq (folded (folds case) text) (folded (folds case) (drop 1 pattern))
+    → given ≡ ends_with nat_eq (fold_case (folds case) text) (fold_case (folds case) (drop 1 pattern))
 
 -- The function gives just what the relation says.
 abbrev pub GlobIsRelation : Type 0
@@ -61,7 +61,7 @@ GlobIsRelation = (mode : Mode) (case : Case) (ts : List Token) (text : List ℕ)
 -- A tail pattern takes just the texts that end with its rest; in PathAware this is said of texts without a slash.
 abbrev pub TailPatternEnds : Type 0
 TailPatternEnds = (mode : Mode) (case : Case) (pattern text : List ℕ) → IsTrue (is_tail_pattern pattern) → (mode ≡ Shell) ⊎ IsFalse (list_any (λ b. b == slash) text)
-    → Matches mode case (tokens mode pattern) text ↔ IsTrue (ends_with nat_eq (folded (folds case) text) (folded (folds case) (drop 1 pattern)))
+    → Matches mode case (tokens mode pattern) text ↔ IsTrue (ends_with nat_eq (fold_case (folds case) text) (fold_case (folds case) (drop 1 pattern)))
 
 -- A glob has at most as many tokens as its pattern has bytes.
 abbrev pub FewTokens : Type 0

@@ -11,7 +11,7 @@ use Rattle.pathspec_glob.specs.Bytes.{slash, star, question_mark, open_bracket, 
 
 -- what a bracket lists
 pub data Item : Type 0 where
-  Lone : (byte : ℕ) → Item
+  Literal : (byte : ℕ) → Item
   -- from the first to the last, and nothing where the last is below the first
   Range : (first last : ℕ) → Item
   Class : (name : List ℕ) → Item
@@ -46,9 +46,9 @@ pub data Front : Type 0 where
 -- `\x` is the byte x
 abbrev pub escaped_item : List ℕ → Front
 escaped_item [] = Broken
-escaped_item (x ∷ rest) = Listed (Lone x) 2
+escaped_item (x ∷ rest) = Listed (Literal x) 2
 
--- `-` behind a single byte makes a range from it to the next byte, which an escape may write
+-- `-` after a single byte makes a range from it to the next byte, which an escape may write
 abbrev pub range_item : ℕ → List ℕ → Front
 range_item low [] = Broken
 range_item low (c ∷ []) = if c == backslash then Broken else Listed (Range low c) 2
@@ -79,11 +79,11 @@ class_item rest =
     let inside = before_first (λ b. b == close_bracket) rest in
     let name = take (length inside - 1) inside in
     if not (list_any (λ b. b == close_bracket) rest) then Broken
-    else if not (first_is (λ b. b == colon) (drop (length inside - 1) inside)) then Listed (Lone open_bracket) 1
+    else if not (first_is (λ b. b == colon) (drop (length inside - 1) inside)) then Listed (Literal open_bracket) 1
     else if is_some (class_of name) then Listed (Class name) (length inside + 3)
     else Broken
 
--- The front of a bracket's rest, in the place of its first item or not, behind a single byte or not. The first case that applies decides.
+-- The front of a bracket's rest, in the place of its first item or not, after a single byte or not. The first case that applies decides.
 abbrev pub front_of : Bool → Option ℕ → List ℕ → Front
 front_of first last [] = Broken
 front_of first last (b ∷ rest) =
@@ -91,11 +91,11 @@ front_of first last (b ∷ rest) =
     else if b == backslash then escaped_item rest
     else if b == dash && makes_range last rest then range_from last rest
     else if b == open_bracket && first_is (λ c. c == colon) rest then class_item (drop 1 rest)
-    else Listed (Lone b) 1
+    else Listed (Literal b) 1
 
 -- the byte that a next `-` may start from
 abbrev pub single_of : Front → Option ℕ
-single_of (Listed (Lone b) size) = Some b
+single_of (Listed (Literal b) size) = Some b
 single_of (Listed (Range low high) size) = None
 single_of (Listed (Class name) size) = None
 single_of Closed = None
@@ -117,7 +117,7 @@ abbrev pub item_before : Item → Option Items → Option Items
 item_before item None = None
 item_before item (Some others) = Some (record { items = item ∷ others.items; rest = others.rest })
 
--- the items when the front is this, the bytes behind its first are these, and those others follow
+-- the items when the front is this, the bytes after its first are these, and those others follow
 abbrev pub items_with : Front → List ℕ → Option Items → Option Items
 items_with (Listed item size) bs others = item_before item others
 items_with Closed bs others = Some (record { items = []; rest = bs })
@@ -135,7 +135,7 @@ items_from zero first last (b ∷ bs) =
 
 -- what one byte of a text is held to
 pub data Single : Type 0 where
-  -- a byte, as it stands or behind a backslash
+  -- a byte, as it stands or after a backslash
   Byte : (byte : ℕ) → Single
   Quoted : (byte : ℕ) → Single
   -- any byte
@@ -165,7 +165,7 @@ abbrev pub escaped_piece : List ℕ → Piece
 escaped_piece [] = record { token = One Dead; size = 1 }
 escaped_piece (x ∷ rest) = record { token = One (Quoted x); size = 2 }
 
--- a bracket with these items, of a pattern whose rest behind `[` is this long
+-- a bracket with these items, of a pattern whose rest after `[` is this long
 abbrev pub bracket_with : Bool → ℕ → Option Items → Piece
 bracket_with negated len None = record { token = One Dead; size = 1 }
 bracket_with negated len (Some read) = record { token = One (Bracket negated read.items); size = len + 1 - length read.rest }
@@ -176,30 +176,30 @@ bracket_piece rest =
     let negated = first_is (is_one_of (codes "!^")) rest in
     bracket_with negated (length rest) (items_from 0 true None (if negated then drop 1 rest else rest))
 
--- whether a run of stars may take slashes: it has two or more, at the pattern's start or behind a slash, and stands before the end, `/` or `\/`
+-- whether a run of stars may take slashes: it has two or more, at the pattern's start or after a slash, and stands before the end, `/` or `\/`
 abbrev pub is_deep : Bool → ℕ → List ℕ → Bool
-is_deep behind run rest = nat_le 2 run && behind && (is_empty rest || begins_with rest (codes "/") || begins_with rest (codes "\\/"))
+is_deep after_slash run rest = nat_le 2 run && after_slash && (is_empty rest || begins_with rest (codes "/") || begins_with rest (codes "\\/"))
 
 -- the token of a run of stars
 abbrev pub run_token : Mode → Bool → ℕ → List ℕ → Token
-run_token Shell behind run rest = Deep
-run_token PathAware behind run rest = if is_deep behind run rest then Deep else Star
+run_token Shell after_slash run rest = Deep
+run_token PathAware after_slash run rest = if is_deep after_slash run rest then Deep else Star
 
 -- a run of stars is taken whole
 abbrev pub run_piece : Mode → Bool → ℕ → List ℕ → Piece
-run_piece mode behind run text = record { token = run_token mode behind run (drop run text); size = run }
+run_piece mode after_slash run text = record { token = run_token mode after_slash run (drop run text); size = run }
 
 -- the same of the run whose first star stands before this rest
 abbrev pub stars_piece : Mode → Bool → List ℕ → Piece
-stars_piece mode behind rest = run_piece mode behind (prefix_len (λ c. c == star) (star ∷ rest)) (star ∷ rest)
+stars_piece mode after_slash rest = run_piece mode after_slash (prefix_len (λ c. c == star) (star ∷ rest)) (star ∷ rest)
 
--- the token at the front of a pattern, at its start or behind a slash, or not
+-- the token at the front of a pattern, at its start or after a slash, or not
 abbrev pub piece_of : Mode → Bool → ℕ → List ℕ → Piece
-piece_of mode behind b rest =
+piece_of mode after_slash b rest =
     if b == backslash then escaped_piece rest
     else if b == question_mark then record { token = One Any; size = 1 }
     else if b == open_bracket then bracket_piece rest
-    else if b == star then run_piece mode behind (prefix_len (λ c. c == star) (b ∷ rest)) (b ∷ rest)
+    else if b == star then run_piece mode after_slash (prefix_len (λ c. c == star) (b ∷ rest)) (b ∷ rest)
     else record { token = One (Byte b); size = 1 }
 
 -- a dead token ends the list
@@ -217,10 +217,10 @@ StandsBefore token = (others : List Token) → token_before token others ≡ tok
 
 -- The tokens of a pattern from left to right. The first skip bytes belong to the token before.
 unfoldable pub tokens_from : Mode → ℕ → Bool → List ℕ → List Token
-tokens_from mode skip behind [] = []
-tokens_from mode (suc skip) behind (b ∷ bs) = tokens_from mode skip (b == slash) bs
-tokens_from mode zero behind (b ∷ bs) =
-    let piece = piece_of mode behind b bs in
+tokens_from mode skip after_slash [] = []
+tokens_from mode (suc skip) after_slash (b ∷ bs) = tokens_from mode skip (b == slash) bs
+tokens_from mode zero after_slash (b ∷ bs) =
+    let piece = piece_of mode after_slash b bs in
     token_before piece.token (tokens_from mode (piece.size - 1) (b == slash) bs)
 
 -- The tokens of a pattern.

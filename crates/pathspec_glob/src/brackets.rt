@@ -5,8 +5,8 @@ ghost use Rattle.std.specs.List.{list_any, position};
 ghost use Rattle.pathspec_glob.specs.Bytes.{close_bracket, colon, first_is};
 ghost use Rattle.pathspec_glob.specs.Tokens.{before_last_colon, class_item, class_of, escaped_item, front_of, items_from, known_class, makes_range, named_class, range_from, single_of};
 ghost use Rattle.pathspec_glob.specs.Tokens.Front.{Listed};
-ghost use Rattle.pathspec_glob.specs.GlobRelation.{hold, item_holds, passes};
-ghost use Rattle.pathspec_glob.specs.GlobForms.{class_name, front_form, item_of, items_of, read_of};
+ghost use Rattle.pathspec_glob.specs.GlobRelation.{bracket_holds, item_holds, passes};
+ghost use Rattle.pathspec_glob.specs.GlobForms.{class_name, front_view, item_view, items_view, bracket_view};
 
 use crate::Case;
 use std::alloc::{AllocError, Global};
@@ -87,7 +87,7 @@ impl Class {
 #[derive(Clone, Copy, Debug, PartialEq, Eq)]
 pub enum Item {
     /// One byte.
-    Lone(u8),
+    Literal(u8),
     /// From the first to the last, and nothing where the last is below the first.
     Range(u8, u8),
     /// The bytes of a class.
@@ -97,10 +97,10 @@ pub enum Item {
 impl Item {
     /// Whether it holds the byte.
     fn holds(self, byte: u8) -> bool
-        ensures { result ≡ item_holds byte (item_of self) }
+        ensures { result ≡ item_holds byte (item_view self) }
     {
         match self {
-            Item::Lone(own) => own == byte,
+            Item::Literal(own) => own == byte,
             Item::Range(first, last) => first <= byte && byte <= last,
             Item::Class(class) => class.holds(byte),
         }
@@ -108,10 +108,10 @@ impl Item {
 
     /// The byte that a next `-` may start from.
     fn single(self) -> Option<u8>
-        ensures { (size : ℕ) → result ≡ single_of (Listed (item_of self) size) }
+        ensures { (size : ℕ) → result ≡ single_of (Listed (item_view self) size) }
     {
         match self {
-            Item::Lone(byte) => Some(byte),
+            Item::Literal(byte) => Some(byte),
             Item::Range(_, _) | Item::Class(_) => None,
         }
     }
@@ -142,7 +142,7 @@ enum Front {
 /// # Errors
 /// Want of memory.
 pub fn read_items<'p>(alloc: Global, bytes: &'p [u8]) -> Result<Option<Read<'p>>, AllocError>
-    ensures { IfOk result (λ found. option_map read_of found ≡ items_from 0 true None bytes.now) }
+    ensures { IfOk result (λ found. option_map bracket_view found ≡ items_from 0 true None bytes.now) }
 {
     let mut items = Vec::new(alloc);
     let mut last = None;
@@ -153,7 +153,7 @@ pub fn read_items<'p>(alloc: Global, bytes: &'p [u8]) -> Result<Option<Read<'p>>
             Front::Listed(item, size) => {
                 items.push(item)?;
                 last = item.single();
-                closing = closing_behind(rest, size, closing);
+                closing = closing_after(rest, size, closing);
                 rest = rest.split_at(size).1;
             }
             Front::Closed => {
@@ -167,11 +167,11 @@ pub fn read_items<'p>(alloc: Global, bytes: &'p [u8]) -> Result<Option<Read<'p>>
     }
 }
 
-/// The front of what is left of a bracket: in the place of its first item or not, behind a single byte or not, and
+/// The front of what is left of a bracket: in the place of its first item or not, after a single byte or not, and
 /// with the first `]` at this place.
 fn read_front(first: bool, last: Option<u8>, bytes: &[u8], closing: Option<usize>) -> Front
     requires { closing ≡ position (λ b. b == close_bracket) bytes.now }
-    ensures { front_form result ≡ front_of first last bytes.now }
+    ensures { front_view result ≡ front_of first last bytes.now }
 {
     let [byte, rest @ ..] = bytes else {
         return Front::Broken;
@@ -183,33 +183,33 @@ fn read_front(first: bool, last: Option<u8>, bytes: &[u8], closing: Option<usize
     } else if *byte == b'-' && makes_range(last, rest) {
         range_front(last, rest)
     } else if *byte == b'[' && begins_with_colon(rest) {
-        class_front(&rest[1..], closing_behind(bytes, 2, closing))
+        class_front(&rest[1..], closing_after(bytes, 2, closing))
     } else {
-        Front::Listed(Item::Lone(*byte), 1)
+        Front::Listed(Item::Literal(*byte), 1)
     }
 }
 
-/// The byte at the front, behind a backslash, which its size counts.
+/// The byte at the front, after a backslash, which its size counts.
 fn escaped_front(bytes: &[u8]) -> Front
-    ensures { front_form result ≡ escaped_item bytes.now }
+    ensures { front_view result ≡ escaped_item bytes.now }
 {
     match bytes {
-        [byte, ..] => Front::Listed(Item::Lone(*byte), 2),
+        [byte, ..] => Front::Listed(Item::Literal(*byte), 2),
         [] => Front::Broken,
     }
 }
 
-/// Whether `-` makes a range, with these bytes behind it.
+/// Whether `-` makes a range, with these bytes after it.
 fn makes_range(last: Option<u8>, bytes: &[u8]) -> bool
     ensures { result ≡ makes_range last bytes.now }
 {
     last.is_some() && matches!(bytes, [byte, ..] if *byte != b']')
 }
 
-/// The range from the last single byte to the byte at the front, which may stand behind a backslash. Its size counts
+/// The range from the last single byte to the byte at the front, which may stand after a backslash. Its size counts
 /// the `-`.
 fn range_front(last: Option<u8>, bytes: &[u8]) -> Front
-    ensures { front_form result ≡ range_from last bytes.now }
+    ensures { front_view result ≡ range_from last bytes.now }
 {
     match (last, bytes) {
         (Some(low), [b'\\', high, ..]) => Front::Listed(Item::Range(low, *high), 3),
@@ -228,14 +228,14 @@ fn begins_with_colon(bytes: &[u8]) -> bool
 /// The class whose `[:` stands before these bytes, or the `[` as a byte.
 fn class_front(bytes: &[u8], closing: Option<usize>) -> Front
     requires { closing ≡ position (λ b. b == close_bracket) bytes.now }
-    ensures { front_form result ≡ class_item bytes.now }
+    ensures { front_view result ≡ class_item bytes.now }
 {
     let Some(end) = closing else {
         return Front::Broken;
     };
     match name_before_colon(&bytes[..end]) {
         Some(name) => named_front(name),
-        None => Front::Listed(Item::Lone(b'['), 1),
+        None => Front::Listed(Item::Literal(b'['), 1),
     }
 }
 
@@ -251,7 +251,7 @@ fn name_before_colon(bytes: &[u8]) -> Option<&[u8]>
 
 /// The class of this name, which stands between `[:` and `:]`.
 fn named_front(name: &[u8]) -> Front
-    ensures { front_form result ≡ named_class name.now }
+    ensures { front_view result ≡ named_class name.now }
 {
     match Class::from_name(name) {
         Some(class) => Front::Listed(Item::Class(class), name.len() + 4),
@@ -266,15 +266,15 @@ fn first_closing(bytes: &[u8]) -> Option<usize>
     bytes.iter().position(|byte| *byte == b']')
 }
 
-/// The place of the first `]` behind the first bytes, where the first of all has this place.
-fn closing_behind(bytes: &[u8], size: usize, closing: Option<usize>) -> Option<usize>
+/// The place of the first `]` after the first bytes, where the first of all has this place.
+fn closing_after(bytes: &[u8], size: usize, closing: Option<usize>) -> Option<usize>
     requires size { size ≤ length bytes.now }
     requires closing { closing ≡ position (λ b. b == close_bracket) bytes.now }
     ensures { result ≡ position (λ b. b == close_bracket) (drop size bytes.now) }
 {
     let place = closing?;
     if place < size {
-        // No byte is searched twice: this search begins behind the `]` that ended the one before.
+        // No byte is searched twice: this search begins after the `]` that ended the one before.
         first_closing(&bytes[size..])
     } else {
         Some(place - size)
@@ -282,8 +282,8 @@ fn closing_behind(bytes: &[u8], size: usize, closing: Option<usize>) -> Option<u
 }
 
 /// Whether the items hold the byte; without case, its lower or its upper form.
-pub fn hold(items: &[Item], case: Case, byte: u8) -> bool
-    ensures { result ≡ hold case (items_of items.now) byte }
+pub fn bracket_holds(items: &[Item], case: Case, byte: u8) -> bool
+    ensures { result ≡ bracket_holds case (items_view items.now) byte }
 {
     match case {
         Case::Sensitive => any_holds(items, byte),
@@ -296,7 +296,7 @@ pub fn hold(items: &[Item], case: Case, byte: u8) -> bool
 
 /// Whether an item holds the byte.
 fn any_holds(items: &[Item], byte: u8) -> bool
-    ensures { result ≡ list_any (λ i. item_holds byte (item_of i)) items.now }
+    ensures { result ≡ list_any (λ i. item_holds byte (item_view i)) items.now }
 {
     items.iter().any(|item| item.holds(byte))
 }
@@ -373,7 +373,7 @@ mod tests {
             let read = read_items(rt.alloc(), text.as_bytes())?.ok_or("no items")?;
             assert_eq!(rt; read.rest, rest.as_bytes(), "{text}");
             for byte in 0..=255 {
-                let holds = hold(&read.items, Case::Sensitive, byte);
+                let holds = bracket_holds(&read.items, Case::Sensitive, byte);
                 assert_eq!(rt; holds, held.as_bytes().contains(&byte), "{text} {byte}");
             }
         }
@@ -415,8 +415,8 @@ mod tests {
             ("1]", b'1', true, true),
         ] {
             let read = read_items(rt.alloc(), text.as_bytes())?.ok_or("no items")?;
-            assert_eq!(rt; hold(&read.items, Case::Sensitive, byte), exactly, "{text}");
-            assert_eq!(rt; hold(&read.items, Case::Fold, byte), either, "{text}");
+            assert_eq!(rt; bracket_holds(&read.items, Case::Sensitive, byte), exactly, "{text}");
+            assert_eq!(rt; bracket_holds(&read.items, Case::Fold, byte), either, "{text}");
         }
         Ok(())
     }

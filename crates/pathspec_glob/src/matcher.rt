@@ -1,6 +1,6 @@
 //! Globs and texts: the places in a glob that the front of a text leads to.
 ghost use Rattle.std.specs.Prelude.{◌≡◌, ◌≤◌, ◌<◌, ◌+◌, ◌*◌, ◌^◌, ◌↔◌, length, IfOk, IsTrue};
-ghost use Rattle.pathspec_glob.specs.Globs.{tokens_in, AnswersGlob, AnswersTail};
+ghost use Rattle.pathspec_glob.specs.Globs.{glob_tokens, AnswersGlob, AnswersTail};
 ghost use Rattle.pathspec_glob.specs.Counts.{Counts};
 
 use crate::scratch::Scratch;
@@ -18,14 +18,14 @@ pub struct Glob {
 
 impl Model for Glob {
     ghost use Rattle.std.specs.Prelude.{◌≡◌};
-    ghost use Rattle.pathspec_glob.specs.Globs.{Compiled};
-    ghost use Rattle.pathspec_glob.specs.GlobSteps.{parts_of};
+    ghost use Rattle.pathspec_glob.specs.Globs.{GlobSource};
+    ghost use Rattle.pathspec_glob.specs.GlobSteps.{token_list};
 
-    ghost Value = { Compiled };
+    ghost Value = { GlobSource };
 
     ghost view = { λ g. record { mode = g.tokens.mode; pattern = g.pattern.items } };
 
-    ghost invariant = { λ g. g.tokens ≡ parts_of g.tokens.mode g.pattern.items };
+    ghost invariant = { λ g. g.tokens ≡ token_list g.tokens.mode g.pattern.items };
 }
 
 impl Glob {
@@ -44,7 +44,7 @@ impl Glob {
 
     /// How many tokens it has, which are at most the pattern's bytes.
     pub fn tokens(&self) -> usize
-        ensures tokens { result ≡ length (tokens_in self.now) }
+        ensures tokens { result ≡ length (glob_tokens self.now) }
         ensures few { result ≤ length self.now.pattern }
     {
         self.tokens.len()
@@ -52,7 +52,7 @@ impl Glob {
 
     /// Whether the scratch was made for at least as many tokens.
     pub fn fits(&self, scratch: &Scratch) -> bool
-        ensures { IsTrue result ↔ (length (tokens_in self.now) ≤ scratch.now.tokens) }
+        ensures { IsTrue result ↔ (length (glob_tokens self.now) ≤ scratch.now.tokens) }
     {
         self.tokens() <= scratch.places.room()
     }
@@ -64,7 +64,7 @@ impl Glob {
     /// `rest` has. To such a pattern the answer is whether the text ends with `rest`, where the mode is [`Mode::Shell`]
     /// or the text has no `/`.
     pub fn matches(&self, text: &[u8], case: Case, scratch: &mut Scratch) -> bool
-        requires { length (tokens_in self.now) ≤ scratch.old.tokens }
+        requires { length (glob_tokens self.now) ≤ scratch.old.tokens }
         ensures answer { AnswersGlob self.now.mode case self.now.pattern text.now
             result scratch.new.steps }
         ensures tail { AnswersTail self.now.mode case self.now.pattern text.now result }

@@ -1,7 +1,7 @@
 //! The places in a glob that the front of a text leads to.
 ghost use Rattle.std.specs.Prelude.{[], false, IsTrue, IsFalse, ◌≡◌, ◌≤◌, ◌<◌, ◌+◌, ◌^◌, IfOk, length, drop, replicate, ◌++◌};
 ghost use Rattle.pathspec_glob.specs.Counts.{KeepsCount};
-ghost use Rattle.pathspec_glob.specs.GlobPlaces.{closure_at, end_after, end_behind, entered_after, first_behind, HasRoom, is_held, IsBounded, IsMadeFor, KeepsRoom, LeadsFromStart, LeadsNowhere, LeadsOn, moves_behind, places_lead, staying_after, steps_at};
+ghost use Rattle.pathspec_glob.specs.GlobPlaces.{closure_at, closure_end, window_end, entered_after, window_start, HasRoom, is_held, IsBounded, IsMadeFor, KeepsRoom, AcceptsFromStart, AcceptsNothing, AcceptsAfterByte, moves_on, places_accept, staying_after, steps_at};
 ghost use Rattle.pathspec_glob.specs.declared.Case.{Case};
 
 use crate::Case;
@@ -11,7 +11,7 @@ use std::alloc::{AllocError, Global};
 /// A set of places in a glob's tokens. A place is held where it is come to, or where its token stays.
 #[derive(Debug, Drop)]
 pub struct Places {
-    /// Whether a place has just been come to. They are one more than the tokens: the last is behind them all.
+    /// Whether a place has just been come to. They are one more than the tokens: the last is after them all.
     entered: Vec<bool>,
     /// Whether a token that takes any number of bytes has taken some, and may take more.
     staying: Vec<bool>,
@@ -49,7 +49,7 @@ impl Places {
     /// Comes to the first place alone.
     pub fn begin(&mut self, tokens: &Tokens)
         requires { HasRoom (length tokens.now.tokens) self.old }
-        ensures leads { LeadsFromStart tokens.now self.new }
+        ensures accepts { AcceptsFromStart tokens.now self.new }
         ensures bounds { IsBounded (length tokens.now.tokens) self.new }
         ensures room { KeepsRoom self.old self.new }
     {
@@ -76,7 +76,7 @@ impl Places {
         ensures inside { result ≡ is_held self.old place }
         ensures entered { self.new.entered.items ≡ closure_at tokens.now place self.old }
         ensures staying { self.new.staying.items ≡ self.old.staying.items }
-        ensures end { self.new.end ≡ end_after (is_held self.old place) place self.old.end }
+        ensures end { self.new.end ≡ closure_end (is_held self.old place) place self.old.end }
     {
         let entered = self.entered[place];
         let inside = entered || self.staying[place];
@@ -93,7 +93,7 @@ impl Places {
     }
 
     /// Takes the first byte of a text at this place, which the place before leads to where `arrives` is true, and
-    /// says whether it leads to the place behind.
+    /// says whether it leads to the place after.
     fn visit(
         &mut self,
         tokens: &Tokens,
@@ -106,11 +106,11 @@ impl Places {
         requires place { place < length tokens.now.tokens }
         requires room { HasRoom (length tokens.now.tokens) self.old }
         requires steps { steps.old.last + 1 < 2 ^ 128 }
-        ensures behind { result ≡ moves_behind tokens.now case self.old place text.now }
+        ensures after { result ≡ moves_on tokens.now case self.old place text.now }
         ensures entered { self.new.entered.items ≡ entered_after tokens.now place arrives self.old }
         ensures staying { self.new.staying.items
             ≡ staying_after tokens.now case place text.now self.old }
-        ensures end { self.new.end ≡ end_after (is_held self.old place) place self.old.end }
+        ensures end { self.new.end ≡ closure_end (is_held self.old place) place self.old.end }
         ensures steps { steps.new.last ≡ steps.old.last + steps_at self.old place }
         ensures counted { KeepsCount steps.old steps.new }
     {
@@ -127,14 +127,14 @@ impl Places {
 
     /// Goes on by the first byte of a text, and says whether a token was tested. Where none was, no place is held.
     ///
-    /// It tests each token at most once, and looks at no place before the first that is held or behind the last.
+    /// It tests each token at most once, and looks at no place before the first that is held or after the last.
     pub fn advance(&mut self, tokens: &Tokens, text: &[u8], case: Case, steps: &mut Steps) -> bool
         requires room { HasRoom (length tokens.now.tokens) self.old }
         requires bounds { IsBounded (length tokens.now.tokens) self.old }
         requires steps { steps.old.last + length tokens.now.tokens < 2 ^ 128 }
-        ensures leads { LeadsOn tokens.now case self.old self.new text.now }
+        ensures accepts { AcceptsAfterByte tokens.now case self.old self.new text.now }
         ensures tested { IsTrue result → steps.old.last < steps.new.last }
-        ensures none { IsFalse result → LeadsNowhere tokens.now case self.new }
+        ensures none { IsFalse result → AcceptsNothing tokens.now case self.new }
         ensures bounds { IsBounded (length tokens.now.tokens) self.new }
         ensures steps { steps.new.last ≤ steps.old.last + length tokens.now.tokens }
         ensures counted { KeepsCount steps.old steps.new }
@@ -148,8 +148,8 @@ impl Places {
         while place < self.end && place < tokens.len() {
             arrives = self.visit(tokens, place, text, case, arrives, steps);
             let held = self.holds(place);
-            first = first_behind(first, place, held);
-            end = end_behind(end, place, held);
+            first = window_start(first, place, held);
+            end = window_end(end, place, held);
             place += 1;
         }
         self.entered[place] = arrives;
@@ -158,11 +158,11 @@ impl Places {
         steps.last() > before
     }
 
-    /// Whether the end of a text leads behind all tokens.
+    /// Whether the end of a text leads after all tokens.
     pub fn reach_end(&mut self, tokens: &Tokens) -> bool
         requires room { HasRoom (length tokens.now.tokens) self.old }
         requires bounds { IsBounded (length tokens.now.tokens) self.old }
-        ensures leads { (case : Case) → result ≡ places_lead tokens.now case self.old [] }
+        ensures accepts { (case : Case) → result ≡ places_accept tokens.now case self.old [] }
         ensures room { KeepsRoom self.old self.new }
     {
         let mut place = self.first;
@@ -175,9 +175,9 @@ impl Places {
 }
 
 /// The first of the places up to this one that may be held, where none before `first` is.
-fn first_behind(first: usize, place: usize, held: bool) -> usize
+fn window_start(first: usize, place: usize, held: bool) -> usize
     requires { place + 1 < 2 ^ 64 }
-    ensures { result ≡ first_behind held place first }
+    ensures { result ≡ window_start held place first }
 {
     if !held && first == place {
         place + 1
@@ -187,9 +187,9 @@ fn first_behind(first: usize, place: usize, held: bool) -> usize
 }
 
 /// The end of the places up to this one that are held, where none from `end` on is.
-fn end_behind(end: usize, place: usize, held: bool) -> usize
+fn window_end(end: usize, place: usize, held: bool) -> usize
     requires { place + 1 < 2 ^ 64 }
-    ensures { result ≡ end_behind held place end }
+    ensures { result ≡ window_end held place end }
 {
     if held { place + 1 } else { end }
 }

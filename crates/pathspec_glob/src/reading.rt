@@ -4,7 +4,7 @@ ghost use Rattle.std.specs.List.{prefix_len};
 ghost use Rattle.pathspec_glob.specs.Bytes.{star};
 ghost use Rattle.pathspec_glob.specs.Tokens.{escaped_piece, bracket_piece, EndsPattern, is_deep, run_token, stars_piece, piece_of, StandsBefore, tokens};
 ghost use Rattle.pathspec_glob.specs.Tokens.Token.{One};
-ghost use Rattle.pathspec_glob.specs.GlobForms.{single_form, token_of, tokens_of, piece_form};
+ghost use Rattle.pathspec_glob.specs.GlobForms.{single_view, token_view, tokens_view, piece_view};
 
 use crate::scratch::tokens::{Single, Token};
 use crate::{Mode, brackets};
@@ -25,57 +25,57 @@ struct Piece {
 /// # Errors
 /// Want of memory.
 pub fn tokens(alloc: Global, pattern: &[u8], mode: Mode) -> Result<Vec<Token>, AllocError>
-    ensures { IfOk result (λ read. tokens_of read.items ≡ tokens mode pattern.now) }
+    ensures { IfOk result (λ read. tokens_view read.items ≡ tokens mode pattern.now) }
 {
     let mut all = Vec::new(alloc);
-    let mut behind_slash = true;
+    let mut after_slash = true;
     let mut rest = pattern;
-    while let [byte, behind @ ..] = rest {
-        let Piece { token, size } = first_piece(alloc, mode, behind_slash, *byte, behind)?;
+    while let [byte, after @ ..] = rest {
+        let Piece { token, size } = first_piece(alloc, mode, after_slash, *byte, after)?;
         let ends = is_dead(&token);
         all.push(token)?;
         if ends {
             break;
         }
-        behind_slash = rest[size - 1] == b'/';
+        after_slash = rest[size - 1] == b'/';
         rest = &rest[size..];
     }
     Ok(all)
 }
 
-/// Whether a token is dead, so that what stands behind it doesn't count.
+/// Whether a token is dead, so that what stands after it doesn't count.
 fn is_dead(token: &Token) -> bool
-    ensures last { IsTrue result → EndsPattern (token_of token.now) }
-    ensures more { IsFalse result → StandsBefore (token_of token.now) }
+    ensures last { IsTrue result → EndsPattern (token_view token.now) }
+    ensures more { IsFalse result → StandsBefore (token_view token.now) }
 {
     matches!(token, Token::One(Single::Dead))
 }
 
-/// What stands at the front of a pattern of this byte and this rest, which begins the whole or stands behind a slash, or
+/// What stands at the front of a pattern of this byte and this rest, which begins the whole or stands after a slash, or
 /// does neither.
 fn first_piece(
     alloc: Global,
     mode: Mode,
-    behind_slash: bool,
+    after_slash: bool,
     byte: u8,
     rest: &[u8],
 ) -> Result<Piece, AllocError>
     ensures read { IfOk result
-        (λ piece. piece_form piece ≡ piece_of mode behind_slash byte rest.now) }
+        (λ piece. piece_view piece ≡ piece_of mode after_slash byte rest.now) }
     ensures within { IfOk result (λ piece. (1 ≤ piece.size) × (piece.size ≤ length rest.now + 1)) }
 {
     Ok(match byte {
         b'\\' => escaped(rest),
-        b'?' => lone(Single::Any),
+        b'?' => single_byte(Single::Any),
         b'[' => bracket(alloc, rest)?,
-        b'*' => run(mode, behind_slash, rest),
-        _ => lone(Single::Byte(byte)),
+        b'*' => run(mode, after_slash, rest),
+        _ => single_byte(Single::Byte(byte)),
     })
 }
 
 /// What a single byte of a pattern says.
-fn lone(single: Single) -> Piece
-    ensures { piece_form result ≡ record { token = One (single_form single); size = 1 } }
+fn single_byte(single: Single) -> Piece
+    ensures { piece_view result ≡ record { token = One (single_view single); size = 1 } }
 {
     Piece {
         token: Token::One(single),
@@ -85,10 +85,10 @@ fn lone(single: Single) -> Piece
 
 /// The byte that a backslash quotes. A last backslash is dead.
 fn escaped(rest: &[u8]) -> Piece
-    ensures { piece_form result ≡ escaped_piece rest.now }
+    ensures { piece_view result ≡ escaped_piece rest.now }
 {
     match rest {
-        [] => lone(Single::Dead),
+        [] => single_byte(Single::Dead),
         [byte, ..] => Piece {
             token: Token::One(Single::Quoted(*byte)),
             size: 2,
@@ -98,12 +98,12 @@ fn escaped(rest: &[u8]) -> Piece
 
 /// The bracket whose `[` stands before this rest: one `!` or `^` negates it. One that can't be read is dead.
 fn bracket(alloc: Global, rest: &[u8]) -> Result<Piece, AllocError>
-    ensures { IfOk result (λ piece. piece_form piece ≡ bracket_piece rest.now) }
+    ensures { IfOk result (λ piece. piece_view piece ≡ bracket_piece rest.now) }
 {
     let negated = matches!(rest, [b'!' | b'^', ..]);
     let listed = if negated { &rest[1..] } else { rest };
     Ok(match brackets::read_items(alloc, listed)? {
-        None => lone(Single::Dead),
+        None => single_byte(Single::Dead),
         Some(read) => Piece {
             size: rest.len() + 1 - read.rest.len(),
             token: Token::One(Single::Bracket(negated, read.items)),
@@ -112,12 +112,12 @@ fn bracket(alloc: Global, rest: &[u8]) -> Result<Piece, AllocError>
 }
 
 /// The run of stars whose first stands before this rest. It is taken whole.
-fn run(mode: Mode, behind_slash: bool, rest: &[u8]) -> Piece
-    ensures { piece_form result ≡ stars_piece mode behind_slash rest.now }
+fn run(mode: Mode, after_slash: bool, rest: &[u8]) -> Piece
+    ensures { piece_view result ≡ stars_piece mode after_slash rest.now }
 {
     let more = count_stars(rest);
     Piece {
-        token: run_token(mode, behind_slash, more + 1, &rest[more..]),
+        token: run_token(mode, after_slash, more + 1, &rest[more..]),
         size: more + 1,
     }
 }
@@ -131,22 +131,22 @@ fn count_stars(text: &[u8]) -> usize
 }
 
 /// The token of a run of stars before this rest.
-fn run_token(mode: Mode, behind_slash: bool, stars: usize, rest: &[u8]) -> Token
-    ensures { token_of result ≡ run_token mode behind_slash stars rest.now }
+fn run_token(mode: Mode, after_slash: bool, stars: usize, rest: &[u8]) -> Token
+    ensures { token_view result ≡ run_token mode after_slash stars rest.now }
 {
     match mode {
         Mode::Shell => Token::Deep,
-        Mode::PathAware if is_deep(behind_slash, stars, rest) => Token::Deep,
+        Mode::PathAware if is_deep(after_slash, stars, rest) => Token::Deep,
         Mode::PathAware => Token::Star,
     }
 }
 
-/// Whether a run of stars takes directories: it has two or more, at the pattern's start or behind a slash, and stands
+/// Whether a run of stars takes directories: it has two or more, at the pattern's start or after a slash, and stands
 /// before the end or a slash, which may be quoted.
-fn is_deep(behind_slash: bool, stars: usize, rest: &[u8]) -> bool
-    ensures { result ≡ is_deep behind_slash stars rest.now }
+fn is_deep(after_slash: bool, stars: usize, rest: &[u8]) -> bool
+    ensures { result ≡ is_deep after_slash stars rest.now }
 {
     stars >= 2
-        && behind_slash
+        && after_slash
         && (rest.is_empty() || rest.starts_with(b"/") || rest.starts_with(b"\\/"))
 }

@@ -5,7 +5,7 @@ use Rattle.std.proofs.Math.Numerals.{one-add, add-one}
 use Rattle.std.specs.List.{onto_first, before_first, after_first}
 use Rattle.pathspec_parts.specs.Paths.{pieces, is_component, components, is_slash}
 
--- the pieces behind the first
+-- the pieces after the first
 abbrev others : List ℕ → List (List ℕ)
 others [] = []
 others (b ∷ bs) = cond (is_slash b) (pieces bs) (others bs)

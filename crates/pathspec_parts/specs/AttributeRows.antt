@@ -3,8 +3,8 @@ use Rattle.std.specs.Prelude.{ℕ, List, Vec, true, map, fold, bytes_eq, if◌th
 use Rattle.std.specs.Global.{Global}
 use Rattle.pathspec_parts.specs.declared.attributes.state.Assignment.{Assignment as Whole}
 use Rattle.pathspec_parts.specs.Attributes.{Assignment, Question, Reply}
-use Rattle.pathspec_parts.specs.AttributeStates.{attribute_of}
-use Rattle.pathspec_parts.specs.Outcomes.{Listed, assigned, states_of, unspecified}
+use Rattle.pathspec_parts.specs.AttributeStates.{assignment_view}
+use Rattle.pathspec_parts.specs.Outcomes.{NamedState, apply_assignments, states_of, unspecified}
 
 -- a path, and what is assigned there
 pub record Row : Type 0 where
@@ -13,16 +13,16 @@ pub record Row : Type 0 where
 
 -- the rows that pairs of a path and assignments are
 abbrev pub rows_of : List (Vec ℕ Global × Vec Whole Global) → List Row
-rows_of pairs = map (λ pair. record { path = pair.0.items; assignments = map attribute_of pair.1.items }) pairs
+rows_of pairs = map (λ pair. record { path = pair.0.items; assignments = map assignment_view pair.1.items }) pairs
 
 -- a row counts where the path is its own
-abbrev pub after_row : List ℕ → List Listed → Row → List Listed
-after_row path places row = if bytes_eq row.path path then assigned places row.assignments else places
+abbrev pub apply_row : List ℕ → List NamedState → Row → List NamedState
+apply_row path places row = if bytes_eq row.path path then apply_assignments places row.assignments else places
 
 -- the rows one after another
-abbrev pub after_rows : List ℕ → List Listed → List Row → List Listed
-after_rows path places rows = fold (after_row path) places rows
+abbrev pub apply_rows : List ℕ → List NamedState → List Row → List NamedState
+apply_rows path places rows = fold (apply_row path) places rows
 
 -- rows have an answer to every question
 abbrev pub rows_reply : List Row → Question → Reply
-rows_reply rows q = record { found = true; states = states_of (after_rows q.path (unspecified q.names) rows) }
+rows_reply rows q = record { found = true; states = states_of (apply_rows q.path (unspecified q.names) rows) }

@@ -10,23 +10,23 @@ use Rattle.pathspec_parts.specs.Attributes.State.{Set, Unset, Value, Unspecified
 use Rattle.pathspec_parts.specs.AttributeNames.{name_bytes}
 
 -- the state that a `State` is
-abbrev pub state_of : Owned → State
-state_of owned.Set = Set
-state_of owned.Unset = Unset
-state_of (owned.Value value) = Value value.items
-state_of owned.Unspecified = Unspecified
+abbrev pub state_view : Owned → State
+state_view owned.Set = Set
+state_view owned.Unset = Unset
+state_view (owned.Value value) = Value value.items
+state_view owned.Unspecified = Unspecified
 
 -- the state that a `StateRef` is
-abbrev pub lent_state_of : StateRef → State
-lent_state_of lent.Set = Set
-lent_state_of lent.Unset = Unset
-lent_state_of (lent.Value value) = Value value.now
-lent_state_of lent.Unspecified = Unspecified
+abbrev pub state_ref_view : StateRef → State
+state_ref_view lent.Set = Set
+state_ref_view lent.Unset = Unset
+state_ref_view (lent.Value value) = Value value.now
+state_ref_view lent.Unspecified = Unspecified
 
 -- each of these is the state
 abbrev pub AreCopies : State → List Owned → Type 0
-AreCopies state copies = All (λ copy. state_of copy ≡ state) copies
+AreCopies state copies = All (λ copy. state_view copy ≡ state) copies
 
 -- the name and the state that an assignment is
-abbrev pub attribute_of : Whole → Assignment
-attribute_of a = record { name = name_bytes a.name; state = state_of a.state }
+abbrev pub assignment_view : Whole → Assignment
+assignment_view a = record { name = name_bytes a.name; state = state_view a.state }

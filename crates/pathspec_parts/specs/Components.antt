@@ -4,5 +4,5 @@ use Rattle.pathspec_parts.specs.declared.path.iter.Components.{Components as Lef
 use Rattle.pathspec_parts.specs.Paths.{components}
 
 -- the components of what is left of the path
-abbrev pub components_left : Left → List (List ℕ)
-components_left it = components it.rest.now
+abbrev pub remaining_components : Left → List (List ℕ)
+remaining_components it = components it.rest.now

@@ -16,20 +16,20 @@ abbrev pub is_component : List ℕ → Bool
 is_component piece = not (is_empty piece || bytes_eq piece (codes "."))
 
 -- `..`
-abbrev pub is_up : List ℕ → Bool
-is_up piece = bytes_eq piece (codes "..")
+abbrev pub is_parent_dir : List ℕ → Bool
+is_parent_dir piece = bytes_eq piece (codes "..")
 
 -- a component other than `..`
 abbrev pub is_name : List ℕ → Bool
-is_name piece = is_component piece && not (is_up piece)
+is_name piece = is_component piece && not (is_parent_dir piece)
 
 -- The components of a path: its pieces between slashes, without the empty ones and `.`
 abbrev pub components : List ℕ → List (List ℕ)
 components path = filter is_component (pieces path)
 
 -- names with a slash between each two
-abbrev pub joined : List (List ℕ) → List ℕ
-joined names = join_with_byte slash names
+abbrev pub join_names : List (List ℕ) → List ℕ
+join_names names = join_with_byte slash names
 
 -- x begins with d and a slash
 abbrev pub IsBelow : List ℕ → List ℕ → Type 0
@@ -63,10 +63,10 @@ ends_with_slash path = ends_with nat_eq path (slash ∷ [])
 abbrev pub without_last_slash : List ℕ → List ℕ
 without_last_slash path = if ends_with_slash path then take (length path - 1) path else path
 
--- the names behind those that begin them
-abbrev pub behind_front : List (List ℕ) → List (List ℕ) → Option (List (List ℕ))
-behind_front front names = if starts_with bytes_eq names front then Some (drop (length front) names) else None
+-- the names after those that begin them
+abbrev pub strip_names : List (List ℕ) → List (List ℕ) → Option (List (List ℕ))
+strip_names front names = if starts_with bytes_eq names front then Some (drop (length front) names) else None
 
--- the components of an absolute path behind those of an absolute root that begin them
-abbrev pub after_root : List ℕ → List ℕ → Option (List (List ℕ))
-after_root root path = if is_absolute root && is_absolute path then behind_front (components root) (components path) else None
+-- the components of an absolute path after those of an absolute root that begin them
+abbrev pub strip_root : List ℕ → List ℕ → Option (List (List ℕ))
+strip_root root path = if is_absolute root && is_absolute path then strip_names (components root) (components path) else None

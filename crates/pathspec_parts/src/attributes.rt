@@ -2,7 +2,7 @@
 ghost use Rattle.std.specs.Prelude.{◌≡◌, ℕ, IfOk, OnOk, OnErr};
 ghost use Rattle.bstr.specs.BStr.{bstr_bytes};
 ghost use Rattle.pathspec_parts.specs.Attributes.{Table, next_count};
-ghost use Rattle.pathspec_parts.specs.Outcomes.{IsReset, names_of, asked, answered};
+ghost use Rattle.pathspec_parts.specs.Outcomes.{IsReset, names_of, question_of, reply_of};
 
 mod name;
 mod outcome;
@@ -42,9 +42,9 @@ pub trait LookUp {
         is_dir: bool,
         out: &mut Outcome,
     ) -> Result<bool, Self::Fault>
-        ensures answer { let question = asked (bstr_bytes path.entry) case is_dir out.old in
+        ensures answer { let question = question_of (bstr_bytes path.entry) case is_dir out.old in
             IsReset out.old →
-            IfOk result (λ found. answered found out.new ≡ table self.old question) }
+            IfOk result (λ found. reply_of found out.new ≡ table self.old question) }
         ensures table_stays { table self.new ≡ table self.old }
         ensures names_stay { names_of out.new ≡ names_of out.old }
         ensures ok_leaves_count { OnOk result (failures self.new ≡ failures self.old) }

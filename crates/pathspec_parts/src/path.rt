@@ -4,8 +4,8 @@ ghost use Rattle.std.specs.Prelude.{◌≡◌};
 ghost use Rattle.std.specs.Option.{option_map};
 ghost use Rattle.std.specs.List.{list_all};
 ghost use Rattle.bstr.specs.BStr.{bstr_bytes};
-ghost use Rattle.pathspec_parts.specs.Paths.{components, pieces, is_name, is_absolute, is_clean_prefix, after_root, behind_front, without_last_slash, ends_with_slash};
-ghost use Rattle.pathspec_parts.specs.Components.{components_left};
+ghost use Rattle.pathspec_parts.specs.Paths.{components, pieces, is_name, is_absolute, is_clean_prefix, strip_root, strip_names, without_last_slash, ends_with_slash};
+ghost use Rattle.pathspec_parts.specs.Components.{remaining_components};
 
 mod iter;
 mod stack;
@@ -26,7 +26,7 @@ pub fn is_absolute(path: BStr<'_>) -> bool
 ///
 /// Each item is a part of the path. All items together take one look at each byte of the path.
 pub fn components(path: BStr<'_>) -> Components<'_>
-    ensures { components_left result ≡ components (bstr_bytes path.entry) }
+    ensures { remaining_components result ≡ components (bstr_bytes path.entry) }
 {
     Components::new(path)
 }
@@ -60,19 +60,19 @@ fn is_name(piece: &[u8]) -> bool
 ///
 /// It looks at each byte of the root, and of the path as far as they agree, once.
 pub fn strip_root<'p>(path: BStr<'p>, root: BStr<'_>) -> Option<Components<'p>>
-    ensures { option_map components_left result
-        ≡ after_root (bstr_bytes root.entry) (bstr_bytes path.entry) }
+    ensures { option_map remaining_components result
+        ≡ strip_root (bstr_bytes root.entry) (bstr_bytes path.entry) }
 {
     if !is_absolute(root) || !is_absolute(path) {
         return None;
     }
-    behind(components(path), components(root))
+    after(components(path), components(root))
 }
 
 /// The components after those of a front, if these begin them.
-fn behind<'p>(path: Components<'p>, front: Components<'_>) -> Option<Components<'p>>
-    ensures { option_map components_left result
-        ≡ behind_front (components_left front.entry) (components_left path.entry) }
+fn after<'p>(path: Components<'p>, front: Components<'_>) -> Option<Components<'p>>
+    ensures { option_map remaining_components result
+        ≡ strip_names (remaining_components front.entry) (remaining_components path.entry) }
 {
     let mut rest = path;
     for component in front {

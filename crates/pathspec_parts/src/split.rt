@@ -10,7 +10,7 @@ use bstr::ByteSlice;
 /// It looks at each byte up to that one.
 pub fn at_first(bytes: &[u8], byte: u8) -> (&[u8], &[u8])
     ensures before { result.0.now ≡ before_first (λ b. b == byte) bytes.now }
-    ensures behind { result.1.now ≡ after_first (λ b. b == byte) bytes.now }
+    ensures after { result.1.now ≡ after_first (λ b. b == byte) bytes.now }
 {
     match place_of(bytes, byte) {
         Some(at) => (&bytes[..at], &bytes[at + 1..]),
@@ -38,9 +38,9 @@ mod tests {
             ("a/b/c", "a", "b/c"),
             ("//", "", "/"),
         ] {
-            let (before, behind) = at_first(bytes.as_bytes(), b'/');
+            let (before, after) = at_first(bytes.as_bytes(), b'/');
             assert_eq!(rt; before, front.as_bytes(), "{bytes}");
-            assert_eq!(rt; behind, rest.as_bytes(), "{bytes}");
+            assert_eq!(rt; after, rest.as_bytes(), "{bytes}");
         }
     }
 }

@@ -7,7 +7,7 @@ use Rattle.pathspec_parts.specs.Bytes.{is_empty}
 use Rattle.pathspec_parts.specs.Attributes.{Table}
 use Rattle.gix_pathspec.specs.declared.pattern.Pattern.{Pattern}
 use Rattle.gix_pathspec.specs.Specs.{Spec, is_glob, is_exclude, is_include}
-use Rattle.gix_pathspec.specs.Matching.{means, chosen}
+use Rattle.gix_pathspec.specs.Matching.{spec_matches, is_chosen}
 use Rattle.gix_pathspec.specs.Patterns.{pattern_spec}
 use Rattle.pathspec_select.specs.Words.{is_supported}
 use Rattle.pathspec_select.specs.Listing.{output, record_path, record_is_dir}
@@ -24,11 +24,11 @@ supported-parts s h = let p = and_parts (not (is_glob s)) (is_empty s.attributes
 module _ (table : Table) (path : List ℕ) (is_dir : Bool) where
   -- some exclude of these matches the path
   abbrev pub is_excluded : List Pattern → Bool
-  is_excluded ps = list_any (λ p. is_exclude (pattern_spec p) && means table (pattern_spec p) path is_dir) ps
+  is_excluded ps = list_any (λ p. is_exclude (pattern_spec p) && spec_matches table (pattern_spec p) path is_dir) ps
 
   -- some include of these does
   abbrev pub is_included : List Pattern → Bool
-  is_included ps = list_any (λ p. is_include (pattern_spec p) && means table (pattern_spec p) path is_dir) ps
+  is_included ps = list_any (λ p. is_include (pattern_spec p) && spec_matches table (pattern_spec p) path is_dir) ps
 
   -- the path is chosen by these, where it may be included already
   abbrev pub is_chosen_from : Bool → List Pattern → Bool
@@ -41,27 +41,27 @@ module _ (table : Table) (path : List ℕ) (is_dir : Bool) where
   or-turned false false = refl
 
   -- before the first spec a path is included where there is no include
-  pub chosen-is_chosen_from : (ps : List Pattern) (included : Bool) → included ≡ not (list_any (λ p. is_include (pattern_spec p)) ps) → chosen table (map pattern_spec ps) path is_dir ≡ is_chosen_from included ps
-  unfolding chosen
-  chosen-is_chosen_from ps included e =
-      rw (list_any-map pattern_spec (λ s. is_exclude s && means table s path is_dir) ps, list_any-map pattern_spec (λ s. is_include s && means table s path is_dir) ps, list_any-map pattern_spec is_include ps)
+  pub is_chosen-is_chosen_from : (ps : List Pattern) (included : Bool) → included ≡ not (list_any (λ p. is_include (pattern_spec p)) ps) → is_chosen table (map pattern_spec ps) path is_dir ≡ is_chosen_from included ps
+  unfolding is_chosen
+  is_chosen-is_chosen_from ps included e =
+      rw (list_any-map pattern_spec (λ s. is_exclude s && spec_matches table s path is_dir) ps, list_any-map pattern_spec (λ s. is_include s && spec_matches table s path is_dir) ps, list_any-map pattern_spec is_include ps)
       (ap (λ b. not (is_excluded ps) && b) (or-turned (is_included ps) _ ∙ ap (λ b. b || is_included ps) (sym e)))
 
 -- ---- what is written
 
 module _ (table : Table) (specs : List Spec) (separator : ℕ) (all written : List ℕ) where
   -- a chosen record is written
-  pub output-chosen : (r : List ℕ) (rs left : List (List ℕ)) (body more : List ℕ) → written ++ output table specs separator left ≡ all → left ≡ r ∷ rs → chosen table specs (record_path r) (record_is_dir r) ≡ true → body ≡ written ++ r → more ≡ body ++ separator ∷ []
+  pub output-is_chosen : (r : List ℕ) (rs left : List (List ℕ)) (body more : List ℕ) → written ++ output table specs separator left ≡ all → left ≡ r ∷ rs → is_chosen table specs (record_path r) (record_is_dir r) ≡ true → body ≡ written ++ r → more ≡ body ++ separator ∷ []
       → more ++ output table specs separator rs ≡ all
   unfolding output
-  output-chosen r rs left body more so_far l c b m =
+  output-is_chosen r rs left body more so_far l c b m =
       let rest = output table specs separator rs in
       let first : output table specs separator left ≡ (r ++ separator ∷ []) ++ output table specs separator rs = rw (l, c) refl in
       let whole = ap (λ t. written ++ t) (sym (append_assoc r (separator ∷ []) rest) ∙ sym first) ∙ so_far in
       rw (m, b) (append_assoc (written ++ r) (separator ∷ []) rest ∙ (append_assoc written r (separator ∷ rest) ∙ whole))
 
   -- another isn't
-  pub output-skipped : (r : List ℕ) (rs left : List (List ℕ)) → written ++ output table specs separator left ≡ all → left ≡ r ∷ rs → chosen table specs (record_path r) (record_is_dir r) ≡ false → written ++ output table specs separator rs ≡ all
+  pub output-skipped : (r : List ℕ) (rs left : List (List ℕ)) → written ++ output table specs separator left ≡ all → left ≡ r ∷ rs → is_chosen table specs (record_path r) (record_is_dir r) ≡ false → written ++ output table specs separator rs ≡ all
   unfolding output
   output-skipped r rs left so_far l c =
       let same : output table specs separator left ≡ output table specs separator rs = rw (l, c) refl in

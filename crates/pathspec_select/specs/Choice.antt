@@ -4,13 +4,13 @@ use Rattle.std.specs.List.Sorted.{IsPermutation}
 use Rattle.std.specs.Io.KnownBytes.{Appends}
 use Rattle.pathspec_parts.specs.Attributes.{Table}
 use Rattle.gix_pathspec.specs.Specs.{Spec}
-use Rattle.gix_pathspec.specs.Matching.{chosen, IsChosen}
+use Rattle.gix_pathspec.specs.Matching.{is_chosen, IsChosen}
 use Rattle.pathspec_select.specs.Listing.{records, table_of, record_path, record_is_dir}
 use Rattle.pathspec_select.specs.Program.{AsksFor, line_feed}
 
 -- The test gives just what the statement about the set of specs says.
 abbrev pub ChosenIsTest : Type 0
-ChosenIsTest = (table : Table) (specs : List Spec) (path : List ℕ) (is_dir : Bool) → IsTrue (chosen table specs path is_dir) ↔ IsChosen table specs path is_dir
+ChosenIsTest = (table : Table) (specs : List Spec) (path : List ℕ) (is_dir : Bool) → IsTrue (is_chosen table specs path is_dir) ↔ IsChosen table specs path is_dir
 
 -- The order of the specs doesn't matter.
 abbrev pub OrderIsFree : Type 0

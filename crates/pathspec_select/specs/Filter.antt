@@ -1,7 +1,7 @@
 -- What patterns choose, where no path has attributes.
 use Rattle.std.specs.Prelude.{ℕ, Bool, List, [], map, All, IsTrue}
 use Rattle.gix_pathspec.specs.declared.pattern.Pattern.{Pattern}
-use Rattle.gix_pathspec.specs.Matching.{means, chosen}
+use Rattle.gix_pathspec.specs.Matching.{spec_matches, is_chosen}
 use Rattle.gix_pathspec.specs.Patterns.{pattern_spec}
 use Rattle.pathspec_select.specs.Words.{is_supported}
 use Rattle.pathspec_select.specs.Listing.{records, output, table_of, record_path, record_is_dir}
@@ -12,11 +12,11 @@ AreSupported patterns = All (λ p. IsTrue (is_supported (pattern_spec p))) patte
 
 -- whether a pattern matches a path
 abbrev pub matches_path : Pattern → List ℕ → Bool → Bool
-matches_path pattern path is_dir = means (table_of []) (pattern_spec pattern) path is_dir
+matches_path pattern path is_dir = spec_matches (table_of []) (pattern_spec pattern) path is_dir
 
 -- whether patterns choose a path
 abbrev pub patterns_choose : List Pattern → List ℕ → Bool → Bool
-patterns_choose patterns path is_dir = chosen (table_of []) (map pattern_spec patterns) path is_dir
+patterns_choose patterns path is_dir = is_chosen (table_of []) (map pattern_spec patterns) path is_dir
 
 -- whether they choose a record
 abbrev pub is_chosen_record : List Pattern → List ℕ → Bool

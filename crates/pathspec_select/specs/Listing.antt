@@ -6,7 +6,7 @@ use Rattle.pathspec_parts.specs.Paths.{is_slash, ends_with_slash, without_last_s
 use Rattle.pathspec_parts.specs.Attributes.{Table}
 use Rattle.pathspec_parts.specs.AttributeRows.{Row, rows_reply}
 use Rattle.gix_pathspec.specs.Specs.{Spec}
-use Rattle.gix_pathspec.specs.Matching.{chosen}
+use Rattle.gix_pathspec.specs.Matching.{is_chosen}
 
 -- ---- records
 
@@ -45,7 +45,7 @@ first_bad rs = position_from is_bad 1 rs
 
 -- What is written for a listing: each chosen record with one separator after it.
 unfoldable pub output : Table → List Spec → ℕ → List (List ℕ) → List ℕ
-output table specs separator rs = flat_map (λ r. r ++ separator ∷ []) (filter (λ r. chosen table specs (record_path r) (record_is_dir r)) rs)
+output table specs separator rs = flat_map (λ r. r ++ separator ∷ []) (filter (λ r. is_chosen table specs (record_path r) (record_is_dir r)) rs)
 
 -- ---- the look-up of rows
 

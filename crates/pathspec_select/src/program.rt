@@ -35,7 +35,7 @@ pub fn run<R: Read, W: Write>(
 ) -> Result<(), Refusal>
     ensures ends { Ends (map string_bytes words.now) (R.remaining reader.old)
         (W.contents writer.old) (W.contents writer.new) result }
-    ensures chosen { OnOk result (WritesChosen (map string_bytes words.now)
+    ensures is_chosen { OnOk result (WritesChosen (map string_bytes words.now)
         (R.remaining reader.old) (W.contents writer.old) (W.contents writer.new)) }
     // The test by which records are written is the statement of what is chosen, and the specs' order is free.
     ensures test { ChosenIsTest }

@@ -4,7 +4,7 @@ ghost use Rattle.std.specs.Option.{option_map};
 ghost use Rattle.std.specs.List.{take_while, prefix_len};
 ghost use Rattle.pathspec_parts.specs.Bytes.{first_is};
 ghost use Rattle.gix_pathspec.specs.Errors.{IsAnswer};
-ghost use Rattle.gix_pathspec.specs.Reading.{Cut as Parts, cut_of, behind_mark, is_short, is_unimplemented, is_colon, BeginsFree};
+ghost use Rattle.gix_pathspec.specs.Reading.{Cut as Parts, cut_of, after_mark, is_short, is_unimplemented, is_colon, BeginsFree};
 
 use crate::{Error, error};
 use pathspec_parts::split;
@@ -102,7 +102,7 @@ fn short_len(magic: &[u8]) -> usize
 /// Whether an end mark stands in front, and what follows it.
 fn split_mark(rest: &[u8]) -> (bool, &[u8])
     ensures ended { result.0 ≡ first_is is_colon rest.now }
-    ensures rest { result.1.now ≡ behind_mark rest.now }
+    ensures rest { result.1.now ≡ after_mark rest.now }
 {
     match rest {
         [b':', others @ ..] => (true, others),

@@ -1,10 +1,10 @@
 //! Lists of attributes, as `attr:` takes them (gitglossary, "pathspec").
 ghost use Rattle.std.specs.Prelude.{◌≡◌, map, vec_items, Some, IsTrue, IsFalse, IfOk, IfErr, OnErr};
 ghost use Rattle.pathspec_parts.specs.AttributeNames.{name_bytes};
-ghost use Rattle.pathspec_parts.specs.AttributeStates.{state_of, attribute_of};
+ghost use Rattle.pathspec_parts.specs.AttributeStates.{state_view, assignment_view};
 ghost use Rattle.gix_pathspec.specs.Faults.Fault.{InvalidValueByte};
 ghost use Rattle.gix_pathspec.specs.Errors.{fault_of, Computes};
-ghost use Rattle.gix_pathspec.specs.AttributeLists.{name_of, is_value_byte, value_of, named, valued, assignment_of, assignments_of};
+ghost use Rattle.gix_pathspec.specs.AttributeLists.{name_of, is_value_byte, value_of, assignment_with_state, assignment_with_value, assignment_of, assignments_of};
 
 use super::pieces::is_escape;
 use crate::{Error, error};
@@ -24,7 +24,7 @@ use std::alloc::Global;
 /// [`Error::EmptyAttributes`] for the empty list; for the first part at fault [`Error::InvalidValueByte`] or
 /// [`Error::TrailingEscape`], which tell of its value, and only then [`Error::InvalidName`]; [`Error::Memory`].
 pub fn attributes(alloc: Global, list: &[u8]) -> Result<Vec<Assignment>, Error>
-    ensures { Computes (λ vec. map attribute_of vec.items) (assignments_of list.now) result }
+    ensures { Computes (λ vec. map assignment_view vec.items) (assignments_of list.now) result }
 {
     if list.is_empty() {
         return Err(Error::EmptyAttributes);
@@ -43,7 +43,7 @@ pub fn attributes(alloc: Global, list: &[u8]) -> Result<Vec<Assignment>, Error>
 
 /// The assignment that a part of a list says.
 fn assignment(alloc: Global, part: &[u8]) -> Result<Assignment, Error>
-    ensures { Computes attribute_of (assignment_of part.now) result }
+    ensures { Computes assignment_view (assignment_of part.now) result }
 {
     if let Some(name) = part.strip_prefix(b"!") {
         return assignment_of_state(alloc, State::Unspecified, name);
@@ -60,7 +60,7 @@ fn assignment(alloc: Global, part: &[u8]) -> Result<Assignment, Error>
 
 /// The assignment of a value to a name. The value is read before the name.
 fn assignment_of_value(alloc: Global, name: &[u8], written: &[u8]) -> Result<Assignment, Error>
-    ensures { Computes attribute_of (valued name.now written.now) result }
+    ensures { Computes assignment_view (assignment_with_value name.now written.now) result }
 {
     let value = value(alloc, written)?;
     assignment_of_state(alloc, State::Value(value), name)
@@ -68,7 +68,7 @@ fn assignment_of_value(alloc: Global, name: &[u8], written: &[u8]) -> Result<Ass
 
 /// The assignment of a state to a name.
 fn assignment_of_state(alloc: Global, state: State, bytes: &[u8]) -> Result<Assignment, Error>
-    ensures { Computes attribute_of (named (state_of state) bytes.now) result }
+    ensures { Computes assignment_view (assignment_with_state (state_view state) bytes.now) result }
 {
     Ok(Assignment {
         name: name(alloc, bytes)?,

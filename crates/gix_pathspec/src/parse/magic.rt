@@ -1,10 +1,10 @@
 //! What long magic asks for (gitglossary, "pathspec").
 ghost use Rattle.std.specs.Prelude.{◌≡◌, map, unwrap_or, None};
-ghost use Rattle.pathspec_parts.specs.AttributeStates.{attribute_of};
+ghost use Rattle.pathspec_parts.specs.AttributeStates.{assignment_view};
 ghost use Rattle.gix_pathspec.specs.Errors.{IsAnswer};
 ghost use Rattle.gix_pathspec.specs.Signatures.{signature_bits};
-ghost use Rattle.gix_pathspec.specs.Keywords.{asked_by};
-ghost use Rattle.gix_pathspec.specs.Reading.{Magic as Said, keyword_of, same_mode, picked, listed, after_piece, after_pieces, long_pieces, no_magic};
+ghost use Rattle.gix_pathspec.specs.Keywords.{keyword_view};
+ghost use Rattle.gix_pathspec.specs.Reading.{Magic as Said, keyword_of, same_mode, with_mode, with_list, with_piece, with_pieces, long_pieces, no_magic};
 
 use super::{lists, pieces};
 use crate::{Error, MagicSignature, SearchMode, error};
@@ -24,7 +24,7 @@ pub(super) struct Magic {
 impl Model for Magic {
     ghost Value = { Said };
 
-    ghost view = { λ m. record { signature = signature_bits m.signature; mode = m.mode; attributes = map attribute_of m.attributes.items } };
+    ghost view = { λ m. record { signature = signature_bits m.signature; mode = m.mode; attributes = map assignment_view m.attributes.items } };
 }
 
 /// What a piece of long magic asks for.
@@ -43,7 +43,7 @@ enum Keyword<'p> {
 
 /// What a piece asks for, by the table of pieces.
 fn keyword_of(piece: &[u8]) -> Keyword<'_>
-    ensures { asked_by result ≡ keyword_of piece.now }
+    ensures { keyword_view result ≡ keyword_of piece.now }
 {
     if piece == b"top".as_slice() {
         Keyword::Adds(MagicSignature::TOP)
@@ -85,7 +85,7 @@ impl Magic {
 
     /// The same with the mode that a piece picks; a mode may be picked again, and not beside another.
     fn with_mode(self, alloc: Global, piece: &[u8], mode: SearchMode) -> Result<Magic, Error>
-        ensures { IsAnswer (picked self piece.now mode) result }
+        ensures { IsAnswer (with_mode self piece.now mode) result }
     {
         if !is_same_mode(self.mode.unwrap_or(mode), mode) {
             return Err(Error::LiteralWithGlob(error::copied(alloc, piece)?));
@@ -98,7 +98,7 @@ impl Magic {
 
     /// The same with the attributes that a piece lists; a second list is refused, unless the first was of spaces alone.
     fn with_attributes(self, alloc: Global, piece: &[u8], list: &[u8]) -> Result<Magic, Error>
-        ensures { IsAnswer (listed self piece.now list.now) result }
+        ensures { IsAnswer (with_list self piece.now list.now) result }
     {
         if !self.attributes.is_empty() {
             return Err(Error::SecondAttributes(error::copied(alloc, piece)?));
@@ -111,7 +111,7 @@ impl Magic {
 
     /// The same with what a piece asks for.
     fn with_piece(self, alloc: Global, piece: &[u8]) -> Result<Magic, Error>
-        ensures { IsAnswer (after_piece self piece.now (keyword_of piece.now)) result }
+        ensures { IsAnswer (with_piece self piece.now (keyword_of piece.now)) result }
     {
         match keyword_of(piece) {
             Keyword::Adds(flag) => Ok(Magic {
@@ -132,7 +132,7 @@ impl Magic {
 /// For the first piece at fault [`Error::InvalidKeyword`], [`Error::LiteralWithGlob`], [`Error::SecondAttributes`] or
 /// the error of its list, as [`lists::attributes`] gives it; [`Error::Memory`].
 pub(super) fn after_long(alloc: Global, short: Magic, long: &[u8]) -> Result<Magic, Error>
-    ensures { IsAnswer (after_pieces short (long_pieces long.now)) result }
+    ensures { IsAnswer (with_pieces short (long_pieces long.now)) result }
 {
     let mut magic = short;
     let mut rest = Some(long);

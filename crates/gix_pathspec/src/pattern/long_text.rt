@@ -3,12 +3,12 @@ ghost use Rattle.std.specs.Prelude.{◌≡◌, ◌∷◌, [], ◌==◌, length, 
 ghost use Rattle.std.specs.Str.{IsUtf8};
 ghost use Rattle.bstr.specs.Owned.{bstring_bytes};
 ghost use Rattle.pathspec_parts.specs.Bytes.{comma, space, is_empty};
-ghost use Rattle.pathspec_parts.specs.AttributeStates.{attribute_of};
+ghost use Rattle.pathspec_parts.specs.AttributeStates.{assignment_view};
 ghost use Rattle.gix_pathspec.specs.Errors.{IsMemory};
 ghost use Rattle.gix_pathspec.specs.Signatures.{signature_bits};
 ghost use Rattle.gix_pathspec.specs.Reading.{Reads, no_defaults};
 ghost use Rattle.gix_pathspec.specs.LongText.{long_text, opening, bit_text, mode_text, attributes_text, list_text, assignment_text, with_escapes, printed_text, AddsWords, AddsBytes};
-ghost use Rattle.gix_pathspec.specs.RoundTrips.{IsSayablePattern, RoundTripIsExact, LongTextsTell, SaidIsSayable, SaidComesBack};
+ghost use Rattle.gix_pathspec.specs.RoundTrips.{IsSayablePattern, RoundTripIsExact, LongTextIsInjective, ParsedIsExpressible, ParsedRoundTrips};
 
 use crate::{Error, MagicSignature, Pattern, SearchMode};
 use bitflags::Flags;
@@ -32,13 +32,13 @@ impl Pattern {
         ensures text { IfOk result (λ text.
             bstring_bytes text ≡ long_text (pattern_spec self.now)) }
         ensures err { IfErr result IsMemory }
-        ensures comes_back { IsSayablePattern (pattern_spec self.now)
+        ensures round_trip { IsSayablePattern (pattern_spec self.now)
             → IfOk result (λ text. Reads no_defaults (bstring_bytes text) (pattern_spec self.now)) }
         // Text that is UTF-8 is printed as it is.
         ensures printed { IfOk result (λ text. IsUtf8 (bstring_bytes text)
             → printed_text (pattern_spec self.now) ≡ bstring_bytes text) }
         // Only sayable specs come back, and their texts tell them apart; what a text says is sayable.
-        ensures laws { RoundTripIsExact × LongTextsTell × SaidIsSayable × SaidComesBack }
+        ensures laws { RoundTripIsExact × LongTextIsInjective × ParsedIsExpressible × ParsedRoundTrips }
     {
         Ok(BString::new(self.long_text()?))
     }
@@ -126,7 +126,7 @@ fn write_comma(text: &mut Vec<u8>) -> Result<(), AllocError>
 /// Writes `attr:` and the assignments, with a space between each two, if there are any.
 fn write_attributes(text: &mut Vec<u8>, assignments: &[Assignment]) -> Result<(), AllocError>
     ensures { AddsWords text.old.items text.new.items
-        (attributes_text (map attribute_of assignments.now)) result }
+        (attributes_text (map assignment_view assignments.now)) result }
 {
     if assignments.is_empty() {
         return Ok(());
@@ -139,7 +139,7 @@ fn write_attributes(text: &mut Vec<u8>, assignments: &[Assignment]) -> Result<()
 /// Writes assignments, with a space between each two.
 fn write_assignments(text: &mut Vec<u8>, assignments: &[Assignment]) -> Result<(), AllocError>
     ensures { AddsBytes text.old.items text.new.items
-        (list_text (map attribute_of assignments.now)) result }
+        (list_text (map assignment_view assignments.now)) result }
 {
     for (place, assignment) in assignments.iter().enumerate() {
         write_space(text, place)?;
@@ -162,7 +162,7 @@ fn write_space(text: &mut Vec<u8>, place: usize) -> Result<(), AllocError>
 /// Writes `a`, `-a`, `!a` or `a=v`, with a backslash in front of each comma.
 fn write_assignment(text: &mut Vec<u8>, assignment: &Assignment) -> Result<(), AllocError>
     ensures { AddsBytes text.old.items text.new.items
-        (assignment_text (attribute_of assignment.now)) result }
+        (assignment_text (assignment_view assignment.now)) result }
 {
     match &assignment.state {
         State::Set => write_escaped(text, assignment.name.as_bytes().as_bytes()),

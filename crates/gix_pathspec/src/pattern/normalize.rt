@@ -3,10 +3,10 @@ ghost use Rattle.std.specs.Prelude.{◌≡◌, ◌≢◌, ◌∷◌, [], ◌++�
 ghost use Rattle.std.specs.Option.{option_map};
 ghost use Rattle.bstr.specs.BStr.{bstr_bytes};
 ghost use Rattle.pathspec_parts.specs.Bytes.{slash};
-ghost use Rattle.pathspec_parts.specs.Paths.{joined, is_up, is_clean_prefix};
-ghost use Rattle.pathspec_parts.specs.Components.{components_left};
+ghost use Rattle.pathspec_parts.specs.Paths.{join_names, is_parent_dir, is_clean_prefix};
+ghost use Rattle.pathspec_parts.specs.Components.{remaining_components};
 ghost use Rattle.gix_pathspec.specs.Errors.{IsMemory, Computes};
-ghost use Rattle.gix_pathspec.specs.NormalForm.{IsNormal, base, base_names, own_components, is_inside, ups, kept, directory_count, stays_empty, resolved};
+ghost use Rattle.gix_pathspec.specs.NormalForm.{IsNormal, base, base_names, own_components, is_inside, parent_dir_count, kept, directory_count, stays_empty, resolved};
 ghost use Rattle.gix_pathspec.specs.Heights.{ClimbByHeight, SurvivorsByHeight, KeptIsLeastHeight};
 ghost use Rattle.gix_pathspec.specs.Resolving.{base_of, IsLeft, IsPushed};
 ghost use Rattle.gix_pathspec.specs.LongText.{AddsBytes};
@@ -34,7 +34,7 @@ struct Walk<'p> {
     base: Base<'p>,
     own: Components<'p>,
     stack: Stack<'p>,
-    ghost left: { IsLeft (base_of base) (components_left own) stack },
+    ghost left: { IsLeft (base_of base) (remaining_components own) stack },
 }
 
 /// What normalising changes.
@@ -131,7 +131,7 @@ impl Pattern {
 
     /// The path's own components: on the root those after the root's, or None if it doesn't lie there.
     fn own_components(&self, base: Base<'_>, root: BStr<'_>) -> Option<Components<'_>>
-        ensures { option_map components_left result
+        ensures { option_map remaining_components result
             ≡ own_components (base_of base.entry) (bstr_bytes root.entry)
             (pattern_spec self.now).path }
     {
@@ -145,7 +145,7 @@ impl Pattern {
     fn resolved_along(&self, walk: &Walk<'_>) -> Result<Resolved, Error>
         ensures ok { IfOk result (λ r. resolved_spec (pattern_spec self.now) r
             ≡ resolved (base_of walk.now.base) (pattern_spec self.now)
-            (components_left walk.now.own) walk.now.stack.names) }
+            (remaining_components walk.now.own) walk.now.stack.names) }
         ensures err { IfErr result IsMemory }
     {
         if !walk.stack.is_empty() {
@@ -166,7 +166,7 @@ impl Pattern {
     /// empty and stands on the top.
     fn stays_empty(&self, walk: &Walk<'_>) -> bool
         ensures { result ≡ stays_empty (base_of walk.now.base) (pattern_spec self.now)
-            (components_left walk.now.own) }
+            (remaining_components walk.now.own) }
     {
         match walk.base {
             Base::Root => !climbs(walk.own),
@@ -180,7 +180,7 @@ impl Pattern {
         requires { walk.now.stack.names ≢ [] }
         ensures ok { IfOk result (λ r. resolved_spec (pattern_spec self.now) r
             ≡ resolved (base_of walk.now.base) (pattern_spec self.now)
-            (components_left walk.now.own) walk.now.stack.names) }
+            (remaining_components walk.now.own) walk.now.stack.names) }
         ensures err { IfErr result IsMemory }
     {
         let mut path = Vec::new(*self.path.allocator());
@@ -199,7 +199,7 @@ impl Pattern {
     /// wanted.
     fn directory_count(&self, walk: &Walk<'_>) -> usize
         ensures count { result ≡ directory_count (base_of walk.now.base) (pattern_spec self.now)
-            (components_left walk.now.own) walk.now.stack.names }
+            (remaining_components walk.now.own) walk.now.stack.names }
         ensures within { result ≤ length walk.now.stack.names }
     {
         let most = if self.signature.contains(MagicSignature::MUST_BE_DIR) {
@@ -226,7 +226,7 @@ impl Pattern {
 impl<'p> Base<'p> {
     /// The names that a path stands on.
     fn names(self) -> Components<'p>
-        ensures { components_left result ≡ base_names (base_of self.entry) }
+        ensures { remaining_components result ≡ base_names (base_of self.entry) }
     {
         match self {
             Base::Prefix(names) => names,
@@ -245,9 +245,9 @@ impl<'p> Walk<'p> {
         base: Base<'p>,
         own: Components<'p>,
     ) -> Result<Option<Walk<'p>>, AllocError>
-        requires { ups (base_names (base_of base)) ≡ 0 }
+        requires { parent_dir_count (base_names (base_of base)) ≡ 0 }
         ensures inside { IfOk result (λ walk. is_some walk
-            ≡ is_inside (base_of base.entry) (components_left own.entry)) }
+            ≡ is_inside (base_of base.entry) (remaining_components own.entry)) }
         ensures parts { IfOk result (λ walk. IfSome walk (λ w.
             (w.base ≡ base.entry) × (w.own ≡ own.entry))) }
     {
@@ -266,7 +266,7 @@ impl<'p> Walk<'p> {
     /// never climbs above, on the root all.
     fn kept(&self) -> usize
         ensures count { result
-            ≡ kept (base_of self.now.base) (components_left self.now.own) self.now.stack.names }
+            ≡ kept (base_of self.now.base) (remaining_components self.now.own) self.now.stack.names }
         ensures within { result ≤ length self.now.stack.names }
     {
         match self.base {
@@ -278,10 +278,10 @@ impl<'p> Walk<'p> {
 
 /// Whether some component is `..`.
 fn climbs(components: Components<'_>) -> bool
-    ensures { result ≡ not (ups (components_left components.entry) == 0) }
+    ensures { result ≡ not (parent_dir_count (remaining_components components.entry) == 0) }
 {
     for component in components {
-        if is_up(component) {
+        if is_parent_dir(component) {
             return true;
         }
     }
@@ -289,8 +289,8 @@ fn climbs(components: Components<'_>) -> bool
 }
 
 /// Whether a component is `..`.
-fn is_up(component: BStr<'_>) -> bool
-    ensures { result ≡ is_up (bstr_bytes component.entry) }
+fn is_parent_dir(component: BStr<'_>) -> bool
+    ensures { result ≡ is_parent_dir (bstr_bytes component.entry) }
 {
     component.as_bytes() == b"..".as_slice()
 }
@@ -300,9 +300,9 @@ fn push_components<'p>(
     stack: &mut Stack<'p>,
     components: Components<'p>,
 ) -> Result<bool, AllocError>
-    requires names { ups stack.old.names ≡ 0 }
+    requires names { parent_dir_count stack.old.names ≡ 0 }
     requires least { stack.old.least ≤ length stack.old.names }
-    ensures { IfOk result (IsPushed stack.old (components_left components.entry) stack.new) }
+    ensures { IfOk result (IsPushed stack.old (remaining_components components.entry) stack.new) }
 {
     for component in components {
         if !push_component(stack, component)? {
@@ -314,11 +314,11 @@ fn push_components<'p>(
 
 /// Pushes a component on a stack, or pops a name for `..`. Answers whether there was one to pop.
 fn push_component<'p>(stack: &mut Stack<'p>, component: BStr<'p>) -> Result<bool, AllocError>
-    requires names { ups stack.old.names ≡ 0 }
+    requires names { parent_dir_count stack.old.names ≡ 0 }
     requires least { stack.old.least ≤ length stack.old.names }
     ensures { IfOk result (IsPushed stack.old (bstr_bytes component.entry ∷ []) stack.new) }
 {
-    if is_up(component) {
+    if is_parent_dir(component) {
         return Ok(stack.pop());
     }
     stack.push(component)?;
@@ -334,8 +334,8 @@ fn write_names(
 ) -> Result<(), AllocError>
     requires order { first ≤ end }
     requires within { end ≤ length stack.now.names }
-    requires before { path.old.items ≡ joined (take first stack.now.names) }
-    ensures { OnOk result (path.new.items ≡ joined (take end stack.now.names)) }
+    requires before { path.old.items ≡ join_names (take first stack.now.names) }
+    ensures { OnOk result (path.new.items ≡ join_names (take end stack.now.names)) }
 {
     for place in first..end {
         if let Some(name) = stack.get(place) {

@@ -1,11 +1,11 @@
 //! Whether a spec matches a path, and how (gitglossary, "pathspec").
 ghost use Rattle.std.specs.Prelude.{◌≡◌, IsTrue, IsFalse, is_some, bytes_eq};
 ghost use Rattle.bstr.specs.BStr.{bstr_bytes};
-ghost use Rattle.pathspec_parts.specs.Bytes.{folded, is_empty};
+ghost use Rattle.pathspec_parts.specs.Bytes.{fold_case, is_empty};
 ghost use Rattle.pathspec_parts.specs.Paths.{is_below};
 ghost use Rattle.pathspec_parts.specs.Attributes.{Table};
 ghost use Rattle.gix_pathspec.specs.Specs.{is_glob, ignores_case};
-ghost use Rattle.gix_pathspec.specs.Matching.{fit, means, keeps_prefix, is_verbatim, is_prefixed};
+ghost use Rattle.gix_pathspec.specs.Matching.{fit, spec_matches, is_in_prefix_directory, is_verbatim_match, is_prefix_match};
 ghost use Rattle.gix_pathspec.specs.Patterns.{pattern_spec};
 
 use crate::search::MatchKind;
@@ -23,17 +23,17 @@ use bstr::BStr;
 pub fn match_kind(pattern: &Pattern, path: BStr<'_>, is_dir: bool) -> Option<MatchKind>
     requires { IsFalse (is_glob (pattern_spec pattern.now)) }
     ensures kind { result ≡ fit (pattern_spec pattern.now) (bstr_bytes path.entry) is_dir }
-    ensures means { IsTrue (is_empty (pattern_spec pattern.now).attributes) → (table : Table)
-        → is_some result ≡ means table (pattern_spec pattern.now) (bstr_bytes path.entry) is_dir }
+    ensures spec_matches { IsTrue (is_empty (pattern_spec pattern.now).attributes) → (table : Table)
+        → is_some result ≡ spec_matches table (pattern_spec pattern.now) (bstr_bytes path.entry) is_dir }
 {
-    if !keeps_prefix(pattern, path, is_dir) {
+    if !is_in_prefix_directory(pattern, path, is_dir) {
         return None;
     }
     if pattern.always_matches() {
         Some(MatchKind::Always)
-    } else if is_verbatim(pattern, path, is_dir) {
+    } else if is_verbatim_match(pattern, path, is_dir) {
         Some(MatchKind::Verbatim)
-    } else if is_prefixed(pattern, path) {
+    } else if is_prefix_match(pattern, path) {
         Some(MatchKind::Prefix)
     } else {
         None
@@ -42,8 +42,8 @@ pub fn match_kind(pattern: &Pattern, path: BStr<'_>, is_dir: bool) -> Option<Mat
 
 /// Whether the path lies below the prefix directory or is that directory, compared with case; nothing is asked where
 /// case counts throughout or there is no such directory.
-fn keeps_prefix(pattern: &Pattern, path: BStr<'_>, is_dir: bool) -> bool
-    ensures { result ≡ keeps_prefix (pattern_spec pattern.now) (bstr_bytes path.entry) is_dir }
+fn is_in_prefix_directory(pattern: &Pattern, path: BStr<'_>, is_dir: bool) -> bool
+    ensures { result ≡ is_in_prefix_directory (pattern_spec pattern.now) (bstr_bytes path.entry) is_dir }
 {
     let path = path.as_bytes();
     let prefix = pattern.prefix_directory().as_bytes();
@@ -54,8 +54,8 @@ fn keeps_prefix(pattern: &Pattern, path: BStr<'_>, is_dir: bool) -> bool
 }
 
 /// Whether the path is the pattern's, and a directory where the pattern wants one.
-fn is_verbatim(pattern: &Pattern, path: BStr<'_>, is_dir: bool) -> bool
-    ensures { result ≡ is_verbatim (pattern_spec pattern.now) (bstr_bytes path.entry) is_dir }
+fn is_verbatim_match(pattern: &Pattern, path: BStr<'_>, is_dir: bool) -> bool
+    ensures { result ≡ is_verbatim_match (pattern_spec pattern.now) (bstr_bytes path.entry) is_dir }
 {
     let takes_kind = is_dir || !pattern.signature.contains(MagicSignature::MUST_BE_DIR);
     takes_kind
@@ -67,8 +67,8 @@ fn is_verbatim(pattern: &Pattern, path: BStr<'_>, is_dir: bool) -> bool
 }
 
 /// Whether the path lies below the pattern's.
-fn is_prefixed(pattern: &Pattern, path: BStr<'_>) -> bool
-    ensures { result ≡ is_prefixed (pattern_spec pattern.now) (bstr_bytes path.entry) }
+fn is_prefix_match(pattern: &Pattern, path: BStr<'_>) -> bool
+    ensures { result ≡ is_prefix_match (pattern_spec pattern.now) (bstr_bytes path.entry) }
 {
     is_below(
         path.as_bytes(),
@@ -86,7 +86,7 @@ fn ignores_case(pattern: &Pattern) -> bool
 
 /// Whether two texts are one, up to ASCII case where it doesn't count.
 fn is_same(left: &[u8], right: &[u8], ignore_case: bool) -> bool
-    ensures { result ≡ bytes_eq (folded ignore_case left.now) (folded ignore_case right.now) }
+    ensures { result ≡ bytes_eq (fold_case ignore_case left.now) (fold_case ignore_case right.now) }
 {
     if ignore_case {
         left.eq_ignore_ascii_case(right)
@@ -97,7 +97,7 @@ fn is_same(left: &[u8], right: &[u8], ignore_case: bool) -> bool
 
 /// Whether a path begins with a directory's path and a slash, up to ASCII case where it doesn't count.
 fn is_below(path: &[u8], directory: &[u8], ignore_case: bool) -> bool
-    ensures { result ≡ is_below (folded ignore_case path.now) (folded ignore_case directory.now) }
+    ensures { result ≡ is_below (fold_case ignore_case path.now) (fold_case ignore_case directory.now) }
 {
     let n = directory.len();
     if n < path.len() && path[n] == b'/' {

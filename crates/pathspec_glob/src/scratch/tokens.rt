@@ -1,8 +1,8 @@
 //! The tokens of globs, and the one question that a text is asked with them.
 ghost use Rattle.std.specs.Prelude.{◌≡◌, ◌+◌, ◌<◌, ◌≤◌, ◌^◌, length, drop, map, IfOk, IsTrue};
-ghost use Rattle.pathspec_glob.specs.GlobRelation.{same_byte, bars, takes, passes_over};
-ghost use Rattle.pathspec_glob.specs.GlobForms.{single_form, token_of, tokens_of};
-ghost use Rattle.pathspec_glob.specs.GlobSteps.{is_deep_token, is_wide, is_wide_at, may_pass_over_at, parts_of, takes_byte, token_takes};
+ghost use Rattle.pathspec_glob.specs.GlobRelation.{is_same_byte, is_barred, takes, passes_over};
+ghost use Rattle.pathspec_glob.specs.GlobForms.{single_view, token_view, tokens_view};
+ghost use Rattle.pathspec_glob.specs.GlobSteps.{is_deep_token, is_wide, is_wide_at, may_pass_over_at, token_list, takes_byte, token_takes};
 ghost use Rattle.pathspec_glob.specs.Counts.{BeginsAnew, HasNoSteps, KeepsCount};
 
 use crate::brackets::{self, Item};
@@ -15,7 +15,7 @@ use std::marker::Model;
 pub enum Single {
     /// This byte.
     Byte(u8),
-    /// This byte, which stands behind a backslash in the pattern.
+    /// This byte, which stands after a backslash in the pattern.
     Quoted(u8),
     /// Any byte.
     Any,
@@ -54,12 +54,12 @@ pub struct Steps {
 }
 
 impl Model for Tokens {
-    ghost use Rattle.pathspec_glob.specs.GlobForms.{tokens_of};
-    ghost use Rattle.pathspec_glob.specs.GlobSteps.{Parts};
+    ghost use Rattle.pathspec_glob.specs.GlobForms.{tokens_view};
+    ghost use Rattle.pathspec_glob.specs.GlobSteps.{TokenList};
 
-    ghost Value = { Parts };
+    ghost Value = { TokenList };
 
-    ghost view = { λ t. record { mode = t.mode; tokens = tokens_of t.all.items } };
+    ghost view = { λ t. record { mode = t.mode; tokens = tokens_view t.all.items } };
 }
 
 impl Tokens {
@@ -68,7 +68,7 @@ impl Tokens {
     /// # Errors
     /// Want of memory.
     pub fn read(alloc: Global, pattern: &[u8], mode: Mode) -> Result<Tokens, AllocError>
-        ensures { IfOk result (λ read. read ≡ parts_of mode pattern.now) }
+        ensures { IfOk result (λ read. read ≡ token_list mode pattern.now) }
     {
         Ok(Tokens {
             mode,
@@ -160,7 +160,7 @@ impl Steps {
 
 /// Whether the first of the tokens may stand for nothing together with the second.
 fn may_pass_over(mode: Mode, tokens: &[Token]) -> bool
-    ensures { result ≡ may_pass_over_at mode (tokens_of tokens.now) }
+    ensures { result ≡ may_pass_over_at mode (tokens_view tokens.now) }
 {
     match tokens {
         [first, next, ..] => first.is_deep() && next.is_passed_over(mode),
@@ -171,28 +171,28 @@ fn may_pass_over(mode: Mode, tokens: &[Token]) -> bool
 impl Token {
     /// Whether it takes any bytes.
     fn is_deep(&self) -> bool
-        ensures { result ≡ is_deep_token (token_of self.now) }
+        ensures { result ≡ is_deep_token (token_view self.now) }
     {
         matches!(self, Token::Deep)
     }
 
     /// Whether deep before it may stand for nothing with it.
     fn is_passed_over(&self, mode: Mode) -> bool
-        ensures { result ≡ passes_over mode (token_of self.now) }
+        ensures { result ≡ passes_over mode (token_view self.now) }
     {
         mode == Mode::PathAware && matches!(self, Token::One(Single::Byte(b'/')))
     }
 
     /// Whether it takes any number of bytes.
     fn is_wide(&self) -> bool
-        ensures { result ≡ is_wide (token_of self.now) }
+        ensures { result ≡ is_wide (token_view self.now) }
     {
         !matches!(self, Token::One(_))
     }
 
     /// Whether it takes a byte, alone or with others.
     fn takes(&self, mode: Mode, case: Case, byte: u8) -> bool
-        ensures { result ≡ takes_byte mode case (token_of self.now) byte }
+        ensures { result ≡ takes_byte mode case (token_view self.now) byte }
     {
         match self {
             Token::One(single) => single.takes(mode, case, byte),
@@ -205,13 +205,13 @@ impl Token {
 impl Single {
     /// Whether a byte is as this wants it.
     fn takes(&self, mode: Mode, case: Case, byte: u8) -> bool
-        ensures { result ≡ takes mode case (single_form self.now) byte }
+        ensures { result ≡ takes mode case (single_view self.now) byte }
     {
         match self {
             Single::Byte(own) | Single::Quoted(own) => is_same(case, *own, byte),
             Single::Any => !is_barred(mode, byte),
             Single::Bracket(negated, items) => {
-                !is_barred(mode, byte) && brackets::hold(items, case, byte) != *negated
+                !is_barred(mode, byte) && brackets::bracket_holds(items, case, byte) != *negated
             }
             Single::Dead => false,
         }
@@ -220,7 +220,7 @@ impl Single {
 
 /// Whether the bytes are one, up to case where it doesn't count.
 fn is_same(case: Case, own: u8, byte: u8) -> bool
-    ensures { result ≡ same_byte case own byte }
+    ensures { result ≡ is_same_byte case own byte }
 {
     match case {
         Case::Sensitive => own == byte,
@@ -230,7 +230,7 @@ fn is_same(case: Case, own: u8, byte: u8) -> bool
 
 /// Whether the mode keeps the byte from `?` and from brackets.
 fn is_barred(mode: Mode, byte: u8) -> bool
-    ensures { result ≡ bars mode byte }
+    ensures { result ≡ is_barred mode byte }
 {
     mode == Mode::PathAware && byte == b'/'
 }

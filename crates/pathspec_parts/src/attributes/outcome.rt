@@ -2,8 +2,8 @@
 ghost use Rattle.std.specs.Prelude.{◌≡◌, ◌<◌, ◌↔◌, [], length, vec_len, map, slice_get, bytes_eq, Some, IsTrue, IfOk, OnOk, OnErr};
 ghost use Rattle.bstr.specs.BStr.{bstr_bytes};
 ghost use Rattle.pathspec_parts.specs.Attributes.{State as Attribute};
-ghost use Rattle.pathspec_parts.specs.AttributeStates.{AreCopies, lent_state_of, attribute_of};
-ghost use Rattle.pathspec_parts.specs.Outcomes.{names_of, states_of, cleared, has_name, name_count, set_in};
+ghost use Rattle.pathspec_parts.specs.AttributeStates.{AreCopies, state_ref_view, assignment_view};
+ghost use Rattle.pathspec_parts.specs.Outcomes.{names_of, states_of, reset_states, has_name, name_count, set_state};
 
 use crate::attributes::{Assignment, State, StateRef};
 use bstr::BStr;
@@ -18,12 +18,12 @@ pub struct Outcome {
 
 impl Model for Outcome {
     ghost use Rattle.std.specs.Prelude.{List, map};
-    ghost use Rattle.pathspec_parts.specs.Outcomes.{Listed};
-    ghost use Rattle.pathspec_parts.specs.AttributeStates.{attribute_of};
+    ghost use Rattle.pathspec_parts.specs.Outcomes.{NamedState};
+    ghost use Rattle.pathspec_parts.specs.AttributeStates.{assignment_view};
 
-    ghost Value = { List Listed };
+    ghost Value = { List NamedState };
 
-    ghost view = { λ o. map attribute_of o.places.items };
+    ghost view = { λ o. map assignment_view o.places.items };
 }
 
 impl Outcome {
@@ -34,7 +34,7 @@ impl Outcome {
     /// # Errors
     /// Memory runs out.
     pub fn for_assignments(alloc: Global, assignments: &[Assignment]) -> Result<Outcome, AllocError>
-        ensures { IfOk result (λ outcome. outcome ≡ cleared (map attribute_of assignments.now)) }
+        ensures { IfOk result (λ outcome. outcome ≡ reset_states (map assignment_view assignments.now)) }
     {
         let mut places = Vec::with_capacity(alloc, assignments.len())?;
         for assignment in assignments {
@@ -71,7 +71,7 @@ impl Outcome {
     /// The state at a place.
     pub fn state(&self, place: usize) -> StateRef<'_>
         requires { place < length self.now }
-        ensures { Some (lent_state_of result) ≡ slice_get (states_of self.now) place }
+        ensures { Some (state_ref_view result) ≡ slice_get (states_of self.now) place }
     {
         self.places[place].state.as_ref()
     }
@@ -85,7 +85,7 @@ impl Outcome {
     /// Memory runs out. Every place is then as before. A name that no place has takes no memory.
     pub fn set(&mut self, name: &[u8], state: StateRef<'_>) -> Result<(), AllocError>
         ensures ok { OnOk result
-            (self.new ≡ set_in self.old name.now (lent_state_of state.entry)) }
+            (self.new ≡ set_state self.old name.now (state_ref_view state.entry)) }
         ensures err { OnErr result (self.new ≡ self.old) }
         ensures refused { OnErr result (IsTrue (has_name self.old name.now)) }
         ensures names { names_of self.new ≡ names_of self.old }
@@ -97,8 +97,8 @@ impl Outcome {
 
     /// Makes each state [`State::Unspecified`]. It takes no memory.
     pub fn reset(&mut self)
-        ensures cleared { self.new ≡ cleared self.old }
-        ensures is_cleared { self.new ≡ cleared self.new }
+        ensures reset_states { self.new ≡ reset_states self.old }
+        ensures is_reset { self.new ≡ reset_states self.new }
         ensures names { names_of self.new ≡ names_of self.old }
     {
         clear(&mut self.places);
@@ -107,7 +107,7 @@ impl Outcome {
 
 /// Whether this place has this name.
 fn is_named(place: &Assignment, name: &[u8]) -> bool
-    ensures { result ≡ bytes_eq (attribute_of place.now).name name.now }
+    ensures { result ≡ bytes_eq (assignment_view place.now).name name.now }
 {
     place.name.as_bytes().as_bytes() == name
 }
@@ -120,9 +120,9 @@ fn copies_for(
     state: StateRef<'_>,
 ) -> Result<Vec<State>, AllocError>
     ensures count { IfOk result
-        (λ copies. vec_len copies ≡ name_count (map attribute_of places.now) name.now) }
-    ensures copies { IfOk result (λ copies. AreCopies (lent_state_of state.entry) copies.items) }
-    ensures refused { OnErr result (IsTrue (has_name (map attribute_of places.now) name.now)) }
+        (λ copies. vec_len copies ≡ name_count (map assignment_view places.now) name.now) }
+    ensures copies { IfOk result (λ copies. AreCopies (state_ref_view state.entry) copies.items) }
+    ensures refused { OnErr result (IsTrue (has_name (map assignment_view places.now) name.now)) }
 {
     let mut copies = Vec::new(alloc);
     for place in places {
@@ -135,9 +135,9 @@ fn copies_for(
 
 /// Gives one of the copies to each place with this name.
 fn put(places: &mut [Assignment], name: &[u8], mut copies: Vec<State>)
-    requires { vec_len copies ≡ name_count (map attribute_of places.old) name.now }
+    requires { vec_len copies ≡ name_count (map assignment_view places.old) name.now }
     ensures { (state : Attribute) → AreCopies state copies.items
-        → map attribute_of places.new ≡ set_in (map attribute_of places.old) name.now state }
+        → map assignment_view places.new ≡ set_state (map assignment_view places.old) name.now state }
 {
     for place in places.iter_mut() {
         if is_named(place, name) {
@@ -150,7 +150,7 @@ fn put(places: &mut [Assignment], name: &[u8], mut copies: Vec<State>)
 
 /// Makes each state [`State::Unspecified`].
 fn clear(places: &mut [Assignment])
-    ensures { map attribute_of places.new ≡ cleared (map attribute_of places.old) }
+    ensures { map assignment_view places.new ≡ reset_states (map assignment_view places.old) }
 {
     for place in places.iter_mut() {
         place.state = State::Unspecified;

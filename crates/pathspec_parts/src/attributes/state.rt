@@ -1,7 +1,7 @@
 //! What an attribute is for a path.
 ghost use Rattle.std.specs.Prelude.{◌≡◌, IfOk, OnErr, IsTrue};
 ghost use Rattle.pathspec_parts.specs.Attributes.{is_value};
-ghost use Rattle.pathspec_parts.specs.AttributeStates.{state_of, lent_state_of, attribute_of};
+ghost use Rattle.pathspec_parts.specs.AttributeStates.{state_view, state_ref_view, assignment_view};
 
 use crate::attributes::Name;
 use std::alloc::{AllocError, Global};
@@ -44,7 +44,7 @@ pub struct Assignment {
 impl State {
     /// The same state, with its value lent.
     pub fn as_ref(&self) -> StateRef<'_>
-        ensures { lent_state_of result ≡ state_of self.now }
+        ensures { state_ref_view result ≡ state_view self.now }
     {
         match self {
             State::Set => StateRef::Set,
@@ -59,8 +59,8 @@ impl State {
     /// # Errors
     /// Memory runs out. Only a value takes memory.
     pub fn try_clone(&self) -> Result<State, AllocError>
-        ensures ok { IfOk result (λ state. state_of state ≡ state_of self.now) }
-        ensures refused { OnErr result (IsTrue (is_value (state_of self.now))) }
+        ensures ok { IfOk result (λ state. state_view state ≡ state_view self.now) }
+        ensures refused { OnErr result (IsTrue (is_value (state_view self.now))) }
     {
         match self {
             State::Set => Ok(State::Set),
@@ -77,8 +77,8 @@ impl<'a> StateRef<'a> {
     /// # Errors
     /// Memory runs out. Only a value takes memory.
     pub fn to_state(self, alloc: Global) -> Result<State, AllocError>
-        ensures ok { IfOk result (λ state. state_of state ≡ lent_state_of self.entry) }
-        ensures refused { OnErr result (IsTrue (is_value (lent_state_of self.entry))) }
+        ensures ok { IfOk result (λ state. state_view state ≡ state_ref_view self.entry) }
+        ensures refused { OnErr result (IsTrue (is_value (state_ref_view self.entry))) }
     {
         match self {
             StateRef::Set => Ok(State::Set),
@@ -95,7 +95,7 @@ impl Assignment {
     /// # Errors
     /// Memory runs out.
     pub fn try_clone(&self) -> Result<Assignment, AllocError>
-        ensures { IfOk result (λ assignment. attribute_of assignment ≡ attribute_of self.now) }
+        ensures { IfOk result (λ assignment. assignment_view assignment ≡ assignment_view self.now) }
     {
         Ok(Assignment {
             name: self.name.try_clone()?,

@@ -1,8 +1,8 @@
 //! Names, states and outcomes by tables, and three look-ups.
 ghost use Rattle.std.specs.Prelude.{◌≡◌, true, map, OnOk};
-ghost use Rattle.pathspec_parts.specs.AttributeStates.{attribute_of};
-ghost use Rattle.pathspec_parts.specs.Outcomes.{names_of, states_of, unspecified, assigned};
-ghost use Rattle.pathspec_parts.specs.AttributeRows.{after_rows, rows_of, rows_reply};
+ghost use Rattle.pathspec_parts.specs.AttributeStates.{assignment_view};
+ghost use Rattle.pathspec_parts.specs.Outcomes.{names_of, states_of, unspecified, apply_assignments};
+ghost use Rattle.pathspec_parts.specs.AttributeRows.{apply_rows, rows_of, rows_reply};
 
 use super::*;
 use std::alloc::{AllocError, Global};
@@ -103,7 +103,7 @@ fn apply_rows(
     path: &[u8],
     out: &mut Outcome,
 ) -> Result<(), AllocError>
-    ensures ok { OnOk result (out.new ≡ after_rows path.now out.old (rows_of rows.now)) }
+    ensures ok { OnOk result (out.new ≡ apply_rows path.now out.old (rows_of rows.now)) }
     ensures names { names_of out.new ≡ names_of out.old }
 {
     for row in rows {
@@ -116,7 +116,7 @@ fn apply_rows(
 
 /// Sets each assignment.
 fn apply(assignments: &[Assignment], out: &mut Outcome) -> Result<(), AllocError>
-    ensures ok { OnOk result (out.new ≡ assigned out.old (map attribute_of assignments.now)) }
+    ensures ok { OnOk result (out.new ≡ apply_assignments out.old (map assignment_view assignments.now)) }
     ensures names { names_of out.new ≡ names_of out.old }
 {
     for assignment in assignments {

@@ -3,7 +3,7 @@ ghost use Rattle.std.specs.Prelude.{◌≡◌};
 ghost use Rattle.std.specs.Iterator.{YieldsFirstBy, item_count};
 ghost use Rattle.bstr.specs.BStr.{bstr_bytes};
 ghost use Rattle.pathspec_parts.specs.Paths.{components, is_component};
-ghost use Rattle.pathspec_parts.specs.Components.{components_left};
+ghost use Rattle.pathspec_parts.specs.Components.{remaining_components};
 
 use crate::split;
 use bstr::BStr;
@@ -17,7 +17,7 @@ pub struct Components<'a> {
 impl<'a> Components<'a> {
     /// The components of this path.
     pub(crate) fn new(path: BStr<'a>) -> Components<'a>
-        ensures { components_left result ≡ components (bstr_bytes path.entry) }
+        ensures { remaining_components result ≡ components (bstr_bytes path.entry) }
     {
         Components {
             rest: path.as_bytes(),
@@ -28,9 +28,9 @@ impl<'a> Components<'a> {
 impl<'a> Iterator for Components<'a> {
     type Item = BStr<'a>;
 
-    ghost next_gives = { YieldsFirstBy bstr_bytes components_left };
+    ghost next_gives = { YieldsFirstBy bstr_bytes remaining_components };
 
-    ghost remaining = { item_count components_left };
+    ghost remaining = { item_count remaining_components };
 
     fn next(&mut self) -> Option<BStr<'a>> {
         while !self.rest.is_empty() {

@@ -2,7 +2,7 @@
 ghost use Rattle.std.specs.Prelude.{◌≡◌, ◌≤◌, ◌<◌, ◌-◌, ◌↔◌, [], length, map, min, take, slice_get, IsTrue, OnOk, OnErr};
 ghost use Rattle.std.specs.Option.{option_map};
 ghost use Rattle.bstr.specs.BStr.{bstr_bytes};
-ghost use Rattle.pathspec_parts.specs.Stacks.{Stacked, with_top};
+ghost use Rattle.pathspec_parts.specs.Stacks.{StackContents, with_top};
 
 use bstr::BStr;
 use std::alloc::{AllocError, Global};
@@ -16,7 +16,7 @@ pub struct Stack<'a> {
 }
 
 impl<'a> Model for Stack<'a> {
-    ghost Value = { Stacked };
+    ghost Value = { StackContents };
 
     ghost view = { λ s. record { names = map bstr_bytes s.names.items; least = s.least } };
 

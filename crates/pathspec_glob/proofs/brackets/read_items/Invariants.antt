@@ -3,13 +3,13 @@ use Rattle.std.proofs.Common.{◌≡◌, ◌==◌, None, true, length}
 use Rattle.std.specs.List.{position}
 use Rattle.pathspec_glob.specs.Bytes.{close_bracket, is_empty}
 use Rattle.pathspec_glob.specs.Tokens.{items_from}
-use Rattle.pathspec_glob.specs.GlobForms.{items_of}
+use Rattle.pathspec_glob.specs.GlobForms.{items_view}
 use Rattle.pathspec_glob.proofs.BracketProofs.{items_before}
 use Rattle.pathspec_glob.proofs.brackets.read_items.Given as goal
 
 abbrev pub invariant-loop-item : goal.invariant-loop-item
 invariant-loop-item l = record {
-  so_far : items_before (items_of l.items.items) (items_from 0 (is_empty l.items.items) l.last l.rest) ≡ items_from 0 true None l.fn.bytes;
+  so_far : items_before (items_view l.items.items) (items_from 0 (is_empty l.items.items) l.last l.rest) ≡ items_from 0 true None l.fn.bytes;
   closing : l.closing ≡ position (λ b. b == close_bracket) l.rest;
 }
 

@@ -9,5 +9,5 @@ returns-clause-read c = first_of (search rules, grind (arith, common_steps))
 
 pub returns-clause-within : goal.returns-clause-within
 returns-clause-within c =
-    let within = subst (λ piece. Within piece (length c.args.rest.now)) (sym (returns-clause-read c)) (piece-within c.args.mode c.args.behind_slash c.args.byte c.args.rest.now) in
+    let within = subst (λ piece. Within piece (length c.args.rest.now)) (sym (returns-clause-read c)) (piece-within c.args.mode c.args.after_slash c.args.byte c.args.rest.now) in
     (within.some, within.all)

@@ -3,4 +3,4 @@ use Rattle.pathspec_glob.proofs.TokenProofs.{run-read}
 use Rattle.pathspec_glob.proofs.reading.run.Goals as goal
 
 pub returns : goal.returns
-returns c = run-read c.args.mode c.args.behind_slash c.args.rest.now _ _ c.count_stars-more.ensures.count (rw take_rest at c.run_token.ensures)
+returns c = run-read c.args.mode c.args.after_slash c.args.rest.now _ _ c.count_stars-more.ensures.count (rw take_rest at c.run_token.ensures)

@@ -16,8 +16,8 @@ returns-in_err-listing-clause-ends g c =
     let p = err_from_is_err_and c.from_residual-in_err-listing.result c.from_residual-in_err-listing.ensures.1 in
     rw (p.1, p.2) (refuses-reading (map string_bytes c.args.words.now) _ _ _ c.in_err-listing.field-0.0 c.in_ok-patterns.ensures.specs c.in_err-listing.ensures.cause)
 
-pub returns-clause-chosen : goal.returns-clause-chosen
-returns-clause-chosen g c =
+pub returns-clause-is_chosen : goal.returns-clause-is_chosen
+returns-clause-is_chosen g c =
     writes_chosen _ (map string_bytes c.args.words.now) (map pattern_spec c.in_ok-patterns.patterns.items) _ _ _ c.in_ok-listing.listing.items c.as_slice-4.result.now c.in_ok-patterns.ensures.specs c.in_ok-listing.ensures.all (rw (c.as_slice-4.ensures.value, c.in_ok-output.ensures, c.as_slice-2.ensures.value, c.as_slice-3.ensures.value) refl) c.write_whole.ensures.whole
 
 pub returns-in_err-patterns-clause-order : goal.returns-in_err-patterns-clause-order

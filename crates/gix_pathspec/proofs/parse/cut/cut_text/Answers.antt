@@ -19,5 +19,5 @@ returns-then-not-contains c =
 
 pub returns : goal.returns
 returns c =
-    rw (c.at_first.ensures.before, c.at_first.ensures.behind) (cut-closed c.args.text.now _ _ _ c.after_first.ensures c.split_short.ensures.short c.split_short.ensures.rest c.in_default.ensures.none _ _ c.split_mark-ended.ensures.ended c.split_mark-ended.ensures.rest _
+    rw (c.at_first.ensures.before, c.at_first.ensures.after) (cut-closed c.args.text.now _ _ _ c.after_first.ensures c.split_short.ensures.short c.split_short.ensures.rest c.in_default.ensures.none _ _ c.split_mark-ended.ensures.ended c.split_mark-ended.ensures.rest _
     (begins-whole open_paren _ _ c.in-Some-strip_prefix.ensures.cases.0 c.in-Some-strip_prefix.ensures.cases.1) (sym c.contains.ensures.value ∙ c.if-not-contains.false))

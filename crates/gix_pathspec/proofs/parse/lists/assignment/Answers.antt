@@ -23,5 +23,5 @@ returns-then-not-contains c =
 pub returns : goal.returns
 unfolding assignment_of
 returns c =
-    rw (sym (begins-first bang c.args.part.now) ∙ c.in_default.ensures.cases, sym (begins-first dash c.args.part.now) ∙ c.in_default-strip_prefix.ensures.cases, sym c.contains.ensures.value ∙ c.if-not-contains.false, ← c.at_first.ensures.before, ← c.at_first.ensures.behind)
+    rw (sym (begins-first bang c.args.part.now) ∙ c.in_default.ensures.cases, sym (begins-first dash c.args.part.now) ∙ c.in_default-strip_prefix.ensures.cases, sym c.contains.ensures.value ∙ c.if-not-contains.false, ← c.at_first.ensures.before, ← c.at_first.ensures.after)
     c.assignment_of_value.ensures

@@ -1,10 +1,10 @@
 use Rattle.std.proofs.Common.{◌≡◌, map, length}
-use Rattle.pathspec_parts.specs.AttributeStates.{attribute_of}
+use Rattle.pathspec_parts.specs.AttributeStates.{assignment_view}
 use Rattle.gix_pathspec.proofs.ListProofs.{in_front, list_from}
 use Rattle.gix_pathspec.proofs.parse.lists.attributes.Given as goal
 
 abbrev pub invariant-loop-rest : goal.invariant-loop-rest
-invariant-loop-rest l = list_from l.fn.list ≡ in_front (map attribute_of l.assignments.items) (list_from l.rest)
+invariant-loop-rest l = list_from l.fn.list ≡ in_front (map assignment_view l.assignments.items) (list_from l.rest)
 
 abbrev pub decreases-loop-rest : goal.decreases-loop-rest
 decreases-loop-rest l = length l.rest

@@ -1,4 +1,4 @@
--- The groups of words, one behind the other.
+-- The groups of words, one after the other.
 use Rattle.std.proofs.Common.{[]}
 use Rattle.gix_pathspec.specs.LongText.{HoldsWords}
 use Rattle.gix_pathspec.proofs.LongTextProofs.{no_words}
@@ -13,4 +13,4 @@ returns c =
     let modes = c.in_ok-write_mode.ensures _ icases in
     let lists = c.in_ok-write_attributes.ensures _ modes in
     let all = rw c.as_slice.ensures.value at lists in
-    all.joined
+    all.join_names

@@ -10,7 +10,7 @@ use Rattle.pathspec_parts.specs.declared.attributes.state.State.TheVariants as o
 use Rattle.pathspec_parts.specs.declared.attributes.state.Assignment.{Assignment as Whole}
 use Rattle.pathspec_parts.specs.contracts.attributes.state.StatePartialEq.TheImpl as states
 use Rattle.pathspec_parts.specs.contracts.attributes.state.AssignmentPartialEq.TheImpl as assignments
-use Rattle.pathspec_parts.specs.AttributeStates.{attribute_of, state_of}
+use Rattle.pathspec_parts.specs.AttributeStates.{assignment_view, state_view}
 use Rattle.gix_pathspec.specs.declared.SearchMode.{SearchMode}
 use Rattle.gix_pathspec.specs.declared.SearchMode.TheVariants.{ShellGlob, Literal, PathAwareGlob}
 use Rattle.gix_pathspec.specs.contracts.SearchMode.{the_type}
@@ -25,33 +25,33 @@ use denote.Enum.Bare.{sameb}
 text_from : (xs ys : List ℕ) → xs ≡ ys → pointwise nat_eq xs ys ≡ true
 text_from xs ys e = subst (λ zs. pointwise nat_eq xs zs ≡ true) e (nat_list_eq_equiv.refl xs)
 
-state_same : (a b : Owned) → (states.eq-value).it a b ≡ true → state_of a ≡ state_of b
+state_same : (a b : Owned) → (states.eq-value).it a b ≡ true → state_view a ≡ state_view b
 state_same owned.Set owned.Set h = refl
 state_same owned.Unset owned.Unset h = refl
 state_same (owned.Value x) (owned.Value y) h = let e = same_text x.items y.items (sym h) in cc
 state_same owned.Unspecified owned.Unspecified h = refl
 state_same _ _ h = cc
 
-state_from : (a b : Owned) → state_of a ≡ state_of b → (states.eq-value).it a b ≡ true
+state_from : (a b : Owned) → state_view a ≡ state_view b → (states.eq-value).it a b ≡ true
 state_from owned.Set owned.Set h = refl
 state_from owned.Unset owned.Unset h = refl
 state_from (owned.Value x) (owned.Value y) h = text_from x.items y.items (let e : x.items ≡ y.items = cc in e)
 state_from owned.Unspecified owned.Unspecified h = refl
 state_from _ _ h = cc
 
-assignment_same : (a b : Whole) → (assignments.eq-value).it a b ≡ true → attribute_of a ≡ attribute_of b
+assignment_same : (a b : Whole) → (assignments.eq-value).it a b ≡ true → assignment_view a ≡ assignment_view b
 assignment_same a b h =
     let p = and_parts (pointwise nat_eq a.name.bytes.items b.name.bytes.items) ((states.eq-value).it a.state b.state) h in
     let name = same_text a.name.bytes.items b.name.bytes.items (sym p.0) in
     let state = state_same a.state b.state p.1 in
     cc
 
-assignment_from : (a b : Whole) → attribute_of a ≡ attribute_of b → (assignments.eq-value).it a b ≡ true
+assignment_from : (a b : Whole) → assignment_view a ≡ assignment_view b → (assignments.eq-value).it a b ≡ true
 assignment_from a b h =
     and_from (pointwise nat_eq a.name.bytes.items b.name.bytes.items) ((states.eq-value).it a.state b.state)
     (text_from a.name.bytes.items b.name.bytes.items (ap (λ x. x.name) h)) (state_from a.state b.state (ap (λ x. x.state) h))
 
-list_same : (xs ys : List Whole) → pointwise (assignments.eq-value).it xs ys ≡ true → map attribute_of xs ≡ map attribute_of ys
+list_same : (xs ys : List Whole) → pointwise (assignments.eq-value).it xs ys ≡ true → map assignment_view xs ≡ map assignment_view ys
 list_same [] [] h = refl
 list_same (a ∷ xs) (b ∷ ys) h =
     let p = and_parts ((assignments.eq-value).it a b) (pointwise (assignments.eq-value).it xs ys) h in
@@ -60,11 +60,11 @@ list_same (a ∷ xs) (b ∷ ys) h =
     cc
 list_same _ _ h = cc
 
-list_from : (xs ys : List Whole) → map attribute_of xs ≡ map attribute_of ys → pointwise (assignments.eq-value).it xs ys ≡ true
+list_from : (xs ys : List Whole) → map assignment_view xs ≡ map assignment_view ys → pointwise (assignments.eq-value).it xs ys ≡ true
 list_from [] [] h = refl
 list_from (a ∷ xs) (b ∷ ys) h =
-    let first : attribute_of a ≡ attribute_of b = cc in
-    let rest : map attribute_of xs ≡ map attribute_of ys = cc in
+    let first : assignment_view a ≡ assignment_view b = cc in
+    let rest : map assignment_view xs ≡ map assignment_view ys = cc in
     and_from ((assignments.eq-value).it a b) (pointwise (assignments.eq-value).it xs ys) (assignment_from a b first) (list_from xs ys rest)
 list_from _ _ h = cc
 
@@ -132,7 +132,7 @@ returns-in_err-cloned-clause-equal c = compares_specs
 pub returns-clause-ok : goal.returns-clause-ok
 returns-clause-ok c =
     let path = each_same c.args.self.now.path.items c.in_ok-clone.field-0.items c.in_ok-clone.ensures.cases.0 in
-    let list = c.in_ok-cloned.ensures ∙ ap (map attribute_of) c.as_slice.ensures.value in
+    let list = c.in_ok-cloned.ensures ∙ ap (map assignment_view) c.as_slice.ensures.value in
     rw (path, list) refl
 
 pub returns-clause-equal : goal.returns-clause-equal

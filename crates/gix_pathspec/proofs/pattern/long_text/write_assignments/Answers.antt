@@ -2,11 +2,11 @@
 use Rattle.std.proofs.Common.{◌∙◌, refl, ap, map}
 use Rattle.std.proofs.lemmas.Option.{slice_get_read, slice_get-map}
 use Rattle.std.specs.Option.{option_map}
-use Rattle.pathspec_parts.specs.AttributeStates.{attribute_of}
-use Rattle.gix_pathspec.proofs.LongTextProofs.{assignment-behind}
+use Rattle.pathspec_parts.specs.AttributeStates.{assignment_view}
+use Rattle.gix_pathspec.proofs.LongTextProofs.{assignment-after}
 use Rattle.gix_pathspec.proofs.pattern.long_text.write_assignments.Goals as goal
 
 pub loop-place-preserved : goal.loop-place-preserved
 loop-place-preserved c =
-    let here = slice_get-map attribute_of c.args.assignments.now c.loop-place.place ∙ ap (option_map attribute_of) (slice_get_read c.args.assignments.now _ c.loop-place.place c.index-assignments-place.result refl c.loop-place-test.true c.index-assignments-place.is) in
-    assignment-behind (map attribute_of c.args.assignments.now) c.loop-place.place (attribute_of c.index-assignments-place.result) _ _ _ _ c.loop-place.invariant c.in_ok-write_space.ensures c.in_ok-write_assignment.ensures here
+    let here = slice_get-map assignment_view c.args.assignments.now c.loop-place.place ∙ ap (option_map assignment_view) (slice_get_read c.args.assignments.now _ c.loop-place.place c.index-assignments-place.result refl c.loop-place-test.true c.index-assignments-place.is) in
+    assignment-after (map assignment_view c.args.assignments.now) c.loop-place.place (assignment_view c.index-assignments-place.result) _ _ _ _ c.loop-place.invariant c.in_ok-write_space.ensures c.in_ok-write_assignment.ensures here

@@ -1,4 +1,4 @@
--- Byte by byte: the path goes on behind the directory with a slash, or it doesn't lie below.
+-- Byte by byte: the path goes on after the directory with a slash, or it doesn't lie below.
 use Rattle.std.proofs.Common.{◌∙◌}
 use Rattle.gix_pathspec.proofs.MatchingProofs.{below-folded_slash, below-folded_other, below-folded_short}
 use Rattle.gix_pathspec.proofs.search.matching.is_below.Goals.{else-n-path-via-then-n-path+else-path-n-eq47, else-n-path-via-else-n-path}

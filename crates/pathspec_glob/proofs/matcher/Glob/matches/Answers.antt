@@ -3,7 +3,7 @@ use Rattle.std.proofs.lemmas.List.{drop_more, take_rest}
 use Rattle.std.proofs.Math.ListN.{drop_of_length-le}
 use Rattle.std.proofs.Math.Nat.{mul-le-mul_left, mul-suc}
 use Rattle.pathspec_glob.specs.GlobRelation.{matches}
-use Rattle.pathspec_glob.specs.GlobPlaces.{leads}
+use Rattle.pathspec_glob.specs.GlobPlaces.{accepts}
 use Rattle.pathspec_glob.proofs.AnswerProofs.{glob-answers, glob-answers-tail}
 use Rattle.pathspec_glob.proofs.matcher.Glob.matches.Goals as goal
 
@@ -12,7 +12,7 @@ at-end : (c : goal.After-reach_end) → c.reach_end.result ≡ matches c.self.in
 at-end c =
     let places = c.loop-position.places in
     let ended : drop c.loop-position.position c.args.text.now ≡ [] = drop_of_length-le c.args.text.now {i = c.loop-position.position} c.loop-position-test.false in
-    c.reach_end.ensures.leads c.args.case ∙ ((rw ended at c.loop-position.invariant.leads))
+    c.reach_end.ensures.accepts c.args.case ∙ ((rw ended at c.loop-position.invariant.accepts))
 
 pub returns-clause-answer : goal.returns-clause-answer
 returns-clause-answer c =
@@ -35,11 +35,11 @@ loop-position-preserved c =
     let next : drop position text ≡ get_or text position 0 ∷ drop (position + 1) text = drop_more text position 0 c.loop-position-test.true in
     let advance = c.if-not-advance.ensures in
     let invariant = c.loop-position.invariant in
-    let before = leads c.self.inside.tokens.mode c.args.case c.self.inside.tokens.tokens c.loop-position.places.entered.items c.loop-position.places.staying.items in
+    let before = accepts c.self.inside.tokens.mode c.args.case c.self.inside.tokens.tokens c.loop-position.places.entered.items c.loop-position.places.staying.items in
     let rest = take_rest text position in
     let tested = advance.tested refl in
     record {
-      leads = advance.leads (get_or text position 0) (drop (position + 1) text) (rest ∙ next) ∙ ap before rest ∙ invariant.leads;
+      accepts = advance.accepts (get_or text position 0) (drop (position + 1) text) (rest ∙ next) ∙ ap before rest ∙ invariant.accepts;
       bounds = advance.bounds;
       least = omega (arith, tested, invariant.least);
       most = more-steps (length c.self.inside.tokens.tokens) position c.loop-position.steps.last c.advance.new.steps.last invariant.most advance.steps;
@@ -55,9 +55,9 @@ no-match c =
     let text = c.args.text.now in
     let next : drop position text ≡ get_or text position 0 ∷ drop (position + 1) text = drop_more text position 0 c.loop-position-test.true in
     let advance = c.if-not-advance.ensures in
-    let before = leads c.self.inside.tokens.mode c.args.case c.self.inside.tokens.tokens c.loop-position.places.entered.items c.loop-position.places.staying.items in
+    let before = accepts c.self.inside.tokens.mode c.args.case c.self.inside.tokens.tokens c.loop-position.places.entered.items c.loop-position.places.staying.items in
     let rest = take_rest text position in
-    sym (advance.none refl (drop (position + 1) text)) ∙ advance.leads (get_or text position 0) (drop (position + 1) text) (rest ∙ next) ∙ ap before rest ∙ c.loop-position.invariant.leads
+    sym (advance.none refl (drop (position + 1) text)) ∙ advance.accepts (get_or text position 0) (drop (position + 1) text) (rest ∙ next) ∙ ap before rest ∙ c.loop-position.invariant.accepts
 
 pub returns-then-not-advance-clause-answer : goal.returns-then-not-advance-clause-answer
 returns-then-not-advance-clause-answer c =

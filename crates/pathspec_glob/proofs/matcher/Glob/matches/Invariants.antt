@@ -1,12 +1,12 @@
 use Rattle.std.proofs.Common.{◌≡◌, ◌+◌, ◌*◌, ◌≤◌, length, drop}
 use Rattle.pathspec_glob.specs.GlobRelation.{matches}
 use Rattle.pathspec_glob.specs.Counts.{Counts}
-use Rattle.pathspec_glob.specs.GlobPlaces.{leads, HoldsWithin}
+use Rattle.pathspec_glob.specs.GlobPlaces.{accepts, HoldsWithin}
 use Rattle.pathspec_glob.proofs.matcher.Glob.matches.Given as goal
 
 abbrev pub invariant-loop-position : goal.invariant-loop-position
 invariant-loop-position l = record {
-  leads : leads l.self-inside.tokens.mode l.case l.self-inside.tokens.tokens l.places.entered.items l.places.staying.items (drop l.position l.text)
+  accepts : accepts l.self-inside.tokens.mode l.case l.self-inside.tokens.tokens l.places.entered.items l.places.staying.items (drop l.position l.text)
       ≡ matches l.self-inside.tokens.mode l.case l.self-inside.tokens.tokens l.text;
   bounds : HoldsWithin (length l.self-inside.tokens.tokens) l.places.first l.places.end l.places.entered.items l.places.staying.items;
   least : l.position ≤ l.steps.last;

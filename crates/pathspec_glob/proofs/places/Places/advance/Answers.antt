@@ -2,10 +2,10 @@ use Rattle.std.proofs.Common.{rules, ◌≡◌, ◌+◌, ◌<◌, ◌≤◌, ℕ
 use Rattle.std.specs.Prelude.{◌⊎◌}
 use Rattle.std.proofs.lemmas.Bool.{ltb-false, or_parts}
 use Rattle.std.proofs.lemmas.List.{length-set, get_or-set_other}
-use Rattle.pathspec_glob.specs.GlobPlaces.{holds, is_inside}
+use Rattle.pathspec_glob.specs.GlobPlaces.{holds, either_holds}
 use Rattle.pathspec_glob.specs.GlobSteps.{is_wide_at, tests_at}
-use Rattle.pathspec_glob.proofs.LeadsProofs.{byte-step, none-step, length-closed}
-use Rattle.pathspec_glob.proofs.WindowProofs.{window-leads, before-none, stopped-come, stopped-leads, comes-before, comes-behind, end-least, first-within, end-within, before-first, left-behind}
+use Rattle.pathspec_glob.proofs.AcceptProofs.{byte-step, none-step, length-rows_closure}
+use Rattle.pathspec_glob.proofs.WindowProofs.{window-accepts, before-none, stopped-come, stopped-accepts, comes-before, comes-after, end-least, first-within, end-within, before-first, left-after}
 use Rattle.pathspec_glob.proofs.places.Places.advance.Goals.{then-loop-place-test+else-place-len, else-loop-place-test}
 use Rattle.pathspec_glob.proofs.places.Places.advance.Goals as goal
 
@@ -35,8 +35,8 @@ loop-place-init c =
     let staying = c.args.self.now.staying.items in
     let first = c.args.self.now.first in
     record {
-      leads = λ b bs is. rw (before-none mode c.args.case first tokens entered staying bs window.before_entered window.before_staying)
-          (window-leads mode c.args.case first tokens entered staying (b ∷ bs) window.within window.before_entered window.before_staying);
+      accepts = λ b bs is. rw (before-none mode c.args.case first tokens entered staying bs window.before_entered window.before_staying)
+          (window-accepts mode c.args.case first tokens entered staying (b ∷ bs) window.within window.before_entered window.before_staying);
       none = λ same. refl;
       nothing = λ same rest. before-none mode c.args.case first tokens entered staying rest window.before_entered window.before_staying;
       least = search rules;
@@ -49,8 +49,8 @@ loop-place-init c =
       before_staying = window.before_staying;
       left_entered = λ i g h. absurd (let no : ⊥ = omega arith in no);
       left_staying = λ i g h. absurd (let no : ⊥ = omega arith in no);
-      behind_entered = window.behind_entered;
-      behind_staying = window.behind_staying;
+      after_entered = window.after_entered;
+      after_staying = window.after_staying;
       entered = refl;
       staying = refl;
     }
@@ -67,20 +67,20 @@ loop-place-preserved c =
     let visit = c.visit-arrives.ensures in
     let arrives = c.loop-place.arrives in
     let come = c.visit-arrives.new.self.entered.items in
-    let stays = c.visit-arrives.new.self.staying.items in
+    let matches_within = c.visit-arrives.new.self.staying.items in
     let end = c.loop-place.self.end in
     let within : place < length tokens = omega (arith, c.if-place-len.true, c.len.ensures) in
     let longer : length tokens < length entered = omega (arith, c.requires.room.entered, invariant.entered) in
     let long : length tokens ≤ length staying = omega (arith, c.requires.room.staying, invariant.staying) in
-    let inside = is_inside entered staying place in
+    let inside = either_holds entered staying place in
     let stay = (inside && tests_at mode case (drop place tokens) c.args.text.now) && is_wide_at (drop place tokens) in
     let held = c.holds-held.result in
-    let off : held ≡ false → (holds come place ≡ false) × (holds stays place ≡ false) = λ n. or_parts (holds come place) (holds stays place) (sym c.holds-held.ensures ∙ n) in
+    let off : held ≡ false → (holds come place ≡ false) × (holds matches_within place ≡ false) = λ n. or_parts (holds come place) (holds matches_within place) (sym c.holds-held.ensures ∙ n) in
     let least_end = end-least inside place end in
     record {
-      leads = λ b bs is. rw (add-one place, visit.entered, visit.staying, visit.behind, is)
-          (sym (byte-step mode case place tokens entered staying arrives b bs within longer long) ∙ invariant.leads b bs is);
-      none = λ same. let off = not_raised inside _ _ _ visit.steps invariant.least same in rw (visit.behind, off) refl;
+      accepts = λ b bs is. rw (add-one place, visit.entered, visit.staying, visit.after, is)
+          (sym (byte-step mode case place tokens entered staying arrives b bs within longer long) ∙ invariant.accepts b bs is);
+      none = λ same. let off = not_raised inside _ _ _ visit.steps invariant.least same in rw (visit.after, off) refl;
       nothing = λ same rest.
           let off = not_raised inside _ _ _ visit.steps invariant.least same in
           let before = as_before inside _ _ _ visit.steps invariant.least same in
@@ -91,28 +91,28 @@ loop-place-preserved c =
       most = let more = raised_most inside _ _ _ visit.steps invariant.most in omega arith;
       counted = λ before was. visit.counted before (invariant.counted before was);
       within = omega arith;
-      first = rw c.first_behind-first.ensures (first-within held place c.loop-place.first invariant.first);
-      end = rw c.end_behind-end.ensures (end-within held place c.loop-place.end invariant.end);
+      first = rw c.window_start-first.ensures (first-within held place c.loop-place.first invariant.first);
+      end = rw c.window_end-end.ensures (end-within held place c.loop-place.end invariant.end);
       before_entered = λ i h. before-first held place c.loop-place.first come
-          (λ j k. rw visit.entered (comes-before mode tokens place j entered staying arrives (omega (arith, k, invariant.first)) ∙ invariant.before_entered j k)) (λ n. (off n).0) i (rw c.first_behind-first.ensures at h);
-      before_staying = λ i h. before-first held place c.loop-place.first stays
-          (λ j k. rw visit.staying (get_or-set_other staying place j stay false (λ e. omega (arith, k, invariant.first, e)) ∙ invariant.before_staying j k)) (λ n. (off n).1) i (rw c.first_behind-first.ensures at h);
-      left_entered = λ i g h. left-behind held place c.loop-place.end come
-          (λ j k l. rw visit.entered (comes-before mode tokens place j entered staying arrives l ∙ invariant.left_entered j k l)) (λ n. (off n).0) i (rw c.end_behind-end.ensures at g) h;
-      left_staying = λ i g h. left-behind held place c.loop-place.end stays
-          (λ j k l. rw visit.staying (get_or-set_other staying place j stay false (λ e. omega (arith, l, e)) ∙ invariant.left_staying j k l)) (λ n. (off n).1) i (rw c.end_behind-end.ensures at g) h;
-      behind_entered = λ i far short.
+          (λ j k. rw visit.entered (comes-before mode tokens place j entered staying arrives (omega (arith, k, invariant.first)) ∙ invariant.before_entered j k)) (λ n. (off n).0) i (rw c.window_start-first.ensures at h);
+      before_staying = λ i h. before-first held place c.loop-place.first matches_within
+          (λ j k. rw visit.staying (get_or-set_other staying place j stay false (λ e. omega (arith, k, invariant.first, e)) ∙ invariant.before_staying j k)) (λ n. (off n).1) i (rw c.window_start-first.ensures at h);
+      left_entered = λ i g h. left-after held place c.loop-place.end come
+          (λ j k l. rw visit.entered (comes-before mode tokens place j entered staying arrives l ∙ invariant.left_entered j k l)) (λ n. (off n).0) i (rw c.window_end-end.ensures at g) h;
+      left_staying = λ i g h. left-after held place c.loop-place.end matches_within
+          (λ j k l. rw visit.staying (get_or-set_other staying place j stay false (λ e. omega (arith, l, e)) ∙ invariant.left_staying j k l)) (λ n. (off n).1) i (rw c.window_end-end.ensures at g) h;
+      after_entered = λ i far short.
           let past = rw visit.end at far in
-          rw visit.entered (comes-behind mode tokens place end i entered staying arrives (omega (arith, past, least_end, c.loop-place-test.true)) past ∙ invariant.behind_entered i (omega (arith, past, least_end)) short);
-      behind_staying = λ i far short.
+          rw visit.entered (comes-after mode tokens place end i entered staying arrives (omega (arith, past, least_end, c.loop-place-test.true)) past ∙ invariant.after_entered i (omega (arith, past, least_end)) short);
+      after_staying = λ i far short.
           let past = rw visit.end at far in
-          rw visit.staying (get_or-set_other staying place i stay false (λ e. omega (arith, past, least_end, c.loop-place-test.true, e)) ∙ invariant.behind_staying i (omega (arith, past, least_end)) short);
-      entered = rw visit.entered (length-set _ place arrives ∙ length-closed mode place tokens entered staying ∙ invariant.entered);
+          rw visit.staying (get_or-set_other staying place i stay false (λ e. omega (arith, past, least_end, c.loop-place-test.true, e)) ∙ invariant.after_staying i (omega (arith, past, least_end)) short);
+      entered = rw visit.entered (length-set _ place arrives ∙ length-rows_closure mode place tokens entered staying ∙ invariant.entered);
       staying = rw visit.staying (length-set staying place _ ∙ invariant.staying);
     }
 
-pub returns-clause-leads : goal.returns-clause-leads
-returns-clause-leads c = λ b bs is.
+pub returns-clause-accepts : goal.returns-clause-accepts
+returns-clause-accepts c = λ b bs is.
     let tokens = c.args.tokens.now in
     let place = c.loop-place.place in
     let invariant = c.loop-place.invariant in
@@ -121,8 +121,8 @@ returns-clause-leads c = λ b bs is.
       | then-loop-place-test+else-place-len w ↦ inl (omega (arith, w.if-place-len.false, w.len.ensures, invariant.within))
       | else-loop-place-test w ↦ inr w.loop-place-test.false
     ] in
-    rw is (stopped-leads tokens.mode c.args.case place c.loop-place.self.end tokens.tokens c.loop-place.self.entered.items c.loop-place.self.staying.items
-    invariant.within stop invariant.behind_entered invariant.behind_staying c.loop-place.arrives b bs longer ∙ invariant.leads b bs is)
+    rw is (stopped-accepts tokens.mode c.args.case place c.loop-place.self.end tokens.tokens c.loop-place.self.entered.items c.loop-place.self.staying.items
+    invariant.within stop invariant.after_entered invariant.after_staying c.loop-place.arrives b bs longer ∙ invariant.accepts b bs is)
 
 pub returns-clause-none : goal.returns-clause-none
 returns-clause-none c = λ no rest.
@@ -137,4 +137,4 @@ returns-clause-none c = λ no rest.
     let same : c.loop-place.steps.last ≡ c.args.steps.now.last =
     omega (arith, ltb-false c.last-before.result c.last.result no, c.last-before.ensures, c.last.ensures, invariant.least) in
     rw (invariant.none same) (stopped-come tokens.mode c.args.case place c.loop-place.self.end tokens.tokens c.loop-place.self.entered.items c.loop-place.self.staying.items
-    invariant.within stop invariant.behind_entered invariant.behind_staying false rest longer ∙ rw (invariant.nothing same rest) refl)
+    invariant.within stop invariant.after_entered invariant.after_staying false rest longer ∙ rw (invariant.nothing same rest) refl)

@@ -1,8 +1,8 @@
 use Rattle.std.proofs.Common.{rules, ◌≡◌, ◌<◌, ◌≤◌, false, [], length, sym, ◌∙◌, add-one, arith}
 use Rattle.std.proofs.lemmas.List.{get_or_default}
-use Rattle.pathspec_glob.specs.GlobPlaces.{holds, is_inside}
-use Rattle.pathspec_glob.proofs.LeadsProofs.{end-step, end-end, length-closed}
-use Rattle.pathspec_glob.proofs.WindowProofs.{window-leads, behind-none, closed-behind, end-least}
+use Rattle.pathspec_glob.specs.GlobPlaces.{holds, either_holds}
+use Rattle.pathspec_glob.proofs.AcceptProofs.{end-step, end-end, length-rows_closure}
+use Rattle.pathspec_glob.proofs.WindowProofs.{window-accepts, after-none, rows_closure-after, end-least}
 use Rattle.pathspec_glob.proofs.places.Places.reach_end.Goals.{then-loop-place-test+else-place-len, else-loop-place-test}
 use Rattle.pathspec_glob.proofs.places.Places.reach_end.Goals as goal
 
@@ -10,10 +10,10 @@ pub loop-place-init : goal.loop-place-init
 loop-place-init c =
     let window = c.requires.bounds in
     record {
-      leads = λ case. window-leads c.args.tokens.now.mode case c.args.self.now.first c.args.tokens.now.tokens c.args.self.now.entered.items c.args.self.now.staying.items [] window.within window.before_entered window.before_staying;
+      accepts = λ case. window-accepts c.args.tokens.now.mode case c.args.self.now.first c.args.tokens.now.tokens c.args.self.now.entered.items c.args.self.now.staying.items [] window.within window.before_entered window.before_staying;
       within = window.within;
-      behind_entered = window.behind_entered;
-      behind_staying = window.behind_staying;
+      after_entered = window.after_entered;
+      after_staying = window.after_staying;
       entered = search rules;
       staying = search rules;
     }
@@ -27,22 +27,22 @@ loop-place-preserved c =
     let invariant = c.loop-place.invariant in
     let within : place < length tokens.tokens = omega (arith, c.if-place-len.true, c.len.ensures) in
     let longer : length tokens.tokens < length entered = omega (arith, c.requires.room.entered, invariant.entered) in
-    let held = is_inside entered staying place in
+    let held = either_holds entered staying place in
     record {
-      leads = λ case. rw (add-one place, c.close.ensures.entered, c.close.ensures.staying) (sym (end-step tokens.mode case place tokens.tokens entered staying within longer) ∙ invariant.leads case);
+      accepts = λ case. rw (add-one place, c.close.ensures.entered, c.close.ensures.staying) (sym (end-step tokens.mode case place tokens.tokens entered staying within longer) ∙ invariant.accepts case);
       within = omega (arith, within);
-      behind_entered = λ i far short.
+      after_entered = λ i far short.
           let end = rw c.close.ensures.end at far in
-          rw c.close.ensures.entered (closed-behind tokens.mode tokens.tokens place c.loop-place.self.end i entered staying end ∙ invariant.behind_entered i (let least = end-least held place c.loop-place.self.end in omega arith) short);
-      behind_staying = λ i far short.
+          rw c.close.ensures.entered (rows_closure-after tokens.mode tokens.tokens place c.loop-place.self.end i entered staying end ∙ invariant.after_entered i (let least = end-least held place c.loop-place.self.end in omega arith) short);
+      after_staying = λ i far short.
           let end = rw c.close.ensures.end at far in
-          rw c.close.ensures.staying (invariant.behind_staying i (let least = end-least held place c.loop-place.self.end in omega arith) short);
-      entered = rw c.close.ensures.entered (length-closed tokens.mode place tokens.tokens entered staying ∙ invariant.entered);
+          rw c.close.ensures.staying (invariant.after_staying i (let least = end-least held place c.loop-place.self.end in omega arith) short);
+      entered = rw c.close.ensures.entered (length-rows_closure tokens.mode place tokens.tokens entered staying ∙ invariant.entered);
       staying = search rules;
     }
 
-pub returns-clause-leads : goal.returns-clause-leads
-returns-clause-leads c = λ case.
+pub returns-clause-accepts : goal.returns-clause-accepts
+returns-clause-accepts c = λ case.
     let tokens = c.args.tokens.now in
     let entered = c.loop-place.self.entered.items in
     let staying = c.loop-place.self.staying.items in
@@ -53,12 +53,12 @@ returns-clause-leads c = λ case.
     elim c.loop-place-test.branch [
       | then-loop-place-test+else-place-len w ↦
           let all : c.loop-place.place ≡ n = omega (arith, w.if-place-len.false, w.len.ensures, invariant.within) in
-          there ∙ sym (end-end tokens.mode case tokens.tokens entered staying) ∙ (rw all at (invariant.leads case))
+          there ∙ sym (end-end tokens.mode case tokens.tokens entered staying) ∙ (rw all at (invariant.accepts case))
       | else-loop-place-test w ↦
           let past : c.loop-place.self.end ≤ n = omega (arith, w.loop-place-test.false, invariant.within) in
-          there ∙ invariant.behind_entered n past (omega arith)
-          ∙ sym (behind-none tokens.mode case c.loop-place.place tokens.tokens entered staying [] invariant.within
-          (λ i far short. invariant.behind_entered i (omega (arith, w.loop-place-test.false, far)) short)
-          (λ i far short. invariant.behind_staying i (omega (arith, w.loop-place-test.false, far)) short))
-          ∙ invariant.leads case
+          there ∙ invariant.after_entered n past (omega arith)
+          ∙ sym (after-none tokens.mode case c.loop-place.place tokens.tokens entered staying [] invariant.within
+          (λ i far short. invariant.after_entered i (omega (arith, w.loop-place-test.false, far)) short)
+          (λ i far short. invariant.after_staying i (omega (arith, w.loop-place-test.false, far)) short))
+          ∙ invariant.accepts case
     ]

@@ -1,15 +1,15 @@
 use Rattle.std.proofs.Common.{◌≡◌, ◌≤◌, ◌<◌, ℕ, false, ◌-◌, [], length, drop}
 use Rattle.pathspec_glob.specs.declared.Case.{Case}
-use Rattle.pathspec_glob.specs.GlobPlaces.{holds, leads}
+use Rattle.pathspec_glob.specs.GlobPlaces.{holds, accepts}
 use Rattle.pathspec_glob.proofs.places.Places.reach_end.Given as goal
 
 abbrev pub invariant-loop-place : goal.invariant-loop-place
 invariant-loop-place l = record {
-  leads : (case : Case) → leads l.tokens.mode case (drop l.place l.tokens.tokens) (drop l.place l.self.entered.items) (drop l.place l.self.staying.items) []
-      ≡ leads l.tokens.mode case l.tokens.tokens l.fn.self.entered.items l.fn.self.staying.items [];
+  accepts : (case : Case) → accepts l.tokens.mode case (drop l.place l.tokens.tokens) (drop l.place l.self.entered.items) (drop l.place l.self.staying.items) []
+      ≡ accepts l.tokens.mode case l.tokens.tokens l.fn.self.entered.items l.fn.self.staying.items [];
   within : l.place ≤ length l.tokens.tokens;
-  behind_entered : (i : ℕ) → l.self.end ≤ i → i ≤ length l.tokens.tokens → holds l.self.entered.items i ≡ false;
-  behind_staying : (i : ℕ) → l.self.end ≤ i → i < length l.tokens.tokens → holds l.self.staying.items i ≡ false;
+  after_entered : (i : ℕ) → l.self.end ≤ i → i ≤ length l.tokens.tokens → holds l.self.entered.items i ≡ false;
+  after_staying : (i : ℕ) → l.self.end ≤ i → i < length l.tokens.tokens → holds l.self.staying.items i ≡ false;
   entered : length l.self.entered.items ≡ length l.fn.self.entered.items;
   staying : l.self.staying.items ≡ l.fn.self.staying.items;
 }

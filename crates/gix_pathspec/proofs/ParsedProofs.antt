@@ -11,17 +11,17 @@ use Rattle.gix_pathspec.specs.Results.{all_ok, ◌>>=◌}
 use Rattle.gix_pathspec.specs.Faults.{Fault}
 use Rattle.gix_pathspec.specs.Faults.Fault.{EmptyAttributes, InvalidName, InvalidValueByte, LiteralWithGlob, SecondAttributes}
 use Rattle.pathspec_parts.specs.Attributes.{State, Assignment, is_attribute_name}
-use Rattle.gix_pathspec.specs.AttributeLists.{Written, name_of, named, valued, value_of, units_from, byte_of, is_value_byte, assignment_of, assignments_of, parts}
+use Rattle.gix_pathspec.specs.AttributeLists.{ValueUnit, name_of, assignment_with_state, assignment_with_value, value_of, units_from, unit_byte, is_value_byte, assignment_of, assignments_of, parts}
 use Rattle.pathspec_parts.specs.Attributes.State.{Set, Unset, Value, Unspecified}
-use Rattle.gix_pathspec.specs.AttributeLists.Written.{Plain, Escaped, LoneBackslash}
+use Rattle.gix_pathspec.specs.AttributeLists.ValueUnit.{Plain, Escaped, LoneBackslash}
 use Rattle.gix_pathspec.specs.Signatures.{signature_bits}
 use Rattle.gix_pathspec.specs.Specs.{Spec, top, icase, exclude, must_be_dir, has}
 use Rattle.pathspec_parts.specs.Paths.{ends_with_slash, without_last_slash}
-use Rattle.gix_pathspec.specs.Reading.{Keyword, keyword_of, Magic, after_piece, after_pieces, same_mode, long_pieces, Cut, short_bits, magic_of, spec_of, no_magic, nil_spec, Reads, no_defaults}
+use Rattle.gix_pathspec.specs.Reading.{Keyword, keyword_of, Magic, with_piece, with_pieces, same_mode, long_pieces, Cut, short_bits, magic_of, spec_of, no_magic, nil_spec, Reads, no_defaults}
 use Rattle.gix_pathspec.specs.Reading.Keyword.{Adds, Picks, Ignored, Lists, Unknown}
 use Rattle.gix_pathspec.specs.Reading.Reads.{verbatim, nothing, plain, magic}
 use Rattle.gix_pathspec.specs.LongText.{long_text}
-use Rattle.gix_pathspec.specs.RoundTrips.{is_written_state, is_set, is_sayable_assignment, IsSayable, RoundTripIsExact, SaidIsSayable, SaidComesBack}
+use Rattle.gix_pathspec.specs.RoundTrips.{is_expressible_state, is_set, is_expressible_assignment, IsExpressible, RoundTripIsExact, ParsedIsExpressible, ParsedRoundTrips}
 use Rattle.gix_pathspec.proofs.ReadingProofs.{reading_is_exact}
 use Rattle.gix_pathspec.proofs.RoundTripProofs.{round_trip}
 
@@ -58,47 +58,47 @@ all_ok-passes f q p (x ∷ xs) ys w h e =
 -- ---- attributes
 
 -- a byte that a unit stands for is one of values
-byte_said : (w : List ℕ) (unit : Written) (b : ℕ) → byte_of w unit ≡ Ok b → is_value_byte b ≡ true
+byte_said : (w : List ℕ) (unit : ValueUnit) (b : ℕ) → unit_byte w unit ≡ Ok b → is_value_byte b ≡ true
 byte_said w (Plain c) b h = let k = cond_ok (is_value_byte c) c b (InvalidValueByte c) h in subst (λ (x : ℕ). is_value_byte x ≡ true) k.1 k.0
 byte_said w (Escaped c) b h = let k = cond_ok (is_value_byte c) c b (InvalidValueByte c) h in subst (λ (x : ℕ). is_value_byte x ≡ true) k.1 k.0
 byte_said w LoneBackslash b h = absurd (let q : ⊥ = cc in q)
 
 -- all pass a test that never fails
-all_true : (units : List Written) → list_all (λ u. true) units ≡ true
+all_true : (units : List ValueUnit) → list_all (λ u. true) units ≡ true
 all_true [] = refl
 all_true (u ∷ units) = all_true units
 
 -- so a value that is written has only such bytes
 value_said : (w v : List ℕ) → value_of w ≡ Ok v → list_all is_value_byte v ≡ true
-value_said w v h = all_ok-passes (byte_of w) (λ u. true) is_value_byte (units_from false w) v (λ u b t e. byte_said w u b e) (all_true (units_from false w)) h
+value_said w v h = all_ok-passes (unit_byte w) (λ u. true) is_value_byte (units_from false w) v (λ u b t e. byte_said w u b e) (all_true (units_from false w)) h
 
 -- a name with its state, where both can be said
-named_said : (state : State) (name : List ℕ) (a : Assignment) → is_written_state state ≡ true → (is_set state && is_empty name) ≡ false → named state name ≡ Ok a → is_sayable_assignment a ≡ true
+named_said : (state : State) (name : List ℕ) (a : Assignment) → is_expressible_state state ≡ true → (is_set state && is_empty name) ≡ false → assignment_with_state state name ≡ Ok a → is_expressible_assignment a ≡ true
 named_said state name a w n h =
     let k = bind_ok (name_of name) (λ m. Ok (record { name = m; state = state })) a h in
     let c = cond_ok (is_attribute_name name) name k.0 (InvalidName name) k.1 in
     let e : ◌≡◌ {A = Assignment} (record { name = name; state = state }) a = ap (λ m. record { name = m; state = state }) c.1 ∙ ok_same (record { name = k.0; state = state }) a k.2 in
-    subst (λ x. is_sayable_assignment x ≡ true) e
-    (and_from (is_attribute_name name && is_written_state state) (not (is_set state && is_empty name)) (and_from (is_attribute_name name) (is_written_state state) c.0 w) (not_from_false (is_set state && is_empty name) n))
+    subst (λ x. is_expressible_assignment x ≡ true) e
+    (and_from (is_attribute_name name && is_expressible_state state) (not (is_set state && is_empty name)) (and_from (is_attribute_name name) (is_expressible_state state) c.0 w) (not_from_false (is_set state && is_empty name) n))
 
 -- the assignment of a part by the tests that are made
 abbrev assignment_by : Bool → Bool → Bool → List ℕ → Result Assignment Fault
 assignment_by b d e part =
-    cond b (named Unspecified (drop 1 part)) (cond d (named Unset (drop 1 part)) (cond e (valued (before_first (λ b. b == equals_sign) part) (after_first (λ b. b == equals_sign) part)) (named Set part)))
+    cond b (assignment_with_state Unspecified (drop 1 part)) (cond d (assignment_with_state Unset (drop 1 part)) (cond e (assignment_with_value (before_first (λ b. b == equals_sign) part) (after_first (λ b. b == equals_sign) part)) (assignment_with_state Set part)))
 
 -- each of the four kinds of part gives an assignment that can be said
-assignment_by-said : (b d e : Bool) (part : List ℕ) (a : Assignment) → is_empty part ≡ false → assignment_by b d e part ≡ Ok a → is_sayable_assignment a ≡ true
+assignment_by-said : (b d e : Bool) (part : List ℕ) (a : Assignment) → is_empty part ≡ false → assignment_by b d e part ≡ Ok a → is_expressible_assignment a ≡ true
 assignment_by-said true d e part a n h = named_said Unspecified (drop 1 part) a refl refl h
 assignment_by-said false true e part a n h = named_said Unset (drop 1 part) a refl refl h
 assignment_by-said false false true part a n h =
     let name = before_first (λ b. b == equals_sign) part in
     let written = after_first (λ b. b == equals_sign) part in
-    let k = bind_ok (value_of written) (λ v. named (Value v) name) a h in
+    let k = bind_ok (value_of written) (λ v. assignment_with_state (Value v) name) a h in
     named_said (Value k.0) name a (value_said written k.0 k.1) refl k.2
 assignment_by-said false false false part a n h = named_said Set part a refl n h
 
 -- so does a part that is not empty
-assignment_said : (part : List ℕ) (a : Assignment) → not (is_empty part) ≡ true → assignment_of part ≡ Ok a → is_sayable_assignment a ≡ true
+assignment_said : (part : List ℕ) (a : Assignment) → not (is_empty part) ≡ true → assignment_of part ≡ Ok a → is_expressible_assignment a ≡ true
 unfolding assignment_of
 assignment_said part a n h =
     assignment_by-said (first_is (λ b. b == bang) part) (first_is (λ b. b == dash) part) (list_any (λ b. b == equals_sign) part) part a (not-true (is_empty part) n) h
@@ -113,12 +113,12 @@ filter-passes p (x ∷ xs) = elim (cases_Bool (p x)) [
 
 -- so do the parts of a list
 parts_said : (empty : Bool) (parts : List (List ℕ)) (list : List Assignment) → list_all (λ part. not (is_empty part)) parts ≡ true → cond empty (Err EmptyAttributes) (all_ok (map assignment_of parts)) ≡ Ok list
-    → list_all is_sayable_assignment list ≡ true
+    → list_all is_expressible_assignment list ≡ true
 parts_said true parts list f h = absurd (let q : ⊥ = cc in q)
-parts_said false parts list f h = all_ok-passes assignment_of (λ part. not (is_empty part)) is_sayable_assignment parts list assignment_said f h
+parts_said false parts list f h = all_ok-passes assignment_of (λ part. not (is_empty part)) is_expressible_assignment parts list assignment_said f h
 
 -- The assignments that a list gives can be said.
-assignments_said : (text : List ℕ) (list : List Assignment) → assignments_of text ≡ Ok list → list_all is_sayable_assignment list ≡ true
+assignments_said : (text : List ℕ) (list : List Assignment) → assignments_of text ≡ Ok list → list_all is_expressible_assignment list ≡ true
 unfolding assignments_of
 assignments_said text list h = parts_said (is_empty text) (parts text) list (filter-passes (λ part. not (is_empty part)) (slice_split (λ b. b == space) text)) h
 
@@ -127,7 +127,7 @@ assignments_said text list h = parts_said (is_empty text) (parts text) list (fil
 -- magic of known bits, and of attributes that can be said
 record IsKnown (m : Magic) : Type 0 where
   pub signature : m.signature < 16
-  pub attributes : list_all is_sayable_assignment m.attributes ≡ true
+  pub attributes : list_all is_expressible_assignment m.attributes ≡ true
 
 -- a keyword adds known bits
 abbrev is_known_keyword : Keyword → Bool
@@ -157,7 +157,7 @@ known_keyword piece =
     (known_cond (begins_with piece (codes "attr:")) (Lists (drop 5 piece)) Unknown refl refl))))))
 
 -- a piece leaves magic known
-known_after : (m n : Magic) (piece : List ℕ) (k : Keyword) → IsKnown m → is_known_keyword k ≡ true → after_piece m piece k ≡ Ok n → IsKnown n
+known_after : (m n : Magic) (piece : List ℕ) (k : Keyword) → IsKnown m → is_known_keyword k ≡ true → with_piece m piece k ≡ Ok n → IsKnown n
 known_after m n piece (Adds flag) w f h =
     let made : IsKnown (record m { signature = bit_or m.signature flag }) = record { signature = or_lt 4 m.signature flag w.signature (ltb-true flag 16 f); attributes = w.attributes } in
     subst IsKnown (ok_same (record m { signature = bit_or m.signature flag }) n h) made
@@ -177,10 +177,10 @@ known_after m n piece (Lists list) w f h = known_listed m n piece list (is_empty
 known_after m n piece Unknown w f h = absurd (let q : ⊥ = cc in q)
 
 -- so do pieces
-known_pieces : (m n : Magic) (pieces : List (List ℕ)) → IsKnown m → after_pieces m pieces ≡ Ok n → IsKnown n
+known_pieces : (m n : Magic) (pieces : List (List ℕ)) → IsKnown m → with_pieces m pieces ≡ Ok n → IsKnown n
 known_pieces m n [] w h = subst IsKnown (ok_same m n h) w
 known_pieces m n (piece ∷ pieces) w h =
-    let k = bind_ok (after_piece m piece (keyword_of piece)) (λ next. after_pieces next pieces) n h in
+    let k = bind_ok (with_piece m piece (keyword_of piece)) (λ next. with_pieces next pieces) n h in
     known_pieces k.0 n pieces (known_after m k.0 piece (keyword_of piece) w (known_keyword piece) k.1) k.2
 
 -- the bits of short magic are known
@@ -211,7 +211,7 @@ slash_said n body true h = inl (eq-eqb (bit_and (bit_or n must_be_dir) must_be_d
 slash_said n body false h = inr (ap ends_with_slash (cond-false (ends_with_slash body) (take (length body - 1) body) body h) ∙ h)
 
 -- known magic and a body say a sayable spec
-sayable_spec : (d : Defaults) (said : Magic) (body : List ℕ) → signature_bits d.signature < 16 → IsKnown said → IsSayable (spec_of d said body)
+sayable_spec : (d : Defaults) (said : Magic) (body : List ℕ) → signature_bits d.signature < 16 → IsKnown said → IsExpressible (spec_of d said body)
 unfolding spec_of
 sayable_spec d said body h w = record {
   bits = or_lt 4 (bit_or (signature_bits d.signature) said.signature) (cond (ends_with_slash body) must_be_dir 0) (or_lt 4 (signature_bits d.signature) said.signature h w.signature) (known_slash (ends_with_slash body));
@@ -222,24 +222,24 @@ sayable_spec d said body h w = record {
 }
 
 -- the nil spec is sayable
-sayable_nil : IsSayable nil_spec
+sayable_nil : IsExpressible nil_spec
 sayable_nil = record { bits = omega arith; prefix = refl; assignments = refl; path = inr refl; nil = λ n. refl }
 
 -- so each way to read a text gives a sayable spec
-sayable_read : (d : Defaults) (text : List ℕ) (s : Spec) → d.literal ≡ false → signature_bits d.signature < 16 → Reads d text s → IsSayable s
+sayable_read : (d : Defaults) (text : List ℕ) (s : Spec) → d.literal ≡ false → signature_bits d.signature < 16 → Reads d text s → IsExpressible s
 sayable_read d text s l h (verbatim v n e) = absurd (both_ways d.literal l v)
-sayable_read d text s l h (nothing v t e) = subst IsSayable (sym e) sayable_nil
-sayable_read d text s l h (plain v n c e) = subst IsSayable (sym e) (sayable_spec d no_magic text h (record { signature = omega arith; attributes = refl }))
-sayable_read d text s l h (magic v n cut c t said g e) = subst IsSayable (sym e) (sayable_spec d said cut.body h (known_magic cut said g))
+sayable_read d text s l h (nothing v t e) = subst IsExpressible (sym e) sayable_nil
+sayable_read d text s l h (plain v n c e) = subst IsExpressible (sym e) (sayable_spec d no_magic text h (record { signature = omega arith; attributes = refl }))
+sayable_read d text s l h (magic v n cut c t said g e) = subst IsExpressible (sym e) (sayable_spec d said cut.body h (known_magic cut said g))
 
 -- What a text says is sayable.
-pub said_is_sayable : SaidIsSayable
-said_is_sayable d text s l h e = sayable_read d text s l h (((reading_is_exact d text).0 s).1 e)
+pub parsed_is_expressible : ParsedIsExpressible
+parsed_is_expressible d text s l h e = sayable_read d text s l h (((reading_is_exact d text).0 s).1 e)
 
 -- What a text says comes back from its long text.
-pub said_comes_back : SaidComesBack
-said_comes_back d text s l h e = round_trip s (said_is_sayable d text s l h e)
+pub parsed_round_trips : ParsedRoundTrips
+parsed_round_trips d text s l h e = round_trip s (parsed_is_expressible d text s l h e)
 
 -- Just the sayable specs come back from their long text.
 pub round_trip_is_exact : RoundTripIsExact
-round_trip_is_exact s = (said_is_sayable no_defaults (long_text s) s refl (omega arith), round_trip s)
+round_trip_is_exact s = (parsed_is_expressible no_defaults (long_text s) s refl (omega arith), round_trip s)

@@ -1,6 +1,6 @@
 -- The items hold a byte where their forms do.
 use Rattle.pathspec_glob.proofs.BracketProofs.{holds-in_Sensitive, holds-by_lower, holds-by_upper}
-use Rattle.pathspec_glob.proofs.brackets.hold.Goals as goal
+use Rattle.pathspec_glob.proofs.brackets.bracket_holds.Goals as goal
 
 pub returns-in-Sensitive : goal.returns-in-Sensitive
 returns-in-Sensitive c = holds-in_Sensitive _ _ _ _ c.in-Sensitive.is c.any_holds.ensures
