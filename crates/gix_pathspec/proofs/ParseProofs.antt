@@ -18,7 +18,7 @@ use Rattle.gix_pathspec.proofs.ReadingProofs.{reading_is_exact, reading_at, plai
 
 -- ---- errors
 
--- want of memory, whatever is said of faults
+-- memory ran out, whatever is said of faults
 pub memory-or_any : (e : Error) (P : Fault → Type 0) → IsMemory e → IsMemoryOr e P
 memory-or_any e P m = IfSome_then (fault_of e) m (λ fault none. absurd none)
 

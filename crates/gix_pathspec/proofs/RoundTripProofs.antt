@@ -15,7 +15,6 @@ use Rattle.pathspec_parts.specs.Attributes.{Assignment}
 use Rattle.gix_pathspec.specs.Specs.{Spec, top, icase, exclude, must_be_dir, has, wants_directory}
 use Rattle.pathspec_parts.specs.Paths.{ends_with_slash, without_last_slash}
 use Rattle.gix_pathspec.specs.Reading.{cuts, backslashes_after, long_pieces_from, long_pieces, keyword_of, Magic, with_piece, with_pieces, Cut, IsCut, text_of, magic_of, spec_of, nil_spec, Reads, reading, no_defaults}
-use Rattle.gix_pathspec.specs.Reading.Keyword.{Lists}
 use Rattle.gix_pathspec.specs.Reading.Reads.{magic}
 use Rattle.gix_pathspec.specs.LongText.{with_escapes, state_text, attributes_text, mode_text, bit_text, keywords, long_text, assignment_text, list_text}
 use Rattle.gix_pathspec.specs.RoundTrips.{is_expressible_assignment, IsExpressible, RoundTrip, LongTextIsInjective}
@@ -200,10 +199,6 @@ mode_back : (mode : SearchMode) → unwrap_or (picked_mode mode) ShellGlob ≡ m
 mode_back ShellGlob = refl
 mode_back Literal = refl
 mode_back PathAwareGlob = refl
-
--- a piece that begins with `attr:` lists attributes
-keyword_of-attr : (list : List ℕ) → keyword_of (codes "attr:" ++ list) ≡ Lists list
-keyword_of-attr list = refl
 
 -- the keyword of attributes lists them
 attributes_said : (w : ℕ) (mode : Option SearchMode) (list : List Assignment) → list_all is_expressible_assignment list ≡ true → with_pieces (said w mode []) (attributes_text list) ≡ Ok (said w mode list)

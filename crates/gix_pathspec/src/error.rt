@@ -105,7 +105,7 @@ impl<T: Drop> From<AllocFailed<T>> for Error {
 ///
 /// # Errors
 /// [`Error::Memory`], in place of that error.
-pub(crate) fn copied(alloc: Global, bytes: &[u8]) -> Result<Vec<u8>, Error>
+pub(crate) fn to_vec(alloc: Global, bytes: &[u8]) -> Result<Vec<u8>, Error>
     ensures ok { IfOk result (λ copy. copy.items ≡ bytes.now) }
     ensures err { IfErr result IsMemory }
 {

@@ -174,7 +174,8 @@ impl Pattern {
 
 /// The same assignments.
 fn cloned(alloc: Global, assignments: &[Assignment]) -> Result<Vec<Assignment>, AllocError>
-    ensures { IfOk result (λ copy. map assignment_view copy.items ≡ map assignment_view assignments.now) }
+    ensures { IfOk result (λ copy.
+        map assignment_view copy.items ≡ map assignment_view assignments.now) }
 {
     let mut copy = Vec::new(alloc);
     for assignment in assignments {

@@ -17,8 +17,7 @@ use Rattle.pathspec_glob.specs.Tokens.{Token, piece_of, tokens, tokens_from}
 use Rattle.pathspec_glob.specs.Tokens.Single.{Byte}
 use Rattle.pathspec_glob.specs.Tokens.Token.{One, Star, Deep}
 use Rattle.pathspec_glob.specs.GlobRelation.{matches, some_suffix, is_same_byte}
-use Rattle.pathspec_glob.specs.Globs.{folds, is_tail_pattern, TailPatternEnds}
-use Rattle.pathspec_glob.proofs.GlobProofs.{glob_is_relation}
+use Rattle.pathspec_glob.specs.Globs.{folds, is_tail_pattern}
 
 -- ---- the one end that has the rest's length
 
@@ -154,13 +153,6 @@ matches-ends_with mode case [] text t m = cc
 matches-ends_with mode case (b ∷ rest) text t m =
     let p = and_parts (b == star) (not (list_any is_wildcard rest)) t in
     rw (eqb-true b star p.0, tokens-tail mode rest (not-true (list_any is_wildcard rest) p.1)) (matches-tail mode case rest text m)
-
--- The law as it is stated.
-pub tail_pattern_ends : TailPatternEnds
-tail_pattern_ends mode case pattern text t m =
-    let e = matches-ends_with mode case pattern text t m in
-    let r = glob_is_relation mode case (tokens mode pattern) text in
-    (λ h. sym e ∙ r.1 h, λ h. r.0 (e ∙ h))
 
 -- what agrees with the end of a text is no longer than it
 tail-agrees : (E : ℕ → ℕ → Bool) (rest text : List ℕ) (n : ℕ) → pointwise E rest (drop n text) ≡ true → length rest ≤ length text

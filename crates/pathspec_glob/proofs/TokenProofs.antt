@@ -6,11 +6,10 @@ use Rattle.std.proofs.lemmas.List.Sums.{prefix_len-le-length}
 use Rattle.std.proofs.Math.Numerals.{one-add, add-one}
 use Rattle.pathspec_glob.specs.declared.Mode.{Mode}
 use Rattle.pathspec_glob.specs.Bytes.{slash, star, question_mark, open_bracket, backslash, is_one_of, first_is}
-use Rattle.pathspec_glob.specs.Tokens.{Items, Front, Token, Piece, front_of, single_of, bytes_of, items_with, items_from, escaped_piece, bracket_with, bracket_piece, run_token, run_piece, piece_of, token_before, tokens_from}
+use Rattle.pathspec_glob.specs.Tokens.{Items, Front, Token, Piece, front_of, single_of, bytes_of, items_with, items_from, escaped_piece, bracket_with, bracket_piece, run_token, run_piece, piece_of, token_before, tokens_from, tokens}
 use Rattle.pathspec_glob.specs.Tokens.Front.{Listed, Closed, Broken}
 use Rattle.pathspec_glob.specs.Tokens.Single.{Byte, Quoted, Any, Bracket, Dead}
 use Rattle.pathspec_glob.specs.Tokens.Token.{One, Star, Deep}
-use Rattle.pathspec_glob.specs.Globs.{FewTokens}
 
 -- a bracket's items end before the bytes do
 items_with-shorter : (front : Front) (bs : List ℕ) (others : Option Items) (read : Items) → ((o : Items) → others ≡ Some o → length o.rest < length bs) → items_with front bs others ≡ Some read → length read.rest < suc (length bs)
@@ -159,5 +158,5 @@ few_from mode zero after_slash (b ∷ bs) =
     token_before-few piece.token (tokens_from mode (piece.size - 1) (b == slash) bs) (length bs) (few_from mode (piece.size - 1) (b == slash) bs)
 
 -- A pattern has at most as many tokens as bytes.
-pub few_tokens : FewTokens
+pub few_tokens : (mode : Mode) (pattern : List ℕ) → length (tokens mode pattern) ≤ length pattern
 few_tokens mode pattern = few_from mode 0 true pattern

@@ -1,5 +1,5 @@
 -- The bytes that specs are written with, and the tests on texts that the other modules share.
-use Rattle.std.specs.Prelude.{ℕ, ◌<◌, Bool, List, [], ◌∷◌, All, codes, nat_eq, if◌then◌else◌, true, false}
+use Rattle.std.specs.Prelude.{ℕ, Bool, List, [], ◌∷◌, codes, nat_eq, if◌then◌else◌, true, false}
 use Rattle.std.specs.List.{starts_with, list_any}
 use Rattle.std.specs.Str.{str_to_ascii_lowercase}
 
@@ -45,10 +45,6 @@ backslash = 92
 
 abbrev pub close_bracket : ℕ
 close_bracket = 93
-
--- each element is a byte
-abbrev pub IsBytes : List ℕ → Type 0
-IsBytes text = All (λ b. b < 256) text
 
 -- the byte is one of these
 abbrev pub is_one_of : List ℕ → ℕ → Bool

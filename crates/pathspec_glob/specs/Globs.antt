@@ -57,12 +57,3 @@ AnswersTail mode case pattern text given = IsTrue (is_tail_pattern pattern) → 
 -- The function gives just what the relation says.
 abbrev pub GlobIsRelation : Type 0
 GlobIsRelation = (mode : Mode) (case : Case) (ts : List Token) (text : List ℕ) → IsTrue (matches mode case ts text) ↔ Matches mode case ts text
-
--- A tail pattern takes just the texts that end with its rest; in PathAware this is said of texts without a slash.
-abbrev pub TailPatternEnds : Type 0
-TailPatternEnds = (mode : Mode) (case : Case) (pattern text : List ℕ) → IsTrue (is_tail_pattern pattern) → (mode ≡ Shell) ⊎ IsFalse (list_any (λ b. b == slash) text)
-    → Matches mode case (tokens mode pattern) text ↔ IsTrue (ends_with nat_eq (fold_case (folds case) text) (fold_case (folds case) (drop 1 pattern)))
-
--- A glob has at most as many tokens as its pattern has bytes.
-abbrev pub FewTokens : Type 0
-FewTokens = (mode : Mode) (pattern : List ℕ) → length (tokens mode pattern) ≤ length pattern

@@ -140,9 +140,10 @@ enum Front {
 /// The cost is linear in the bytes up to that `]`, or in all of them where no `]` closes the bracket.
 ///
 /// # Errors
-/// Want of memory.
+/// Memory runs out.
 pub fn read_items<'p>(alloc: Global, bytes: &'p [u8]) -> Result<Option<Read<'p>>, AllocError>
-    ensures { IfOk result (λ found. option_map bracket_view found ≡ items_from 0 true None bytes.now) }
+    ensures { IfOk result (λ found.
+        option_map bracket_view found ≡ items_from 0 true None bytes.now) }
 {
     let mut items = Vec::new(alloc);
     let mut last = None;
@@ -415,8 +416,16 @@ mod tests {
             ("1]", b'1', true, true),
         ] {
             let read = read_items(rt.alloc(), text.as_bytes())?.ok_or("no items")?;
-            assert_eq!(rt; bracket_holds(&read.items, Case::Sensitive, byte), exactly, "{text}");
-            assert_eq!(rt; bracket_holds(&read.items, Case::Fold, byte), either, "{text}");
+            assert_eq!(rt;
+                bracket_holds(&read.items, Case::Sensitive, byte),
+                exactly,
+                "{text}"
+            );
+            assert_eq!(rt;
+                bracket_holds(&read.items, Case::Fold, byte),
+                either,
+                "{text}"
+            );
         }
         Ok(())
     }

@@ -1,6 +1,6 @@
 //! Globs and texts: the places in a glob that the front of a text leads to.
 ghost use Rattle.std.specs.Prelude.{◌≡◌, ◌≤◌, ◌<◌, ◌+◌, ◌*◌, ◌^◌, ◌↔◌, length, IfOk, IsTrue};
-ghost use Rattle.pathspec_glob.specs.Globs.{glob_tokens, AnswersGlob, AnswersTail};
+ghost use Rattle.pathspec_glob.specs.Globs.{glob_tokens, AnswersGlob, AnswersTail, GlobIsRelation};
 ghost use Rattle.pathspec_glob.specs.Counts.{Counts};
 
 use crate::scratch::Scratch;
@@ -32,7 +32,7 @@ impl Glob {
     /// The glob of a pattern. Every byte string is one. The cost is linear in the pattern.
     ///
     /// # Errors
-    /// Want of memory.
+    /// Memory runs out.
     pub fn compile(alloc: Global, pattern: &[u8], mode: Mode) -> Result<Glob, AllocError>
         ensures { IfOk result (λ glob. glob ≡ record { mode = mode; pattern = pattern.now }) }
     {
@@ -68,6 +68,8 @@ impl Glob {
         ensures answer { AnswersGlob self.now.mode case self.now.pattern text.now
             result scratch.new.steps }
         ensures tail { AnswersTail self.now.mode case self.now.pattern text.now result }
+        // The function that other definitions stand on gives just what the relation says.
+        ensures function { GlobIsRelation }
         ensures counted { Counts scratch.old.total_steps scratch.new.steps scratch.new.total_steps }
         ensures room { scratch.new.tokens ≡ scratch.old.tokens }
     {

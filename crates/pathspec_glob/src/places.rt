@@ -25,7 +25,7 @@ impl Places {
     /// No place of at most so many tokens.
     ///
     /// # Errors
-    /// Want of memory.
+    /// Memory runs out.
     pub fn for_tokens(alloc: Global, tokens: usize) -> Result<Places, AllocError>
         ensures { IfOk result (λ places. IsMadeFor tokens places) }
     {

@@ -23,7 +23,7 @@ struct Piece {
 /// The cost is linear in the pattern.
 ///
 /// # Errors
-/// Want of memory.
+/// Memory runs out.
 pub fn tokens(alloc: Global, pattern: &[u8], mode: Mode) -> Result<Vec<Token>, AllocError>
     ensures { IfOk result (λ read. tokens_view read.items ≡ tokens mode pattern.now) }
 {

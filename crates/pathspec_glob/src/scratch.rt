@@ -32,7 +32,7 @@ impl Scratch {
     /// Room for globs of at most so many tokens.
     ///
     /// # Errors
-    /// Want of memory.
+    /// Memory runs out.
     pub fn for_tokens(alloc: Global, tokens: usize) -> Result<Scratch, AllocError>
         ensures { IfOk result (λ scratch. scratch ≡ room_for tokens) }
     {

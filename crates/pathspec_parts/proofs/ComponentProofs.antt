@@ -1,5 +1,5 @@
 -- The components of a path are its first piece, where that is one, and then those of the rest.
-use Rattle.std.proofs.Common.{◌≡◌, ℕ, true, false, inl, inr, refl, ◌∙◌, ap, List, [], ◌∷◌, cond, filter}
+use Rattle.std.proofs.Common.{◌≡◌, ℕ, true, inl, inr, refl, ◌∙◌, ap, List, [], ◌∷◌, cond, filter}
 use Rattle.std.proofs.lemmas.Bool.{cases_Bool}
 use Rattle.std.proofs.Math.Numerals.{one-add, add-one}
 use Rattle.std.specs.List.{onto_first, before_first, after_first}
@@ -27,10 +27,6 @@ others-components (b ∷ bs) = elim (cases_Bool (is_slash b)) [
 -- a first piece that is a component
 pub components-first : (path : List ℕ) → is_component (before_first is_slash path) ≡ true → components path ≡ before_first is_slash path ∷ components (after_first is_slash path)
 components-first path h = ap (filter is_component) (pieces-first path) ∙ (rw h (ap (λ cs. before_first is_slash path ∷ cs) (others-components path)))
-
--- a first piece that is none
-pub components-skip : (path : List ℕ) → is_component (before_first is_slash path) ≡ false → components path ≡ components (after_first is_slash path)
-components-skip path h = ap (filter is_component) (pieces-first path) ∙ (rw h (others-components path))
 
 -- the first of what is left is given
 pub components-given : (left : List (List ℕ)) (path piece rest item : List ℕ) → components path ≡ left → piece ≡ before_first is_slash path → rest ≡ after_first is_slash path → is_component piece ≡ true → item ≡ piece → left ≡ item ∷ components rest

@@ -51,7 +51,7 @@ pub(super) fn cut_text(alloc: Global, text: &[u8]) -> Result<Cut<'_>, Error>
         });
     };
     if !inside.contains(&b')') {
-        return Err(Error::MissingParen(error::copied(alloc, text)?));
+        return Err(Error::MissingParen(error::to_vec(alloc, text)?));
     }
     let (long, body) = split::at_first(inside, b')');
     Ok(Cut {

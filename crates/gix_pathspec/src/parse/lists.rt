@@ -82,7 +82,7 @@ fn name(alloc: Global, bytes: &[u8]) -> Result<Name, Error>
 {
     match Name::from_bytes(alloc, bytes)? {
         Some(name) => Ok(name),
-        None => Err(Error::InvalidName(error::copied(alloc, bytes)?)),
+        None => Err(Error::InvalidName(error::to_vec(alloc, bytes)?)),
     }
 }
 
@@ -99,7 +99,7 @@ fn value(alloc: Global, written: &[u8]) -> Result<Vec<u8>, Error>
         }
     }
     if escaped {
-        return Err(Error::TrailingEscape(error::copied(alloc, written)?));
+        return Err(Error::TrailingEscape(error::to_vec(alloc, written)?));
     }
     Ok(value)
 }

@@ -88,7 +88,7 @@ impl Magic {
         ensures { IsAnswer (with_mode self piece.now mode) result }
     {
         if !is_same_mode(self.mode.unwrap_or(mode), mode) {
-            return Err(Error::LiteralWithGlob(error::copied(alloc, piece)?));
+            return Err(Error::LiteralWithGlob(error::to_vec(alloc, piece)?));
         }
         Ok(Magic {
             mode: Some(mode),
@@ -101,7 +101,7 @@ impl Magic {
         ensures { IsAnswer (with_list self piece.now list.now) result }
     {
         if !self.attributes.is_empty() {
-            return Err(Error::SecondAttributes(error::copied(alloc, piece)?));
+            return Err(Error::SecondAttributes(error::to_vec(alloc, piece)?));
         }
         Ok(Magic {
             attributes: lists::attributes(alloc, list)?,
@@ -121,7 +121,7 @@ impl Magic {
             Keyword::Picks(mode) => self.with_mode(alloc, piece, mode),
             Keyword::Ignored => Ok(self),
             Keyword::Lists(list) => self.with_attributes(alloc, piece, list),
-            Keyword::Unknown => Err(Error::InvalidKeyword(error::copied(alloc, piece)?)),
+            Keyword::Unknown => Err(Error::InvalidKeyword(error::to_vec(alloc, piece)?)),
         }
     }
 }

@@ -38,7 +38,8 @@ impl Pattern {
         ensures printed { IfOk result (λ text. IsUtf8 (bstring_bytes text)
             → printed_text (pattern_spec self.now) ≡ bstring_bytes text) }
         // Only sayable specs come back, and their texts tell them apart; what a text says is sayable.
-        ensures laws { RoundTripIsExact × LongTextIsInjective × ParsedIsExpressible × ParsedRoundTrips }
+        ensures laws { RoundTripIsExact × LongTextIsInjective
+            × ParsedIsExpressible × ParsedRoundTrips }
     {
         Ok(BString::new(self.long_text()?))
     }

@@ -108,10 +108,10 @@ impl Pattern {
         let alloc = *self.path.allocator();
         let base = self.base(prefix);
         let Some(own) = self.own_components(base, root) else {
-            return Err(Error::OutsideRoot(error::copied(alloc, self.path.as_slice())?));
+            return Err(Error::OutsideRoot(error::to_vec(alloc, self.path.as_slice())?));
         };
         let Some(walk) = Walk::new(alloc, base, own)? else {
-            return Err(Error::LeavesRepository(error::copied(alloc, self.path.as_slice())?));
+            return Err(Error::LeavesRepository(error::to_vec(alloc, self.path.as_slice())?));
         };
         self.resolved_along(&walk)
     }
@@ -156,7 +156,7 @@ impl Pattern {
             return Ok(self.empty());
         }
         Ok(Resolved {
-            path: error::copied(alloc, b".")?,
+            path: error::to_vec(alloc, b".")?,
             nil: true,
             prefix_length: 0,
         })
@@ -239,7 +239,7 @@ impl<'p> Walk<'p> {
     /// Walks a path's own components from what it stands on, or gives None where they climb out.
     ///
     /// # Errors
-    /// Want of memory.
+    /// Memory runs out.
     fn new(
         alloc: Global,
         base: Base<'p>,

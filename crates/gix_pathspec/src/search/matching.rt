@@ -43,7 +43,8 @@ pub fn match_kind(pattern: &Pattern, path: BStr<'_>, is_dir: bool) -> Option<Mat
 /// Whether the path lies below the prefix directory or is that directory, compared with case; nothing is asked where
 /// case counts throughout or there is no such directory.
 fn is_in_prefix_directory(pattern: &Pattern, path: BStr<'_>, is_dir: bool) -> bool
-    ensures { result ≡ is_in_prefix_directory (pattern_spec pattern.now) (bstr_bytes path.entry) is_dir }
+    ensures { result ≡ is_in_prefix_directory (pattern_spec pattern.now)
+        (bstr_bytes path.entry) is_dir }
 {
     let path = path.as_bytes();
     let prefix = pattern.prefix_directory().as_bytes();
@@ -97,7 +98,8 @@ fn is_same(left: &[u8], right: &[u8], ignore_case: bool) -> bool
 
 /// Whether a path begins with a directory's path and a slash, up to ASCII case where it doesn't count.
 fn is_below(path: &[u8], directory: &[u8], ignore_case: bool) -> bool
-    ensures { result ≡ is_below (fold_case ignore_case path.now) (fold_case ignore_case directory.now) }
+    ensures { result ≡ is_below (fold_case ignore_case path.now)
+        (fold_case ignore_case directory.now) }
 {
     let n = directory.len();
     if n < path.len() && path[n] == b'/' {

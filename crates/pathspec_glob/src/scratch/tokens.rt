@@ -66,7 +66,7 @@ impl Tokens {
     /// The tokens of a pattern. The cost is linear in the pattern.
     ///
     /// # Errors
-    /// Want of memory.
+    /// Memory runs out.
     pub fn read(alloc: Global, pattern: &[u8], mode: Mode) -> Result<Tokens, AllocError>
         ensures { IfOk result (λ read. read ≡ token_list mode pattern.now) }
     {

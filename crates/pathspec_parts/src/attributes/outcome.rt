@@ -34,7 +34,8 @@ impl Outcome {
     /// # Errors
     /// Memory runs out.
     pub fn for_assignments(alloc: Global, assignments: &[Assignment]) -> Result<Outcome, AllocError>
-        ensures { IfOk result (λ outcome. outcome ≡ reset_states (map assignment_view assignments.now)) }
+        ensures { IfOk result (λ outcome.
+            outcome ≡ reset_states (map assignment_view assignments.now)) }
     {
         let mut places = Vec::with_capacity(alloc, assignments.len())?;
         for assignment in assignments {

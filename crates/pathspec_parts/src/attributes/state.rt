@@ -95,7 +95,7 @@ impl Assignment {
     /// # Errors
     /// Memory runs out.
     pub fn try_clone(&self) -> Result<Assignment, AllocError>
-        ensures { IfOk result (λ assignment. assignment_view assignment ≡ assignment_view self.now) }
+        ensures { IfOk result (λ copy. assignment_view copy ≡ assignment_view self.now) }
     {
         Ok(Assignment {
             name: self.name.try_clone()?,

@@ -116,7 +116,8 @@ fn apply_rows(
 
 /// Sets each assignment.
 fn apply(assignments: &[Assignment], out: &mut Outcome) -> Result<(), AllocError>
-    ensures ok { OnOk result (out.new ≡ apply_assignments out.old (map assignment_view assignments.now)) }
+    ensures ok { OnOk result (out.new
+        ≡ apply_assignments out.old (map assignment_view assignments.now)) }
     ensures names { names_of out.new ≡ names_of out.old }
 {
     for assignment in assignments {

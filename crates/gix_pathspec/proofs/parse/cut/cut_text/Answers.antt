@@ -14,7 +14,7 @@ returns-in_default-strip_prefix c =
 
 pub returns-then-not-contains : goal.returns-then-not-contains
 returns-then-not-contains c =
-    rw (c.in_ok-copied.ensures.ok) (cut-open c.args.text.now _ _ _ c.after_first.ensures c.split_short.ensures.short c.split_short.ensures.rest c.in_default.ensures.none _ _ c.split_mark-ended.ensures.ended c.split_mark-ended.ensures.rest _
+    rw (c.in_ok-to_vec.ensures.ok) (cut-open c.args.text.now _ _ _ c.after_first.ensures c.split_short.ensures.short c.split_short.ensures.rest c.in_default.ensures.none _ _ c.split_mark-ended.ensures.ended c.split_mark-ended.ensures.rest _
     (begins-whole open_paren _ _ c.in-Some-strip_prefix.ensures.cases.0 c.in-Some-strip_prefix.ensures.cases.1) (sym c.contains.ensures.value ∙ c.if-not-contains.true))
 
 pub returns : goal.returns

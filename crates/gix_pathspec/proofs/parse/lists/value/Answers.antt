@@ -21,7 +21,7 @@ loop-byte-preserved c = elim c.if-not-escaped.branch [
 ]
 
 pub returns-then-escaped : goal.returns-then-escaped
-returns-then-escaped c = rw c.in_ok-copied.ensures.ok (value-trailing c.args.written.now c.loop-byte.value.items c.loop-byte.byte-index c.loop-byte.escaped (omega (arith, c.loop-byte-test.false, c.loop-byte.auto.byte-index-end)) c.loop-byte.invariant c.if-escaped.true)
+returns-then-escaped c = rw c.in_ok-to_vec.ensures.ok (value-trailing c.args.written.now c.loop-byte.value.items c.loop-byte.byte-index c.loop-byte.escaped (omega (arith, c.loop-byte-test.false, c.loop-byte.auto.byte-index-end)) c.loop-byte.invariant c.if-escaped.true)
 
 pub returns : goal.returns
 returns c = value-all c.args.written.now c.loop-byte.value.items c.loop-byte.byte-index c.loop-byte.escaped (omega (arith, c.loop-byte-test.false, c.loop-byte.auto.byte-index-end)) c.loop-byte.invariant c.if-escaped.false

@@ -11,7 +11,7 @@ use Rattle.gix_pathspec.proofs.ResolvingProofs.{form-outside, form-leaves, form-
 use Rattle.gix_pathspec.proofs.pattern.Pattern.resolved.Goals as goal
 
 pub returns-in_default : goal.returns-in_default
-returns-in_default c = rw (c.in_ok-copied.ensures.ok, c.as_slice.ensures.value) (form-outside (bstr_bytes c.args.prefix) (bstr_bytes c.args.root) (pattern_spec c.args.self.now) (base_of c.base-base.result) c.base-base.ensures c.in_default.ensures)
+returns-in_default c = rw (c.in_ok-to_vec.ensures.ok, c.as_slice.ensures.value) (form-outside (bstr_bytes c.args.prefix) (bstr_bytes c.args.root) (pattern_spec c.args.self.now) (base_of c.base-base.result) c.base-base.ensures c.in_default.ensures)
 
 pub new-requires : goal.new-requires
 new-requires c = ap (λ b. parent_dir_count (base_names b)) c.base-base.ensures ∙ base-names_only (bstr_bytes c.args.prefix) (bstr_bytes c.args.root) (pattern_spec c.args.self.now) c.requires
@@ -19,7 +19,7 @@ new-requires c = ap (λ b. parent_dir_count (base_names b)) c.base-base.ensures 
 pub returns-in_default-2 : goal.returns-in_default-2
 returns-in_default-2 c =
     let out = rw c.in_default-2.is at c.in_ok-walk.ensures.inside in
-    rw (c.in_ok-copied-2.ensures.ok, c.as_slice-in_default-2.ensures.value) (form-leaves (bstr_bytes c.args.prefix) (bstr_bytes c.args.root) (pattern_spec c.args.self.now) (base_of c.base-base.result) c.base-base.ensures (remaining_components c.in-Some.own) c.in-Some.ensures (sym out))
+    rw (c.in_ok-to_vec-2.ensures.ok, c.as_slice-in_default-2.ensures.value) (form-leaves (bstr_bytes c.args.prefix) (bstr_bytes c.args.root) (pattern_spec c.args.self.now) (base_of c.base-base.result) c.base-base.ensures (remaining_components c.in-Some.own) c.in-Some.ensures (sym out))
 
 pub returns : goal.returns
 returns c =

@@ -5,6 +5,7 @@ use Rattle.std.proofs.Math.Nat.{mul-le-mul_left, mul-suc}
 use Rattle.pathspec_glob.specs.GlobRelation.{matches}
 use Rattle.pathspec_glob.specs.GlobPlaces.{accepts}
 use Rattle.pathspec_glob.proofs.AnswerProofs.{glob-answers, glob-answers-tail}
+use Rattle.pathspec_glob.proofs.GlobProofs.{glob_is_relation}
 use Rattle.pathspec_glob.proofs.matcher.Glob.matches.Goals as goal
 
 -- where the text has ended, the places lead to its end where the text matches
@@ -70,3 +71,9 @@ returns-then-not-advance-clause-answer c =
 
 pub returns-then-not-advance-clause-tail : goal.returns-then-not-advance-clause-tail
 returns-then-not-advance-clause-tail c = glob-answers-tail c.self.inside.tokens c.self.inside.pattern.items c.args.self.now c.args.case c.args.text.now false c.self.invariant c.self.view_is (no-match c)
+
+pub returns-clause-function : goal.returns-clause-function
+returns-clause-function c = glob_is_relation
+
+pub returns-then-not-advance-clause-function : goal.returns-then-not-advance-clause-function
+returns-then-not-advance-clause-function c = glob_is_relation
