@@ -152,14 +152,14 @@ assignment_back name (Value v) h w =
 -- ---- a list
 
 -- what is known of such an assignment
-record IsSayableParts (a : Assignment) : Type 0 where
+record IsExpressibleParts (a : Assignment) : Type 0 where
   pub name : is_attribute_name a.name ≡ true
   pub state : is_expressible_state a.state ≡ true
   pub alone : (is_set a.state && is_empty a.name) ≡ false
 
 -- the test of it by its parts
-sayable_parts : (a : Assignment) → is_expressible_assignment a ≡ true → IsSayableParts a
-sayable_parts a h =
+expressible_parts : (a : Assignment) → is_expressible_assignment a ≡ true → IsExpressibleParts a
+expressible_parts a h =
     let q = and_parts (is_attribute_name a.name && is_expressible_state a.state) (not (is_set a.state && is_empty a.name)) h in
     let r = and_parts (is_attribute_name a.name) (is_expressible_state a.state) q.0 in
     record { name = r.0; state = r.1; alone = not-true (is_set a.state && is_empty a.name) q.1 }
@@ -169,7 +169,7 @@ assignments_back : (list : List Assignment) → list_all is_expressible_assignme
 assignments_back [] h = refl
 assignments_back (a ∷ list) h =
     let q = and_parts (is_expressible_assignment a) (list_all is_expressible_assignment list) h in
-    let p = sayable_parts a q.0 in
+    let p = expressible_parts a q.0 in
     rw (assignment_back a.name a.state p.name p.state, assignments_back list q.1) refl
 
 -- what the text of a state lacks: what neither names nor values hold, and what stands for no state
@@ -188,7 +188,7 @@ state_text-lacks x name (Value u) n v m h w =
 
 -- its name has only bytes of names
 name_bytes : (a : Assignment) → is_expressible_assignment a ≡ true → list_all is_name_byte a.name ≡ true
-name_bytes a h = (and_parts (list_all is_name_byte a.name) (not (first_is (λ b. b == dash) a.name)) (sayable_parts a h).name).0
+name_bytes a h = (and_parts (list_all is_name_byte a.name) (not (first_is (λ b. b == dash) a.name)) (expressible_parts a h).name).0
 
 -- escapes leave no text empty
 is_empty-with_escapes : (b : ℕ) (bs : List ℕ) → is_empty (with_escapes (b ∷ bs)) ≡ false
@@ -264,7 +264,7 @@ is_empty-join x (y ∷ xs) h =
 -- the text of a written assignment is a part
 is_part-assignment : (a : Assignment) → is_expressible_assignment a ≡ true → is_part (assignment_text a) ≡ true
 is_part-assignment a h =
-    let q = sayable_parts a h in
+    let q = expressible_parts a h in
     let e = is_empty-state_text a.name a.state q.alone in
     let s = with_escapes-lacks space (state_text a.name a.state) refl refl (state_text-lacks space a.name a.state refl refl refl (name_bytes a h) q.state) in
     and_from (not (is_empty (assignment_text a))) (not (list_any is_space (assignment_text a))) (not_from_false (is_empty (assignment_text a)) e) (not_from_false (list_any is_space (assignment_text a)) s)
@@ -301,7 +301,7 @@ lacks-each x [] n v m s c h = refl
 lacks-each x (a ∷ list) n v m s c h =
     let q = and_parts (is_expressible_assignment a) (list_all is_expressible_assignment list) h in
     and_from (not (list_any (λ b. b == x) (assignment_text a))) (list_all (λ part. not (list_any (λ b. b == x) part)) (map assignment_text list))
-    (not_from_false (list_any (λ b. b == x) (assignment_text a)) (with_escapes-lacks x (state_text a.name a.state) s c (state_text-lacks x a.name a.state n v m (name_bytes a q.0) (sayable_parts a q.0).state)))
+    (not_from_false (list_any (λ b. b == x) (assignment_text a)) (with_escapes-lacks x (state_text a.name a.state) s c (state_text-lacks x a.name a.state n v m (name_bytes a q.0) (expressible_parts a q.0).state)))
     (lacks-each x list n v m s c q.1)
 
 -- a list lacks what neither names nor values hold and what stands for nothing in it
@@ -311,4 +311,4 @@ list_text-lacks x list n v m s c p h = join-lacks x space (map assignment_text l
 
 -- no backslash stands in it before the commas are escaped
 pub backslash-lacks : (a : Assignment) → is_expressible_assignment a ≡ true → list_any (λ b. b == backslash) (state_text a.name a.state) ≡ false
-backslash-lacks a h = state_text-lacks backslash a.name a.state refl refl refl (name_bytes a h) (sayable_parts a h).state
+backslash-lacks a h = state_text-lacks backslash a.name a.state refl refl refl (name_bytes a h) (expressible_parts a h).state

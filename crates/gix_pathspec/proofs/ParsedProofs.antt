@@ -210,10 +210,10 @@ slash_said : (n : ℕ) (body : List ℕ) (b : Bool) → ends_with_slash body ≡
 slash_said n body true h = inl (eq-eqb (bit_and (bit_or n must_be_dir) must_be_dir) must_be_dir (and_or_self must_be_dir n))
 slash_said n body false h = inr (ap ends_with_slash (cond-false (ends_with_slash body) (take (length body - 1) body) body h) ∙ h)
 
--- known magic and a body say a sayable spec
-sayable_spec : (d : Defaults) (said : Magic) (body : List ℕ) → signature_bits d.signature < 16 → IsKnown said → IsExpressible (spec_of d said body)
+-- known magic and a body say an expressible spec
+expressible_spec : (d : Defaults) (said : Magic) (body : List ℕ) → signature_bits d.signature < 16 → IsKnown said → IsExpressible (spec_of d said body)
 unfolding spec_of
-sayable_spec d said body h w = record {
+expressible_spec d said body h w = record {
   bits = or_lt 4 (bit_or (signature_bits d.signature) said.signature) (cond (ends_with_slash body) must_be_dir 0) (or_lt 4 (signature_bits d.signature) said.signature h w.signature) (known_slash (ends_with_slash body));
   prefix = refl;
   assignments = w.attributes;
@@ -221,25 +221,25 @@ sayable_spec d said body h w = record {
   nil = λ n. absurd (both_ways false refl n);
 }
 
--- the nil spec is sayable
-sayable_nil : IsExpressible nil_spec
-sayable_nil = record { bits = omega arith; prefix = refl; assignments = refl; path = inr refl; nil = λ n. refl }
+-- the nil spec is expressible
+expressible_nil : IsExpressible nil_spec
+expressible_nil = record { bits = omega arith; prefix = refl; assignments = refl; path = inr refl; nil = λ n. refl }
 
--- so each way to read a text gives a sayable spec
-sayable_read : (d : Defaults) (text : List ℕ) (s : Spec) → d.literal ≡ false → signature_bits d.signature < 16 → Reads d text s → IsExpressible s
-sayable_read d text s l h (verbatim v n e) = absurd (both_ways d.literal l v)
-sayable_read d text s l h (nothing v t e) = subst IsExpressible (sym e) sayable_nil
-sayable_read d text s l h (plain v n c e) = subst IsExpressible (sym e) (sayable_spec d no_magic text h (record { signature = omega arith; attributes = refl }))
-sayable_read d text s l h (magic v n cut c t said g e) = subst IsExpressible (sym e) (sayable_spec d said cut.body h (known_magic cut said g))
+-- so each way to read a text gives an expressible spec
+expressible_read : (d : Defaults) (text : List ℕ) (s : Spec) → d.literal ≡ false → signature_bits d.signature < 16 → Reads d text s → IsExpressible s
+expressible_read d text s l h (verbatim v n e) = absurd (both_ways d.literal l v)
+expressible_read d text s l h (nothing v t e) = subst IsExpressible (sym e) expressible_nil
+expressible_read d text s l h (plain v n c e) = subst IsExpressible (sym e) (expressible_spec d no_magic text h (record { signature = omega arith; attributes = refl }))
+expressible_read d text s l h (magic v n cut c t said g e) = subst IsExpressible (sym e) (expressible_spec d said cut.body h (known_magic cut said g))
 
--- What a text says is sayable.
+-- What a text says is expressible.
 pub parsed_is_expressible : ParsedIsExpressible
-parsed_is_expressible d text s l h e = sayable_read d text s l h (((reading_is_exact d text).0 s).1 e)
+parsed_is_expressible d text s l h e = expressible_read d text s l h (((reading_is_exact d text).0 s).1 e)
 
 -- What a text says comes back from its long text.
 pub parsed_round_trips : ParsedRoundTrips
 parsed_round_trips d text s l h e = round_trip s (parsed_is_expressible d text s l h e)
 
--- Just the sayable specs come back from their long text.
+-- Just the expressible specs come back from their long text.
 pub round_trip_is_exact : RoundTripIsExact
 round_trip_is_exact s = (parsed_is_expressible no_defaults (long_text s) s refl (omega arith), round_trip s)

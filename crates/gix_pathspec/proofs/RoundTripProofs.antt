@@ -1,4 +1,4 @@
--- The long text of a sayable spec reads as the spec.
+-- The long text of an expressible spec reads as the spec.
 use Rattle.std.proofs.Common.{◌≡◌, ◌≢◌, ℕ, ◌-◌, ◌<◌, Bool, true, false, not, ◌&&◌, ◌⊎◌, inl, inr, refl, sym, ◌∙◌, ap, subst, List, [], ◌∷◌, ◌++◌, length, map, Option, Some, None, Result, Ok, Err, ◌==◌, cond, append_assoc, arith, length-append}
 use Rattle.std.proofs.lemmas.Bool.{and_parts, and_from, or_parts, cases_Bool, eqb-true, both_ways, not-true, not_from_false, agree_below_at}
 use Rattle.std.proofs.lemmas.List.{append-nil}
@@ -322,7 +322,7 @@ nil_back : reading no_defaults (long_text nil_spec) ≡ Ok nil_spec
 unfolding reading long_text
 nil_back = refl
 
--- The long text of a sayable spec reads as the spec.
+-- The long text of an expressible spec reads as the spec.
 pub round_trip : RoundTrip
 round_trip s w = elim (cases_Bool s.nil) [
   | inl n ↦ subst (λ x. reading no_defaults (long_text x) ≡ Ok x) (sym (w.nil n)) nil_back
@@ -333,7 +333,7 @@ round_trip s w = elim (cases_Bool s.nil) [
 same_ok : (s t : Spec) → ◌≡◌ {A = Result Spec Fault} (Ok s) (Ok t) → s ≡ t
 same_ok s t e = cc
 
--- Two sayable specs are equal exactly where their long texts are.
+-- Two expressible specs are equal exactly where their long texts are.
 pub long_text_is_injective : LongTextIsInjective
 long_text_is_injective s t w v = (λ e. ap long_text e, λ e. same_ok s t (sym (round_trip s w) ∙ (ap (reading no_defaults) e ∙ round_trip t v)))
 

@@ -27,11 +27,11 @@ abbrev pub is_expressible_assignment : Assignment → Bool
 is_expressible_assignment a = is_attribute_name a.name && is_expressible_state a.state && not (is_set a.state && is_empty a.name)
 
 -- the same of an assignment whose name is known to be one
-abbrev pub is_sayable_state : Assignment → Bool
-is_sayable_state a = is_expressible_state a.state && not (is_set a.state && is_empty a.name)
+abbrev pub has_expressible_state : Assignment → Bool
+has_expressible_state a = is_expressible_state a.state && not (is_set a.state && is_empty a.name)
 
 -- A spec that a text can say, where the test tells which assignments a list can say: only known bits, no prefix directory, no last slash in the path unless a directory is wanted, and where it is nil, nothing else.
-pub record IsSayableBy (can_say : Assignment → Bool) (s : Spec) : Type 0 where
+pub record IsExpressibleBy (can_say : Assignment → Bool) (s : Spec) : Type 0 where
   pub bits : s.signature < 16
   pub prefix : s.prefix_length ≡ 0
   pub assignments : IsTrue (list_all can_say s.attributes)
@@ -40,25 +40,25 @@ pub record IsSayableBy (can_say : Assignment → Bool) (s : Spec) : Type 0 where
 
 -- A spec that a text can say.
 abbrev pub IsExpressible : Spec → Type 0
-IsExpressible = IsSayableBy is_expressible_assignment
+IsExpressible = IsExpressibleBy is_expressible_assignment
 
 -- The spec of a pattern that a text can say: a pattern's attributes have valid names.
-abbrev pub IsSayablePattern : Spec → Type 0
-IsSayablePattern = IsSayableBy is_sayable_state
+abbrev pub IsExpressiblePattern : Spec → Type 0
+IsExpressiblePattern = IsExpressibleBy has_expressible_state
 
--- The long text of a sayable spec reads as the spec.
+-- The long text of an expressible spec reads as the spec.
 abbrev pub RoundTrip : Type 0
 RoundTrip = (s : Spec) → IsExpressible s → reading no_defaults (long_text s) ≡ Ok s
 
--- Two sayable specs are equal exactly where their long texts are.
+-- Two expressible specs are equal exactly where their long texts are.
 abbrev pub LongTextIsInjective : Type 0
 LongTextIsInjective = (s t : Spec) → IsExpressible s → IsExpressible t → (s ≡ t) ↔ (long_text s ≡ long_text t)
 
--- Just the sayable specs come back from their long text.
+-- Just the expressible specs come back from their long text.
 abbrev pub RoundTripIsExact : Type 0
 RoundTripIsExact = (s : Spec) → (reading no_defaults (long_text s) ≡ Ok s) ↔ IsExpressible s
 
--- What a text says is sayable, under any defaults of known bits that do not ask for literal specs.
+-- What a text says is expressible, under any defaults of known bits that do not ask for literal specs.
 abbrev pub ParsedIsExpressible : Type 0
 ParsedIsExpressible = (d : Defaults) (text : List ℕ) (s : Spec) → IsFalse d.literal → signature_bits d.signature < 16 → reading d text ≡ Ok s → IsExpressible s
 

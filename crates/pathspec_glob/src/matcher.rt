@@ -38,7 +38,7 @@ impl Glob {
     {
         Ok(Glob {
             pattern: Vec::from_slice(alloc, pattern)?,
-            tokens: Tokens::read(alloc, pattern, mode)?,
+            tokens: Tokens::of_pattern(alloc, pattern, mode)?,
         })
     }
 

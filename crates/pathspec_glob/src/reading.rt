@@ -65,10 +65,10 @@ fn first_piece(
     ensures within { IfOk result (λ piece. (1 ≤ piece.size) × (piece.size ≤ length rest.now + 1)) }
 {
     Ok(match byte {
-        b'\\' => escaped(rest),
+        b'\\' => escaped_piece(rest),
         b'?' => single_byte(Single::Any),
-        b'[' => bracket(alloc, rest)?,
-        b'*' => run(mode, after_slash, rest),
+        b'[' => bracket_piece(alloc, rest)?,
+        b'*' => stars_piece(mode, after_slash, rest),
         _ => single_byte(Single::Byte(byte)),
     })
 }
@@ -84,7 +84,7 @@ fn single_byte(single: Single) -> Piece
 }
 
 /// The byte that a backslash quotes. A last backslash is dead.
-fn escaped(rest: &[u8]) -> Piece
+fn escaped_piece(rest: &[u8]) -> Piece
     ensures { piece_view result ≡ escaped_piece rest.now }
 {
     match rest {
@@ -97,7 +97,7 @@ fn escaped(rest: &[u8]) -> Piece
 }
 
 /// The bracket whose `[` stands before this rest: one `!` or `^` negates it. One that can't be read is dead.
-fn bracket(alloc: Global, rest: &[u8]) -> Result<Piece, AllocError>
+fn bracket_piece(alloc: Global, rest: &[u8]) -> Result<Piece, AllocError>
     ensures { IfOk result (λ piece. piece_view piece ≡ bracket_piece rest.now) }
 {
     let negated = matches!(rest, [b'!' | b'^', ..]);
@@ -112,7 +112,7 @@ fn bracket(alloc: Global, rest: &[u8]) -> Result<Piece, AllocError>
 }
 
 /// The run of stars whose first stands before this rest. It is taken whole.
-fn run(mode: Mode, after_slash: bool, rest: &[u8]) -> Piece
+fn stars_piece(mode: Mode, after_slash: bool, rest: &[u8]) -> Piece
     ensures { piece_view result ≡ stars_piece mode after_slash rest.now }
 {
     let more = count_stars(rest);

@@ -66,11 +66,11 @@ pub fn strip_root<'p>(path: BStr<'p>, root: BStr<'_>) -> Option<Components<'p>>
     if !is_absolute(root) || !is_absolute(path) {
         return None;
     }
-    after(components(path), components(root))
+    strip_names(components(path), components(root))
 }
 
 /// The components after those of a front, if these begin them.
-fn after<'p>(path: Components<'p>, front: Components<'_>) -> Option<Components<'p>>
+fn strip_names<'p>(path: Components<'p>, front: Components<'_>) -> Option<Components<'p>>
     ensures { option_map remaining_components result
         ≡ strip_names (remaining_components front.entry) (remaining_components path.entry) }
 {

@@ -4,7 +4,7 @@ ghost use Rattle.pathspec_parts.specs.AttributeStates.{assignment_view};
 ghost use Rattle.gix_pathspec.specs.Errors.{IsAnswer};
 ghost use Rattle.gix_pathspec.specs.Signatures.{signature_bits};
 ghost use Rattle.gix_pathspec.specs.Keywords.{keyword_view};
-ghost use Rattle.gix_pathspec.specs.Reading.{Magic as Said, keyword_of, same_mode, with_mode, with_list, with_piece, with_pieces, long_pieces, no_magic};
+ghost use Rattle.gix_pathspec.specs.Reading.{Magic as ParsedMagic, keyword_of, same_mode, with_mode, with_list, with_piece, with_pieces, long_pieces, no_magic};
 
 use super::{lists, pieces};
 use crate::{Error, MagicSignature, SearchMode, error};
@@ -22,7 +22,7 @@ pub(super) struct Magic {
 }
 
 impl Model for Magic {
-    ghost Value = { Said };
+    ghost Value = { ParsedMagic };
 
     ghost view = { λ m. record { signature = signature_bits m.signature; mode = m.mode; attributes = map assignment_view m.attributes.items } };
 }

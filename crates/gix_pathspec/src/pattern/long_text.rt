@@ -8,7 +8,7 @@ ghost use Rattle.gix_pathspec.specs.Errors.{IsMemory};
 ghost use Rattle.gix_pathspec.specs.Signatures.{signature_bits};
 ghost use Rattle.gix_pathspec.specs.Reading.{Reads, no_defaults};
 ghost use Rattle.gix_pathspec.specs.LongText.{long_text, opening, bit_text, mode_text, attributes_text, list_text, assignment_text, with_escapes, printed_text, AddsWords, AddsBytes};
-ghost use Rattle.gix_pathspec.specs.RoundTrips.{IsSayablePattern, RoundTripIsExact, LongTextIsInjective, ParsedIsExpressible, ParsedRoundTrips};
+ghost use Rattle.gix_pathspec.specs.RoundTrips.{IsExpressiblePattern, RoundTripIsExact, LongTextIsInjective, ParsedIsExpressible, ParsedRoundTrips};
 
 use crate::{Error, MagicSignature, Pattern, SearchMode};
 use bitflags::Flags;
@@ -32,12 +32,12 @@ impl Pattern {
         ensures text { IfOk result (λ text.
             bstring_bytes text ≡ long_text (pattern_spec self.now)) }
         ensures err { IfErr result IsMemory }
-        ensures round_trip { IsSayablePattern (pattern_spec self.now)
+        ensures round_trip { IsExpressiblePattern (pattern_spec self.now)
             → IfOk result (λ text. Reads no_defaults (bstring_bytes text) (pattern_spec self.now)) }
         // Text that is UTF-8 is printed as it is.
         ensures printed { IfOk result (λ text. IsUtf8 (bstring_bytes text)
             → printed_text (pattern_spec self.now) ≡ bstring_bytes text) }
-        // Only sayable specs come back, and their texts tell them apart; what a text says is sayable.
+        // Only expressible specs come back, and their texts tell them apart; what a text says is expressible.
         ensures laws { RoundTripIsExact × LongTextIsInjective
             × ParsedIsExpressible × ParsedRoundTrips }
     {

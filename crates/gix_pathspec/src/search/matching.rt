@@ -23,7 +23,7 @@ use bstr::BStr;
 pub fn match_kind(pattern: &Pattern, path: BStr<'_>, is_dir: bool) -> Option<MatchKind>
     requires { IsFalse (is_glob (pattern_spec pattern.now)) }
     ensures kind { result ≡ fit (pattern_spec pattern.now) (bstr_bytes path.entry) is_dir }
-    ensures spec_matches { IsTrue (is_empty (pattern_spec pattern.now).attributes) → (table : Table)
+    ensures matches { IsTrue (is_empty (pattern_spec pattern.now).attributes) → (table : Table)
         → is_some result ≡ spec_matches table (pattern_spec pattern.now) (bstr_bytes path.entry) is_dir }
 {
     if !is_in_prefix_directory(pattern, path, is_dir) {
@@ -51,7 +51,7 @@ fn is_in_prefix_directory(pattern: &Pattern, path: BStr<'_>, is_dir: bool) -> bo
     !ignores_case(pattern)
         || prefix.is_empty()
         || is_below(path, prefix, false)
-        || is_same(path, prefix, false) && is_dir
+        || is_same_text(path, prefix, false) && is_dir
 }
 
 /// Whether the path is the pattern's, and a directory where the pattern wants one.
@@ -60,7 +60,7 @@ fn is_verbatim_match(pattern: &Pattern, path: BStr<'_>, is_dir: bool) -> bool
 {
     let takes_kind = is_dir || !pattern.signature.contains(MagicSignature::MUST_BE_DIR);
     takes_kind
-        && is_same(
+        && is_same_text(
             path.as_bytes(),
             pattern.path.as_slice(),
             ignores_case(pattern),
@@ -86,7 +86,7 @@ fn ignores_case(pattern: &Pattern) -> bool
 }
 
 /// Whether two texts are one, up to ASCII case where it doesn't count.
-fn is_same(left: &[u8], right: &[u8], ignore_case: bool) -> bool
+fn is_same_text(left: &[u8], right: &[u8], ignore_case: bool) -> bool
     ensures { result ≡ bytes_eq (fold_case ignore_case left.now) (fold_case ignore_case right.now) }
 {
     if ignore_case {
@@ -103,7 +103,7 @@ fn is_below(path: &[u8], directory: &[u8], ignore_case: bool) -> bool
 {
     let n = directory.len();
     if n < path.len() && path[n] == b'/' {
-        is_same(directory, &path[..n], ignore_case)
+        is_same_text(directory, &path[..n], ignore_case)
     } else {
         false
     }

@@ -67,7 +67,7 @@ impl Tokens {
     ///
     /// # Errors
     /// Memory runs out.
-    pub fn read(alloc: Global, pattern: &[u8], mode: Mode) -> Result<Tokens, AllocError>
+    pub fn of_pattern(alloc: Global, pattern: &[u8], mode: Mode) -> Result<Tokens, AllocError>
         ensures { IfOk result (λ read. read ≡ token_list mode pattern.now) }
     {
         Ok(Tokens {
@@ -208,7 +208,7 @@ impl Single {
         ensures { result ≡ takes mode case (single_view self.now) byte }
     {
         match self {
-            Single::Byte(own) | Single::Quoted(own) => is_same(case, *own, byte),
+            Single::Byte(own) | Single::Quoted(own) => is_same_byte(case, *own, byte),
             Single::Any => !is_barred(mode, byte),
             Single::Bracket(negated, items) => {
                 !is_barred(mode, byte) && brackets::bracket_holds(items, case, byte) != *negated
@@ -219,7 +219,7 @@ impl Single {
 }
 
 /// Whether the bytes are one, up to case where it doesn't count.
-fn is_same(case: Case, own: u8, byte: u8) -> bool
+fn is_same_byte(case: Case, own: u8, byte: u8) -> bool
     ensures { result ≡ is_same_byte case own byte }
 {
     match case {

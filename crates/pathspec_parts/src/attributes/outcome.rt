@@ -92,7 +92,7 @@ impl Outcome {
         ensures names { names_of self.new ≡ names_of self.old }
     {
         let copies = copies_for(*self.places.allocator(), &self.places, name, state)?;
-        put(&mut self.places, name, copies);
+        put_copies(&mut self.places, name, copies);
         Ok(())
     }
 
@@ -135,7 +135,7 @@ fn copies_for(
 }
 
 /// Gives one of the copies to each place with this name.
-fn put(places: &mut [Assignment], name: &[u8], mut copies: Vec<State>)
+fn put_copies(places: &mut [Assignment], name: &[u8], mut copies: Vec<State>)
     requires { vec_len copies ≡ name_count (map assignment_view places.old) name.now }
     ensures { (state : Attribute) → AreCopies state copies.items
         → map assignment_view places.new ≡ set_state (map assignment_view places.old) name.now state }

@@ -9,4 +9,4 @@ pub match_kind-requires : goal.match_kind-requires
 match_kind-requires c = (supported-parts (pattern_spec c.args.pattern.now) c.requires).0
 
 pub returns : goal.returns
-returns c = c.is_some.ensures ∙ c.match_kind.ensures.spec_matches (supported-parts (pattern_spec c.args.pattern.now) c.requires).1 (table_of [])
+returns c = c.is_some.ensures ∙ c.match_kind.ensures.matches (supported-parts (pattern_spec c.args.pattern.now) c.requires).1 (table_of [])

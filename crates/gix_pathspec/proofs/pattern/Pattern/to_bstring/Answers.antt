@@ -11,30 +11,30 @@ use Rattle.pathspec_parts.specs.AttributeStates.{assignment_view}
 use Rattle.pathspec_parts.specs.declared.attributes.state.Assignment.{Assignment}
 use Rattle.gix_pathspec.specs.Patterns.{pattern_spec}
 use Rattle.gix_pathspec.specs.LongText.{long_text}
-use Rattle.gix_pathspec.specs.RoundTrips.{is_expressible_state, is_set, is_expressible_assignment, is_sayable_state, IsExpressible}
+use Rattle.gix_pathspec.specs.RoundTrips.{is_expressible_state, is_set, is_expressible_assignment, has_expressible_state, IsExpressible}
 use Rattle.gix_pathspec.proofs.RoundTripProofs.{long_text_reads, long_text_is_injective}
 use Rattle.gix_pathspec.proofs.ParsedProofs.{round_trip_is_exact, parsed_is_expressible, parsed_round_trips}
 use Rattle.gix_pathspec.proofs.pattern.Pattern.to_bstring.Goals as goal
 
 -- a name is valid by its type
-sayable-named : (assignments : List Assignment) → list_all is_sayable_state (map assignment_view assignments) ≡ true → list_all is_expressible_assignment (map assignment_view assignments) ≡ true
-sayable-named [] h = refl
-sayable-named (a ∷ rest) h =
+expressible-named : (assignments : List Assignment) → list_all has_expressible_state (map assignment_view assignments) ≡ true → list_all is_expressible_assignment (map assignment_view assignments) ≡ true
+expressible-named [] h = refl
+expressible-named (a ∷ rest) h =
     let name = (assignment_view a).name in
     let state = (assignment_view a).state in
     let fits = not (is_set state && is_empty name) in
-    let p = and_parts (is_expressible_state state && fits) (list_all is_sayable_state (map assignment_view rest)) h in
+    let p = and_parts (is_expressible_state state && fits) (list_all has_expressible_state (map assignment_view rest)) h in
     let q = and_parts (is_expressible_state state) fits p.0 in
     and_from (is_expressible_assignment (assignment_view a)) (list_all is_expressible_assignment (map assignment_view rest))
     (and_from (is_attribute_name name && is_expressible_state state) fits (and_from (is_attribute_name name) (is_expressible_state state) a.name.is_name q.0) q.1)
-    (sayable-named rest p.1)
+    (expressible-named rest p.1)
 
 pub returns-in_err-long_text-clause-laws : goal.returns-in_err-long_text-clause-laws
 returns-in_err-long_text-clause-laws c = (round_trip_is_exact, long_text_is_injective, parsed_is_expressible, parsed_round_trips)
 
 pub returns-clause-round_trip : goal.returns-clause-round_trip
-returns-clause-round_trip c sayable =
-    let named : IsExpressible (pattern_spec c.args.self.now) = record { bits = sayable.bits; prefix = sayable.prefix; assignments = sayable-named c.args.self.now.attributes.items sayable.assignments; path = sayable.path; nil = sayable.nil } in
+returns-clause-round_trip c expressible =
+    let named : IsExpressible (pattern_spec c.args.self.now) = record { bits = expressible.bits; prefix = expressible.prefix; assignments = expressible-named c.args.self.now.attributes.items expressible.assignments; path = expressible.path; nil = expressible.nil } in
     rw (c.new.ensures, c.in_ok-long_text.ensures) (long_text_reads (pattern_spec c.args.self.now) named)
 
 pub returns-clause-printed : goal.returns-clause-printed

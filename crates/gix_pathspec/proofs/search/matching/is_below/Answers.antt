@@ -5,7 +5,7 @@ use Rattle.gix_pathspec.proofs.search.matching.is_below.Goals.{else-n-path-via-t
 use Rattle.gix_pathspec.proofs.search.matching.is_below.Goals as goal
 
 pub returns-then-path-n-eq47 : goal.returns-then-path-n-eq47
-returns-then-path-n-eq47 c = c.is_same.ensures ∙ below-folded_slash c.args.ignore_case c.args.path.now c.args.directory.now c.if-n-path.true c.if-path-n-eq47.true
+returns-then-path-n-eq47 c = c.is_same_text.ensures ∙ below-folded_slash c.args.ignore_case c.args.path.now c.args.directory.now c.if-n-path.true c.if-path-n-eq47.true
 
 pub returns-else-n-path : goal.returns-else-n-path
 returns-else-n-path c = elim c.else-n-path.branch [

@@ -5,29 +5,29 @@ use Rattle.gix_pathspec.proofs.search.matching.match_kind.Goals as goal
 pub returns-then-not-is_in_prefix_directory-clause-kind : goal.returns-then-not-is_in_prefix_directory-clause-kind
 returns-then-not-is_in_prefix_directory-clause-kind c = fit-lost _ _ _ cc
 
-pub returns-then-not-is_in_prefix_directory-clause-spec_matches : goal.returns-then-not-is_in_prefix_directory-clause-spec_matches
-returns-then-not-is_in_prefix_directory-clause-spec_matches c none = spec_matches-fits _ _ _ _ none (returns-then-not-is_in_prefix_directory-clause-kind c)
+pub returns-then-not-is_in_prefix_directory-clause-matches : goal.returns-then-not-is_in_prefix_directory-clause-matches
+returns-then-not-is_in_prefix_directory-clause-matches c none = spec_matches-fits _ _ _ _ none (returns-then-not-is_in_prefix_directory-clause-kind c)
 
 pub returns-then-always_matches-clause-kind : goal.returns-then-always_matches-clause-kind
 returns-then-always_matches-clause-kind c = fit-always _ _ _ (cc) c.requires (cc)
 
-pub returns-then-always_matches-clause-spec_matches : goal.returns-then-always_matches-clause-spec_matches
-returns-then-always_matches-clause-spec_matches c none = spec_matches-fits _ _ _ _ none (returns-then-always_matches-clause-kind c)
+pub returns-then-always_matches-clause-matches : goal.returns-then-always_matches-clause-matches
+returns-then-always_matches-clause-matches c none = spec_matches-fits _ _ _ _ none (returns-then-always_matches-clause-kind c)
 
 pub returns-then-is_verbatim_match-clause-kind : goal.returns-then-is_verbatim_match-clause-kind
 returns-then-is_verbatim_match-clause-kind c = fit-verbatim _ _ _ (cc) c.requires (cc) (cc)
 
-pub returns-then-is_verbatim_match-clause-spec_matches : goal.returns-then-is_verbatim_match-clause-spec_matches
-returns-then-is_verbatim_match-clause-spec_matches c none = spec_matches-fits _ _ _ _ none (returns-then-is_verbatim_match-clause-kind c)
+pub returns-then-is_verbatim_match-clause-matches : goal.returns-then-is_verbatim_match-clause-matches
+returns-then-is_verbatim_match-clause-matches c none = spec_matches-fits _ _ _ _ none (returns-then-is_verbatim_match-clause-kind c)
 
 pub returns-then-is_prefix_match-clause-kind : goal.returns-then-is_prefix_match-clause-kind
 returns-then-is_prefix_match-clause-kind c = fit-prefixed _ _ _ (cc) c.requires (cc) (cc) (cc)
 
-pub returns-then-is_prefix_match-clause-spec_matches : goal.returns-then-is_prefix_match-clause-spec_matches
-returns-then-is_prefix_match-clause-spec_matches c none = spec_matches-fits _ _ _ _ none (returns-then-is_prefix_match-clause-kind c)
+pub returns-then-is_prefix_match-clause-matches : goal.returns-then-is_prefix_match-clause-matches
+returns-then-is_prefix_match-clause-matches c none = spec_matches-fits _ _ _ _ none (returns-then-is_prefix_match-clause-kind c)
 
 pub returns-else-is_prefix_match-clause-kind : goal.returns-else-is_prefix_match-clause-kind
 returns-else-is_prefix_match-clause-kind c = fit-none _ _ _ (cc) c.requires (cc) (cc) (cc)
 
-pub returns-else-is_prefix_match-clause-spec_matches : goal.returns-else-is_prefix_match-clause-spec_matches
-returns-else-is_prefix_match-clause-spec_matches c none = spec_matches-fits _ _ _ _ none (returns-else-is_prefix_match-clause-kind c)
+pub returns-else-is_prefix_match-clause-matches : goal.returns-else-is_prefix_match-clause-matches
+returns-else-is_prefix_match-clause-matches c none = spec_matches-fits _ _ _ _ none (returns-else-is_prefix_match-clause-kind c)

@@ -3,8 +3,8 @@ use Rattle.std.proofs.Common.{◌<◌, length, sym, ap, ◌∙◌, true, None, a
 use Rattle.std.specs.Option.{option_map}
 use Rattle.pathspec_glob.specs.GlobForms.{bracket_view}
 use Rattle.pathspec_glob.proofs.TokenProofs.{items-shorter}
-use Rattle.pathspec_glob.proofs.reading.bracket.Goals.{then-negated, else-negated}
-use Rattle.pathspec_glob.proofs.reading.bracket.Goals as goal
+use Rattle.pathspec_glob.proofs.reading.bracket_piece.Goals.{then-negated, else-negated}
+use Rattle.pathspec_glob.proofs.reading.bracket_piece.Goals as goal
 
 pub overflow_sub-result : goal.overflow_sub-result
 overflow_sub-result c =

@@ -3,8 +3,8 @@ use Rattle.std.proofs.Common.{◌∙◌, sym, arith}
 use Rattle.std.proofs.lemmas.Grind.{common_steps}
 use Rattle.std.proofs.lemmas.List.{set-get_or}
 use Rattle.pathspec_parts.proofs.OutcomeProofs.{put-named, put-other, put-left}
-use Rattle.pathspec_parts.proofs.attributes.outcome.put.Goals as goal
-use Rattle.pathspec_parts.proofs.attributes.outcome.put.Goals.{then-is_named+in-Some+in-Value-1, then-is_named+in-Some+in-Set-1, then-is_named+in_default, else-is_named}
+use Rattle.pathspec_parts.proofs.attributes.outcome.put_copies.Goals as goal
+use Rattle.pathspec_parts.proofs.attributes.outcome.put_copies.Goals.{then-is_named+in-Some+in-Value-1, then-is_named+in-Some+in-Set-1, then-is_named+in_default, else-is_named}
 
 pub loop-place-preserved : goal.loop-place-preserved
 loop-place-preserved c =
