@@ -17,7 +17,8 @@ pub fn ask_of_file<L: LookUp>(
     file: BStr<'_>,
     out: &mut Outcome,
 ) -> Result<bool, L::Fault>
-    ensures answer { let question = question_of (bstr_bytes file.entry) Case.Sensitive false out.old in
+    ensures answer { let path = bstr_bytes file.entry in
+        let question = question_of path Case.Sensitive false out.old in
         IfOk result (λ found. reply_of found out.new ≡ L.table look_up.old question) }
     ensures names_stay { names_of out.new ≡ names_of out.old }
 {
