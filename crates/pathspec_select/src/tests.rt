@@ -2,6 +2,7 @@
 use crate::{Environment, Refusal, run};
 use std::alloc::{AllocError, Global};
 use std::io::{self, ErrorKind, Read, Write};
+use std::process::Abort;
 use std::test::Fail;
 
 /// What a run left: its status, the line of its refusal, and what was written.
@@ -65,8 +66,27 @@ fn ended(alloc: Global, words: &str, listing: &[u8]) -> Result<Ending, AllocErro
     })
 }
 
+/// Asserts each row: words, a listing, and what is written for them.
+fn assert_written(
+    rt: &impl Abort,
+    alloc: Global,
+    rows: &[(&str, &str, &str)],
+) -> Result<(), AllocError> {
+    for (words, listing, want) in rows {
+        let end = ended(alloc, words, listing.as_bytes())?;
+        assert_eq!(rt; end.line.as_str(), "", "line of {words}");
+        assert_eq!(rt; end.status, 0, "status of {words}");
+        assert_eq!(rt;
+            end.written.as_slice(),
+            want.as_bytes(),
+            "written for {words}"
+        );
+    }
+    Ok(())
+}
+
 #[test]
-fn chosen_records_are_written(rt: HostRuntime) -> Result<(), Fail> {
+fn chosen_records_are_written(rt: HostRuntime) -> Result<(), AllocError> {
     let rows = [
         ("a/b", "a/\na/b\nc/\nc/d\n", "a/b\n"),
         (".", "a/\na/b\nc/\nc/d\n", "a/\na/b\nc/\nc/d\n"),
@@ -95,7 +115,13 @@ fn chosen_records_are_written(rt: HostRuntime) -> Result<(), Fail> {
         (":(literal)a*", "a*\nab\n", "a*\n"),
         ("a/.. b", "a\nb\n", "a\nb\n"),
         ("a/../b", "a\nb\n", "b\n"),
-        // In a prefix, and in a root.
+    ];
+    assert_written(&rt, rt.alloc(), &rows)
+}
+
+#[test]
+fn specs_are_read_in_a_prefix_and_a_root(rt: HostRuntime) -> Result<(), AllocError> {
+    let rows = [
         ("--prefix a", "a/b\nb\n", "a/b\n"),
         ("--prefix a :/b c", "b\na/b\na/c\n", "b\na/c\n"),
         ("--prefix a :(icase)B", "a/b\nA/b\n", "a/b\n"),
@@ -112,17 +138,7 @@ fn chosen_records_are_written(rt: HostRuntime) -> Result<(), Fail> {
         ("--root /r --prefix b /r/a", "a/x\nb/a\n", "a/x\n"),
         ("--root /r /r", "a/x\nb\n", "a/x\nb\n"),
     ];
-    for (words, listing, want) in rows {
-        let end = ended(rt.alloc(), words, listing.as_bytes())?;
-        assert_eq!(rt; end.line.as_str(), "", "line of {words}");
-        assert_eq!(rt; end.status, 0, "status of {words}");
-        assert_eq!(rt;
-            end.written.as_slice(),
-            want.as_bytes(),
-            "written for {words}"
-        );
-    }
-    Ok(())
+    assert_written(&rt, rt.alloc(), &rows)
 }
 
 #[test]
