@@ -127,6 +127,7 @@ fn prefix_of(argument: &[u8]) -> &[u8]
 mod tests {
     use super::*;
     use std::alloc::{AllocError, Global};
+    use std::process::Abort;
     use std::test::Fail;
 
     /// The words of a line, with a space between each two.
@@ -138,9 +139,41 @@ mod tests {
         Ok(words)
     }
 
+    /// The specs of a line, of which an empty one has none.
+    fn specs_of(alloc: Global, line: &str) -> Result<Vec<String>, AllocError> {
+        if line.is_empty() {
+            return Ok(Vec::new(alloc));
+        }
+        words_of(alloc, line)
+    }
+
+    /// A line, and what its options say: the prefix, the root and the line of the specs.
+    type Row<'r> = (&'r str, &'r str, &'r str, &'r str);
+
+    /// Asserts each row.
+    fn assert_read(rt: &impl Abort, alloc: Global, rows: &[Row<'_>]) -> Result<(), Fail> {
+        for row in rows {
+            let words = words_of(alloc, row.0)?;
+            let Ok(options) = options_from_words(words.as_slice()) else {
+                return Err("refused".into());
+            };
+            let specs = specs_of(alloc, row.3)?;
+            assert_options(rt, &options, row);
+            assert_eq!(rt; options.specs, specs.as_slice(), "specs in {}", row.0);
+        }
+        Ok(())
+    }
+
+    /// Asserts the prefix and the root that options say.
+    fn assert_options(rt: &impl Abort, options: &Options<'_>, row: &Row<'_>) {
+        let (line, prefix, root, _) = row;
+        assert_eq!(rt; options.prefix, prefix.as_bytes(), "prefix in {line}");
+        assert_eq!(rt; options.root, root.as_bytes(), "root in {line}");
+    }
+
     #[test]
     fn options_are_read_up_to_the_specs(rt: HostRuntime) -> Result<(), Fail> {
-        let rows = [
+        const ROWS: &[Row<'_>] = &[
             ("a", "", "", "a"),
             ("--prefix a b", "a", "", "b"),
             ("--prefix a/ b", "a", "", "b"),
@@ -156,26 +189,22 @@ mod tests {
             ("-- --prefix a", "", "", "--prefix a"),
             ("--prefix a -- -x", "a", "", "-x"),
         ];
-        for (line, prefix, root, specs) in rows {
-            let words = words_of(rt.alloc(), line)?;
-            let Ok(options) = options_from_words(words.as_slice()) else {
-                return Err("refused".into());
-            };
-            assert_eq!(rt; options.prefix, prefix.as_bytes(), "prefix in {line}");
-            assert_eq!(rt; options.root, root.as_bytes(), "root in {line}");
-            let mut left = options.specs.iter();
-            for spec in specs.split_whitespace() {
-                let word = left.next().ok_or("too few")?;
-                assert_eq!(rt; word.as_str(), spec, "spec in {line}");
-            }
-            assert!(rt; left.next().is_none(), "left after {line}");
+        assert_read(&rt, rt.alloc(), ROWS)
+    }
+
+    /// Asserts that each line is refused.
+    fn assert_refused(rt: &impl Abort, alloc: Global, lines: &[&str]) -> Result<(), AllocError> {
+        for line in lines {
+            let words = words_of(alloc, line)?;
+            let refused = matches!(options_from_words(words.as_slice()), Err(Refusal::Usage));
+            assert!(rt; refused, "accepted: {line}");
         }
         Ok(())
     }
 
     #[test]
-    fn wrong_options_are_refused(rt: HostRuntime) -> Result<(), Fail> {
-        for line in [
+    fn wrong_options_are_refused(rt: HostRuntime) -> Result<(), AllocError> {
+        const LINES: &[&str] = &[
             "--prefix a// b",
             "--prefix ../a",
             "--prefix / x",
@@ -188,11 +217,7 @@ mod tests {
             "-z",
             "-",
             "--prefix a --prefix .. b",
-        ] {
-            let words = words_of(rt.alloc(), line)?;
-            let refused = matches!(options_from_words(words.as_slice()), Err(Refusal::Usage));
-            assert!(rt; refused, "accepted: {line}");
-        }
-        Ok(())
+        ];
+        assert_refused(&rt, rt.alloc(), LINES)
     }
 }

@@ -28,8 +28,10 @@ fn no_environment() -> Environment {
 /// The words of a line, between spaces.
 fn words_of(alloc: Global, line: &str) -> Result<Vec<String>, AllocError> {
     let mut words = Vec::new(alloc);
-    for word in line.split_whitespace() {
-        words.push(String::from_str(alloc, word)?)?;
+    for word in line.split(' ') {
+        if !word.is_empty() {
+            words.push(String::from_str(alloc, word)?)?;
+        }
     }
     Ok(words)
 }
@@ -48,22 +50,25 @@ fn line_of(alloc: Global, outcome: &Result<(), Refusal>) -> Result<String, Alloc
     }
 }
 
-fn ended(alloc: Global, words: &str, listing: &[u8]) -> Result<Ending, AllocError> {
-    let words = words_of(alloc, words)?;
-    let mut reader = listing;
+/// What a run left that read its listing from here.
+fn ended_over(
+    alloc: Global,
+    words: &[String],
+    reader: &mut impl Read,
+) -> Result<Ending, AllocError> {
     let mut written = Vec::new(alloc);
-    let outcome = run(
-        alloc,
-        words.as_slice(),
-        &no_environment(),
-        &mut reader,
-        &mut written,
-    );
+    let outcome = run(alloc, words, &no_environment(), reader, &mut written);
     Ok(Ending {
         status: status_of(&outcome),
         line: line_of(alloc, &outcome)?,
         written,
     })
+}
+
+fn ended(alloc: Global, words: &str, listing: &[u8]) -> Result<Ending, AllocError> {
+    let words = words_of(alloc, words)?;
+    let mut reader = listing;
+    ended_over(alloc, words.as_slice(), &mut reader)
 }
 
 /// Asserts each row: words, a listing, and what is written for them.
@@ -87,7 +92,7 @@ fn assert_written(
 
 #[test]
 fn chosen_records_are_written(rt: HostRuntime) -> Result<(), AllocError> {
-    let rows = [
+    const ROWS: &[(&str, &str, &str)] = &[
         ("a/b", "a/\na/b\nc/\nc/d\n", "a/b\n"),
         (".", "a/\na/b\nc/\nc/d\n", "a/\na/b\nc/\nc/d\n"),
         ("a :!a/x", "a/x\na/y\nab\n", "a/y\n"),
@@ -116,12 +121,12 @@ fn chosen_records_are_written(rt: HostRuntime) -> Result<(), AllocError> {
         ("a/.. b", "a\nb\n", "a\nb\n"),
         ("a/../b", "a\nb\n", "b\n"),
     ];
-    assert_written(&rt, rt.alloc(), &rows)
+    assert_written(&rt, rt.alloc(), ROWS)
 }
 
 #[test]
 fn specs_are_read_in_a_prefix_and_a_root(rt: HostRuntime) -> Result<(), AllocError> {
-    let rows = [
+    const ROWS: &[(&str, &str, &str)] = &[
         ("--prefix a", "a/b\nb\n", "a/b\n"),
         ("--prefix a :/b c", "b\na/b\na/c\n", "b\na/c\n"),
         ("--prefix a :(icase)B", "a/b\nA/b\n", "a/b\n"),
@@ -138,12 +143,27 @@ fn specs_are_read_in_a_prefix_and_a_root(rt: HostRuntime) -> Result<(), AllocErr
         ("--root /r --prefix b /r/a", "a/x\nb/a\n", "a/x\n"),
         ("--root /r /r", "a/x\nb\n", "a/x\nb\n"),
     ];
-    assert_written(&rt, rt.alloc(), &rows)
+    assert_written(&rt, rt.alloc(), ROWS)
+}
+
+/// Asserts each row: words, a listing, and the status and the line of their refusal.
+fn assert_refused(
+    rt: &impl Abort,
+    alloc: Global,
+    rows: &[(&str, &str, u8, &str)],
+) -> Result<(), AllocError> {
+    for (words, listing, status, line) in rows {
+        let end = ended(alloc, words, listing.as_bytes())?;
+        assert_eq!(rt; end.line.as_str(), *line, "line of {words}");
+        assert_eq!(rt; end.status, *status, "status of {words}");
+        assert!(rt; end.written.is_empty(), "written for {words}");
+    }
+    Ok(())
 }
 
 #[test]
-fn the_first_fault_is_refused_and_nothing_is_written(rt: HostRuntime) -> Result<(), Fail> {
-    let rows = [
+fn the_first_fault_is_refused_and_nothing_is_written(rt: HostRuntime) -> Result<(), AllocError> {
+    const ROWS: &[(&str, &str, u8, &str)] = &[
         ("-", "", 2, USAGE),
         ("-z a", "", 2, USAGE),
         ("--prefix", "", 2, USAGE),
@@ -181,13 +201,7 @@ fn the_first_fault_is_refused_and_nothing_is_written(rt: HostRuntime) -> Result<
         ("", "a//\n", 4, "line 1"),
         ("a", "b\n\n", 4, "line 2"),
     ];
-    for (words, listing, status, line) in rows {
-        let end = ended(rt.alloc(), words, listing.as_bytes())?;
-        assert_eq!(rt; end.line.as_str(), line, "line of {words}");
-        assert_eq!(rt; end.status, status, "status of {words}");
-        assert!(rt; end.written.is_empty(), "written for {words}");
-    }
-    Ok(())
+    assert_refused(&rt, rt.alloc(), ROWS)
 }
 
 #[test]
@@ -195,23 +209,29 @@ fn an_empty_word_is_an_empty_spec(rt: HostRuntime) -> Result<(), Fail> {
     let mut words = words_of(rt.alloc(), "a")?;
     words.push(String::new(rt.alloc()))?;
     let mut reader = b"a\n".as_slice();
-    let mut written = Vec::new(rt.alloc());
-    let outcome = run(
-        rt.alloc(),
-        words.as_slice(),
-        &no_environment(),
-        &mut reader,
-        &mut written,
-    );
-    let line = line_of(rt.alloc(), &outcome)?;
-    assert_eq!(rt; line.as_str(), "spec 1: Empty", "line");
-    assert_eq!(rt; status_of(&outcome), 3, "status");
-    assert!(rt; written.is_empty(), "written");
+    let end = ended_over(rt.alloc(), words.as_slice(), &mut reader)?;
+    assert_eq!(rt; end.line.as_str(), "spec 1: Empty", "line");
+    assert_eq!(rt; end.status, 3, "status");
+    assert!(rt; end.written.is_empty(), "written");
+    Ok(())
+}
+
+/// Asserts each row: a refusal, its status and its line.
+fn assert_lines(
+    rt: &impl Abort,
+    alloc: Global,
+    rows: &[(Refusal, u8, &str)],
+) -> Result<(), AllocError> {
+    for (refusal, status, line) in rows {
+        let printed = refusal.to_string(alloc)?;
+        assert_eq!(rt; printed.as_str(), *line, "line of {line}");
+        assert_eq!(rt; refusal.status(), *status, "status of {line}");
+    }
     Ok(())
 }
 
 #[test]
-fn refusals_have_a_line_each(rt: HostRuntime) -> Result<(), Fail> {
+fn refusals_have_a_line_each(rt: HostRuntime) -> Result<(), AllocError> {
     let rows = [
         (Refusal::Read, 5, "read"),
         (
@@ -222,12 +242,7 @@ fn refusals_have_a_line_each(rt: HostRuntime) -> Result<(), Fail> {
         (Refusal::Write, 5, "write"),
         (Refusal::Memory, 6, "memory"),
     ];
-    for (refusal, status, line) in rows.iter() {
-        let printed = refusal.to_string(rt.alloc())?;
-        assert_eq!(rt; printed.as_str(), *line, "line of {line}");
-        assert_eq!(rt; refusal.status(), *status, "status of {line}");
-    }
-    Ok(())
+    assert_lines(&rt, rt.alloc(), &rows)
 }
 
 #[test]
@@ -275,30 +290,37 @@ impl<'a> Read for Faltering<'a> {
     }
 }
 
-#[test]
-fn a_failed_read_is_refused(rt: HostRuntime) -> Result<(), Fail> {
-    let words = words_of(rt.alloc(), "a")?;
-    for fault in [ErrorKind::BrokenPipe, ErrorKind::Interrupted] {
-        for given in ["", "a", "a\n", "/"] {
-            let mut reader = Faltering {
-                bytes: given.as_bytes(),
-                fault,
-            };
-            let mut written = Vec::new(rt.alloc());
-            let outcome = run(
-                rt.alloc(),
-                words.as_slice(),
-                &no_environment(),
-                &mut reader,
-                &mut written,
-            );
-            let line = line_of(rt.alloc(), &outcome)?;
-            assert_eq!(rt; line.as_str(), "read", "line after {given}");
-            assert_eq!(rt; status_of(&outcome), 5, "status after {given}");
-            assert!(rt; written.is_empty(), "written after {given}");
-        }
+/// What a run left whose listing ends in this way.
+fn faltered(alloc: Global, given: &str, fault: ErrorKind) -> Result<Ending, AllocError> {
+    let words = words_of(alloc, "a")?;
+    let mut reader = Faltering {
+        bytes: given.as_bytes(),
+        fault,
+    };
+    ended_over(alloc, words.as_slice(), &mut reader)
+}
+
+/// Asserts that a read that fails in this way is refused after each text.
+fn assert_reads_refused(
+    rt: &impl Abort,
+    alloc: Global,
+    fault: ErrorKind,
+    texts: &[&str],
+) -> Result<(), AllocError> {
+    for given in texts {
+        let end = faltered(alloc, given, fault)?;
+        assert_eq!(rt; end.line.as_str(), "read", "line after {given}");
+        assert_eq!(rt; end.status, 5, "status after {given}");
+        assert!(rt; end.written.is_empty(), "written after {given}");
     }
     Ok(())
+}
+
+#[test]
+fn a_failed_read_is_refused(rt: HostRuntime) -> Result<(), AllocError> {
+    const TEXTS: &[&str] = &["", "a", "a\n", "/"];
+    assert_reads_refused(&rt, rt.alloc(), ErrorKind::BrokenPipe, TEXTS)?;
+    assert_reads_refused(&rt, rt.alloc(), ErrorKind::Interrupted, TEXTS)
 }
 
 /// Takes one byte a call, `left` times, and then answers in its way.
@@ -328,41 +350,52 @@ impl Write for Reluctant {
     }
 }
 
+/// What a run left whose writer takes so many calls, and then answers in its way.
+fn taken(alloc: Global, left: usize, fault: Option<ErrorKind>) -> Result<Ending, AllocError> {
+    let mut reader = b"a\nb\n".as_slice();
+    let mut writer = Reluctant {
+        taken: Vec::new(alloc),
+        left,
+        fault,
+    };
+    let outcome = run(alloc, &[], &no_environment(), &mut reader, &mut writer);
+    Ok(Ending {
+        status: status_of(&outcome),
+        line: line_of(alloc, &outcome)?,
+        written: writer.taken,
+    })
+}
+
+/// Asserts each row: how many calls a writer takes, how it answers then, the line of the run, and what was taken.
+fn assert_taken(
+    rt: &impl Abort,
+    alloc: Global,
+    rows: &[(usize, Option<ErrorKind>, &str, &str)],
+) -> Result<(), AllocError> {
+    for (left, fault, line, want) in rows {
+        let end = taken(alloc, *left, *fault)?;
+        let status = if line.is_empty() { 0 } else { 5 };
+        assert_eq!(rt; end.line.as_str(), *line, "line after {left} calls");
+        assert_eq!(rt; end.status, status, "status after {left} calls");
+        assert_eq!(rt;
+            end.written.as_slice(),
+            want.as_bytes(),
+            "taken in {left} calls"
+        );
+    }
+    Ok(())
+}
+
 #[test]
-fn a_writer_may_take_one_byte_a_call(rt: HostRuntime) -> Result<(), Fail> {
-    let words = words_of(rt.alloc(), "")?;
-    let rows = [
+fn a_writer_may_take_one_byte_a_call(rt: HostRuntime) -> Result<(), AllocError> {
+    const ROWS: &[(usize, Option<ErrorKind>, &str, &str)] = &[
         (4, Some(ErrorKind::BrokenPipe), "", "a\nb\n"),
         (2, Some(ErrorKind::BrokenPipe), "write", "a\n"),
         (2, Some(ErrorKind::Interrupted), "write", "a\n"),
         (3, None, "write", "a\nb"),
         (0, None, "write", ""),
     ];
-    for (left, fault, line, taken) in rows {
-        let mut reader = b"a\nb\n".as_slice();
-        let mut writer = Reluctant {
-            taken: Vec::new(rt.alloc()),
-            left,
-            fault,
-        };
-        let outcome = run(
-            rt.alloc(),
-            words.as_slice(),
-            &no_environment(),
-            &mut reader,
-            &mut writer,
-        );
-        let printed = line_of(rt.alloc(), &outcome)?;
-        let status = if line.is_empty() { 0 } else { 5 };
-        assert_eq!(rt; printed.as_str(), line, "line after {left} calls");
-        assert_eq!(rt; status_of(&outcome), status, "status after {left} calls");
-        assert_eq!(rt;
-            writer.taken.as_slice(),
-            taken.as_bytes(),
-            "taken in {left} calls"
-        );
-    }
-    Ok(())
+    assert_taken(&rt, rt.alloc(), ROWS)
 }
 
 #[test]
