@@ -18,6 +18,7 @@ pub struct Defaults {
 #[cfg(test)]
 mod tests {
     use super::*;
+    use crate::tests::assert_rising;
     use bitflags::Flags;
 
     #[test]
@@ -40,11 +41,6 @@ mod tests {
             Defaults { signature: MagicSignature::TOP, search_mode: SearchMode::Literal, literal: false },
             Defaults { signature: MagicSignature::ICASE, search_mode: SearchMode::ShellGlob, literal: false },
         ];
-        for (at, one) in rising.iter().enumerate() {
-            for (place, other) in rising.iter().enumerate() {
-                assert_eq!(rt; one == other, at == place, "{at} == {place}");
-                assert_eq!(rt; one < other, at < place, "{at} < {place}");
-            }
-        }
+        assert_rising(&rt, &rising, &rising);
     }
 }

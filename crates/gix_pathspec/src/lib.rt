@@ -87,14 +87,27 @@ pub enum SearchMode {
 #[cfg(test)]
 mod tests {
     use super::*;
+    use std::fmt::Debug;
     use std::hash::{DefaultHasher, Hash, Hasher};
+    use std::process::Abort;
+
+    /// Asserts each row: a name, and the bits of the flag that has it.
+    fn assert_flags(rt: &impl Abort, rows: &[(&str, u32)]) {
+        for (name, bits) in rows {
+            let flag = MagicSignature::from_name(name);
+            assert!(rt; flag.is_some_and(|flag| flag.bits() == *bits), "{name}");
+        }
+    }
 
     #[test]
     fn four_flags_have_a_bit_each(rt: HostRuntime) {
-        for (name, bits) in [("TOP", 1), ("ICASE", 2), ("EXCLUDE", 4), ("MUST_BE_DIR", 8)] {
-            let flag = MagicSignature::from_name(name);
-            assert!(rt; flag.is_some_and(|flag| flag.bits() == bits), "{name}");
-        }
+        const ROWS: &[(&str, u32)] = &[
+            ("TOP", 1),
+            ("ICASE", 2),
+            ("EXCLUDE", 4),
+            ("MUST_BE_DIR", 8),
+        ];
+        assert_flags(&rt, ROWS);
         assert!(rt; MagicSignature::from_name("top").is_none());
         let both = MagicSignature::TOP.union(MagicSignature::EXCLUDE);
         assert_eq!(rt; both.bits(), 5);
@@ -102,6 +115,43 @@ mod tests {
         assert!(rt; !both.contains(MagicSignature::ICASE));
         assert_eq!(rt; MagicSignature::from_bits_retain(256).bits(), 256);
         assert!(rt; MagicSignature::from_bits(256).is_none());
+    }
+
+    /// Asserts that equality and order go by the places of the values, in two tables with equal values in rising
+    /// order.
+    pub(crate) fn assert_rising<T: Ord + Debug>(rt: &impl Abort, values: &[T], others: &[T]) {
+        for (place, value) in values.iter().enumerate() {
+            assert_place(rt, place, value, others);
+        }
+    }
+
+    /// Asserts that a value is compared with each of a table in rising order as their places are.
+    fn assert_place<T: Ord + Debug>(rt: &impl Abort, place: usize, value: &T, others: &[T]) {
+        for (other_place, other) in others.iter().enumerate() {
+            let order = place.cmp(&other_place);
+            assert_eq!(rt; value == other, order.is_eq(), "{value:?} == {other:?}");
+            assert_eq!(rt; value.cmp(other), order, "{value:?} cmp {other:?}");
+            assert_eq!(rt; value < other, order.is_lt(), "{value:?} < {other:?}");
+        }
+    }
+
+    /// Asserts that values have one hash just where they have one place, in two tables with equal values.
+    pub(crate) fn assert_hashes<T: Hash + Debug>(rt: &impl Abort, values: &[T], others: &[T]) {
+        for (place, value) in values.iter().enumerate() {
+            assert_hash(rt, place, value, others);
+        }
+    }
+
+    /// Asserts that just the value of a table that has this place has the value's hash.
+    fn assert_hash<T: Hash + Debug>(rt: &impl Abort, place: usize, value: &T, others: &[T]) {
+        for (other_place, other) in others.iter().enumerate() {
+            let is_same = hash_of(value) == hash_of(other);
+            assert_eq!(rt;
+                is_same,
+                place == other_place,
+                "hash of {value:?} and {other:?}"
+            );
+        }
     }
 
     fn hash_of<T: Hash>(value: &T) -> u64 {
@@ -121,14 +171,8 @@ mod tests {
             MagicSignature::MUST_BE_DIR,
             MagicSignature::from_bits_retain(256),
         ];
-        for (at, one) in rising.iter().enumerate() {
-            for (place, other) in rising.iter().enumerate() {
-                assert_eq!(rt; one == other, at == place, "{at} == {place}");
-                assert_eq!(rt; one < other, at < place, "{at} < {place}");
-                let same_hash = hash_of(one) == hash_of(other);
-                assert_eq!(rt; same_hash, at == place, "hash of {at} and {place}");
-            }
-        }
+        assert_rising(&rt, &rising, &rising);
+        assert_hashes(&rt, &rising, &rising);
     }
 
     #[test]
@@ -138,14 +182,8 @@ mod tests {
             SearchMode::Literal,
             SearchMode::PathAwareGlob,
         ];
-        for (at, one) in rising.iter().enumerate() {
-            for (place, other) in rising.iter().enumerate() {
-                assert_eq!(rt; one == other, at == place, "{at} == {place}");
-                assert_eq!(rt; one < other, at < place, "{at} < {place}");
-                let same_hash = hash_of(one) == hash_of(other);
-                assert_eq!(rt; same_hash, at == place, "hash of {at} and {place}");
-            }
-        }
+        assert_rising(&rt, &rising, &rising);
+        assert_hashes(&rt, &rising, &rising);
         assert_eq!(rt; SearchMode::default(), SearchMode::ShellGlob);
     }
 }

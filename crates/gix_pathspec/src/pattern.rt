@@ -187,7 +187,8 @@ fn cloned(alloc: Global, assignments: &[Assignment]) -> Result<Vec<Assignment>, 
 #[cfg(test)]
 mod tests {
     use super::*;
-    use std::hash::{DefaultHasher, Hash, Hasher};
+    use crate::tests::{assert_hashes, assert_rising};
+    use std::process::Abort;
     use std::test::Fail;
 
     #[test]
@@ -234,15 +235,10 @@ mod tests {
         Ok(pattern)
     }
 
-    fn hash_of(pattern: &Pattern) -> u64 {
-        let mut hasher = DefaultHasher::new();
-        pattern.hash(&mut hasher);
-        hasher.finish()
-    }
-
-    #[test]
-    fn patterns_are_compared_field_by_field(rt: HostRuntime) -> Result<(), Fail> {
-        let rising = [
+    /// Patterns in rising order.
+    fn rising(alloc: Global) -> Result<Vec<Pattern>, Error> {
+        let mut patterns = Vec::new(alloc);
+        for field in [
             "none",
             "prefix length",
             "nil",
@@ -250,43 +246,51 @@ mod tests {
             "search mode",
             "signature",
             "path",
-        ];
-        for (place, field) in rising.iter().enumerate() {
-            let pattern = raised(rt.alloc(), field)?;
-            for (other_place, other_field) in rising.iter().enumerate() {
-                let other = raised(rt.alloc(), other_field)?;
-                let order = place.cmp(&other_place);
-                let is_same = place == other_place;
-                assert_eq!(rt; pattern == other, is_same, "{field} == {other_field}");
-                assert_eq!(rt; pattern.cmp(&other), order, "{field} cmp {other_field}");
-                assert_eq!(rt; pattern < other, order.is_lt(), "{field} < {other_field}");
-                let is_same_hash = hash_of(&pattern) == hash_of(&other);
-                assert_eq!(rt; is_same_hash, is_same, "hash of {field}, of {other_field}");
-            }
+        ] {
+            patterns.push(raised(alloc, field)?)?;
+        }
+        Ok(patterns)
+    }
+
+    #[test]
+    fn patterns_are_compared_field_by_field(rt: HostRuntime) -> Result<(), Error> {
+        let values = rising(rt.alloc())?;
+        let others = rising(rt.alloc())?;
+        assert_rising(&rt, &values, &others);
+        assert_hashes(&rt, &values, &others);
+        Ok(())
+    }
+
+    /// Asserts each row: a path, and whether it has a wildcard.
+    fn assert_wildcards(
+        rt: &impl Abort,
+        alloc: Global,
+        rows: &[(&str, bool)],
+    ) -> Result<(), Error> {
+        for (text, want) in rows {
+            let mut pattern = Pattern::from_literal(
+                alloc,
+                text.as_bytes(),
+                MagicSignature::empty(),
+            )?;
+            assert_eq!(rt; pattern.has_wildcard(), *want, "{text}");
+            assert!(rt; !pattern.is_glob(), "literal {text}");
+            pattern.search_mode = SearchMode::ShellGlob;
+            assert_eq!(rt; pattern.is_glob(), *want, "glob {text}");
         }
         Ok(())
     }
 
     #[test]
-    fn four_bytes_are_wildcards(rt: HostRuntime) -> Result<(), Fail> {
-        for (text, want) in [
+    fn four_bytes_are_wildcards(rt: HostRuntime) -> Result<(), Error> {
+        const ROWS: &[(&str, bool)] = &[
             ("a*", true),
             ("?a", true),
             ("[", true),
             ("a\\b", true),
             ("a]b{}", false),
             ("", false),
-        ] {
-            let mut pattern = Pattern::from_literal(
-                rt.alloc(),
-                text.as_bytes(),
-                MagicSignature::empty(),
-            )?;
-            assert_eq!(rt; pattern.has_wildcard(), want, "{text}");
-            assert!(rt; !pattern.is_glob(), "literal {text}");
-            pattern.search_mode = SearchMode::ShellGlob;
-            assert_eq!(rt; pattern.is_glob(), want, "glob {text}");
-        }
-        Ok(())
+        ];
+        assert_wildcards(&rt, rt.alloc(), ROWS)
     }
 }

@@ -128,12 +128,46 @@ fn is_value_byte(byte: u8) -> bool
 mod tests {
     use super::*;
     use pathspec_parts::attributes::StateRef;
+    use std::alloc::AllocError;
+    use std::process::Abort;
     use std::test::Fail;
+
+    /// Tells an assignment, as in `a is set; `.
+    fn tell(told: &mut Vec<u8>, assignment: &Assignment) -> Result<(), AllocError> {
+        told.extend_from_slice(assignment.name.as_bytes().as_bytes())?;
+        told.extend_from_slice(b" is ")?;
+        told.extend_from_slice(match assignment.state.as_ref() {
+            StateRef::Set => b"set",
+            StateRef::Unset => b"unset",
+            StateRef::Value(value) => value,
+            StateRef::Unspecified => b"unspecified",
+        })?;
+        told.extend_from_slice(b"; ")?;
+        Ok(())
+    }
+
+    /// Tells what a list says.
+    fn told(alloc: Global, list: &str) -> Result<Vec<u8>, Error> {
+        let mut told = Vec::new(alloc);
+        for assignment in &attributes(alloc, list.as_bytes())? {
+            tell(&mut told, assignment)?;
+        }
+        Ok(told)
+    }
+
+    /// Asserts each row: a list, and what it says.
+    fn assert_told(rt: &impl Abort, alloc: Global, rows: &[(&str, &str)]) -> Result<(), Error> {
+        for (list, want) in rows {
+            let told = told(alloc, list)?;
+            assert_eq!(rt; told.as_slice(), want.as_bytes(), "{list}");
+        }
+        Ok(())
+    }
 
     #[test]
     #[rattlefmt::skip]
-    fn parts_of_a_list_say_assignments(rt: HostRuntime) -> Result<(), Fail> {
-        let rows = [
+    fn parts_of_a_list_say_assignments(rt: HostRuntime) -> Result<(), Error> {
+        const ROWS: &[(&str, &str)] = &[
             ("a -b !c d=v", "a is set; b is unset; c is unspecified; d is v; "),
             (" ", ""),
             ("  ", ""),
@@ -149,49 +183,59 @@ mod tests {
             ("a a", "a is set; a is set; "),
             ("A.b-c_9", "A.b-c_9 is set; "),
         ];
+        assert_told(&rt, rt.alloc(), ROWS)
+    }
+
+    /// Asserts each row: a list, and its fault.
+    fn assert_faults(rt: &impl Abort, alloc: Global, rows: &[(&str, Error)]) {
         for (list, want) in rows {
-            let mut told = Vec::new(rt.alloc());
-            for assignment in &attributes(rt.alloc(), list.as_bytes())? {
-                told.extend_from_slice(assignment.name.as_bytes().as_bytes())?;
-                told.extend_from_slice(b" is ")?;
-                told.extend_from_slice(match assignment.state.as_ref() {
-                    StateRef::Set => b"set",
-                    StateRef::Unset => b"unset",
-                    StateRef::Value(value) => value,
-                    StateRef::Unspecified => b"unspecified",
-                })?;
-                told.extend_from_slice(b"; ")?;
-            }
-            assert_eq!(rt; told.as_slice(), want.as_bytes(), "{list}");
+            let fault = attributes(alloc, list.as_bytes()).err();
+            assert_eq!(rt; fault.as_ref(), Some(want), "{list}");
         }
-        Ok(())
     }
 
     #[test]
-    #[rattlefmt::skip]
-    fn the_first_part_at_fault_is_told(rt: HostRuntime) -> Result<(), Fail> {
-        let alloc = rt.alloc();
+    fn the_first_part_at_fault_is_told(rt: HostRuntime) {
         let rows = [
             ("", Error::EmptyAttributes),
-            ("--1", Error::InvalidName(Vec::from_slice(alloc, b"-1")?)),
-            ("!a=b", Error::InvalidName(Vec::from_slice(alloc, b"a=b")?)),
-            ("!-a", Error::InvalidName(Vec::from_slice(alloc, b"-a")?)),
-            ("-x=\\", Error::InvalidName(Vec::from_slice(alloc, b"x=\\")?)),
-            ("b!=v", Error::InvalidName(Vec::from_slice(alloc, b"b!")?)),
-            ("a\tb", Error::InvalidName(Vec::from_slice(alloc, b"a\tb")?)),
             ("a=b=c", Error::InvalidValueByte(b'=')),
             ("a=x\\\\", Error::InvalidValueByte(b'\\')),
             ("a=é", Error::InvalidValueByte(195)),
             ("a=. -", Error::InvalidValueByte(b'.')),
             ("b!=.", Error::InvalidValueByte(b'.')),
-            ("a=x\\", Error::TrailingEscape(Vec::from_slice(alloc, b"x\\")?)),
-            ("a=x\\ b=.", Error::TrailingEscape(Vec::from_slice(alloc, b"x\\")?)),
-            ("a b! c=.", Error::InvalidName(Vec::from_slice(alloc, b"b!")?)),
         ];
-        for (list, want) in rows {
-            let fault = attributes(alloc, list.as_bytes()).err();
-            assert_eq!(rt; fault, Some(want), "{list}");
+        assert_faults(&rt, rt.alloc(), &rows);
+    }
+
+    /// Asserts each row: a list, the kind of its fault, and the bytes that the fault carries.
+    fn assert_refused(
+        rt: &impl Abort,
+        alloc: Global,
+        rows: &[(&str, &str, &str)],
+    ) -> Result<(), Fail> {
+        for (list, kind, bytes) in rows {
+            let Err(fault) = attributes(alloc, list.as_bytes()) else {
+                return Err("read".into());
+            };
+            assert_eq!(rt; fault.kind(), *kind, "{list}");
+            assert_eq!(rt; fault.carried(), Some(bytes.as_bytes()), "{list}");
         }
         Ok(())
+    }
+
+    #[test]
+    fn the_first_part_at_fault_is_told_with_its_bytes(rt: HostRuntime) -> Result<(), Fail> {
+        const ROWS: &[(&str, &str, &str)] = &[
+            ("--1", "InvalidName", "-1"),
+            ("!a=b", "InvalidName", "a=b"),
+            ("!-a", "InvalidName", "-a"),
+            ("-x=\\", "InvalidName", "x=\\"),
+            ("b!=v", "InvalidName", "b!"),
+            ("a\tb", "InvalidName", "a\tb"),
+            ("a=x\\", "TrailingEscape", "x\\"),
+            ("a=x\\ b=.", "TrailingEscape", "x\\"),
+            ("a b! c=.", "InvalidName", "b!"),
+        ];
+        assert_refused(&rt, rt.alloc(), ROWS)
     }
 }

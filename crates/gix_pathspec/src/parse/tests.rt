@@ -1,78 +1,97 @@
 //! What texts say, and how they are refused.
 use super::*;
 use crate::SearchMode;
+use SearchMode::{Literal, PathAwareGlob, ShellGlob};
 use bstr::BStr;
+use std::process::Abort;
 use std::test::Fail;
 
+/// A text, and the path, the bits of the signature and the mode that it says.
+type MagicRow<'r> = (&'r str, &'r str, u32, SearchMode);
+
+/// Asserts what each text says.
+fn assert_magic(rt: &impl Abort, alloc: Global, rows: &[MagicRow<'_>]) -> Result<(), Error> {
+    for row in rows {
+        let pattern = parse(alloc, row.0.as_bytes(), Defaults::default())?;
+        assert_row(rt, &pattern, row);
+    }
+    Ok(())
+}
+
+/// Asserts that the pattern is what its text says.
+fn assert_row(rt: &impl Abort, pattern: &Pattern, row: &MagicRow<'_>) {
+    let (text, path, bits, mode) = row;
+    assert_eq!(rt;
+        pattern.path().as_bytes(),
+        path.as_bytes(),
+        "path of {text}"
+    );
+    assert_eq!(rt; pattern.signature.bits(), *bits, "signature of {text}");
+    assert_eq!(rt; pattern.search_mode, *mode, "mode of {text}");
+    assert!(rt; !pattern.is_nil(), "{text}");
+}
+
 #[test]
-fn short_magic_says_a_signature(rt: HostRuntime) -> Result<(), Fail> {
-    let rows = [
-        ("::", "", 0),
-        (":!", "", 4),
-        (":^", "", 4),
-        (":/", "", 1),
-        ("a", "a", 0),
-        ("a//", "a/", 8),
-        ("/", "", 8),
-        ("(x", "(x", 0),
-        (":x(y", "x(y", 0),
-        ("://!!^x", "x", 5),
-        ("::-x", "-x", 0),
-        (":/:a", "a", 1),
-        (":!a/", "a", 12),
+fn short_magic_says_a_signature(rt: HostRuntime) -> Result<(), Error> {
+    const ROWS: &[MagicRow<'_>] = &[
+        ("::", "", 0, ShellGlob),
+        (":!", "", 4, ShellGlob),
+        (":^", "", 4, ShellGlob),
+        (":/", "", 1, ShellGlob),
+        ("a", "a", 0, ShellGlob),
+        ("a//", "a/", 8, ShellGlob),
+        ("/", "", 8, ShellGlob),
+        ("(x", "(x", 0, ShellGlob),
+        (":x(y", "x(y", 0, ShellGlob),
+        ("://!!^x", "x", 5, ShellGlob),
+        ("::-x", "-x", 0, ShellGlob),
+        (":/:a", "a", 1, ShellGlob),
+        (":!a/", "a", 12, ShellGlob),
     ];
-    for (text, path, bits) in rows {
-        let pattern = parse(rt.alloc(), text.as_bytes(), Defaults::default())?;
+    assert_magic(&rt, rt.alloc(), ROWS)
+}
+
+#[test]
+#[rattlefmt::skip]
+fn long_magic_says_a_signature_and_a_mode(rt: HostRuntime) -> Result<(), Error> {
+    const ROWS: &[MagicRow<'_>] = &[
+        (":(top)x", "x", 1, ShellGlob),
+        (":(top,)x", "x", 1, ShellGlob),
+        (":(,top)x", "x", 1, ShellGlob),
+        (":()x", "x", 0, ShellGlob),
+        (":()", "", 0, ShellGlob),
+        (":(attr)x", "x", 0, ShellGlob),
+        (":(icase,exclude)a/", "a", 14, ShellGlob),
+        (":(top,literal,icase,attr,exclude)some/path", "some/path", 7, Literal),
+        (":(glob)a*", "a*", 0, PathAwareGlob),
+        (":(glob,glob)x", "x", 0, PathAwareGlob),
+        (":!(top)x", "x", 5, ShellGlob),
+        ("::(top)x", "x", 1, ShellGlob),
+        (":/!:(icase)x", "x", 7, ShellGlob),
+        (":(top)(icase)x", "(icase)x", 1, ShellGlob),
+        (":(top):x)", ":x)", 1, ShellGlob),
+    ];
+    assert_magic(&rt, rt.alloc(), ROWS)
+}
+
+/// Asserts each row: a text, and the list of the attributes that it says.
+fn assert_attributes(rt: &impl Abort, alloc: Global, rows: &[(&str, &str)]) -> Result<(), Error> {
+    for (text, list) in rows {
+        let pattern = parse(alloc, text.as_bytes(), Defaults::default())?;
+        let want = attributes(alloc, list.as_bytes())?;
         assert_eq!(rt;
-            pattern.path().as_bytes(),
-            path.as_bytes(),
-            "path of {text}"
+            pattern.attributes.as_slice(),
+            want.as_slice(),
+            "attributes of {text}"
         );
-        assert_eq!(rt; pattern.signature.bits(), bits, "signature of {text}");
-        assert_eq!(rt;
-            pattern.search_mode,
-            SearchMode::ShellGlob,
-            "mode of {text}"
-        );
-        assert!(rt; !pattern.is_nil(), "{text}");
     }
     Ok(())
 }
 
 #[test]
 #[rattlefmt::skip]
-fn long_magic_says_a_signature_and_a_mode(rt: HostRuntime) -> Result<(), Fail> {
-    let rows = [
-        (":(top)x", "x", 1, SearchMode::ShellGlob),
-        (":(top,)x", "x", 1, SearchMode::ShellGlob),
-        (":(,top)x", "x", 1, SearchMode::ShellGlob),
-        (":()x", "x", 0, SearchMode::ShellGlob),
-        (":()", "", 0, SearchMode::ShellGlob),
-        (":(attr)x", "x", 0, SearchMode::ShellGlob),
-        (":(icase,exclude)a/", "a", 14, SearchMode::ShellGlob),
-        (":(top,literal,icase,attr,exclude)some/path", "some/path", 7, SearchMode::Literal),
-        (":(glob)a*", "a*", 0, SearchMode::PathAwareGlob),
-        (":(glob,glob)x", "x", 0, SearchMode::PathAwareGlob),
-        (":!(top)x", "x", 5, SearchMode::ShellGlob),
-        ("::(top)x", "x", 1, SearchMode::ShellGlob),
-        (":/!:(icase)x", "x", 7, SearchMode::ShellGlob),
-        (":(top)(icase)x", "(icase)x", 1, SearchMode::ShellGlob),
-        (":(top):x)", ":x)", 1, SearchMode::ShellGlob),
-    ];
-    for (text, path, bits, mode) in rows {
-        let pattern = parse(rt.alloc(), text.as_bytes(), Defaults::default())?;
-        assert_eq!(rt; pattern.path().as_bytes(), path.as_bytes(), "path of {text}");
-        assert_eq!(rt; pattern.signature.bits(), bits, "signature of {text}");
-        assert_eq!(rt; pattern.search_mode, mode, "mode of {text}");
-        assert!(rt; !pattern.is_nil(), "{text}");
-    }
-    Ok(())
-}
-
-#[test]
-#[rattlefmt::skip]
-fn long_magic_says_attributes(rt: HostRuntime) -> Result<(), Fail> {
-    let rows = [
+fn long_magic_says_attributes(rt: HostRuntime) -> Result<(), Error> {
+    const ROWS: &[(&str, &str)] = &[
         ("x", " "),
         (":(attr)x", " "),
         (":(attr: )x", " "),
@@ -84,12 +103,7 @@ fn long_magic_says_attributes(rt: HostRuntime) -> Result<(), Fail> {
         (":(attr:a=x\\,y)p", "a=x\\,y"),
         (":(glob,top,attr:a -b !c d=v)p/", "a -b !c d=v"),
     ];
-    for (text, list) in rows {
-        let pattern = parse(rt.alloc(), text.as_bytes(), Defaults::default())?;
-        let want = attributes(rt.alloc(), list.as_bytes())?;
-        assert_eq!(rt; pattern.attributes.as_slice(), want.as_slice(), "attributes of {text}");
-    }
-    Ok(())
+    assert_attributes(&rt, rt.alloc(), ROWS)
 }
 
 #[test]
@@ -138,6 +152,14 @@ fn defaults_fill_in(rt: HostRuntime) -> Result<(), Fail> {
     Ok(())
 }
 
+/// Asserts each row: a text, and its fault.
+fn assert_faults(rt: &impl Abort, alloc: Global, rows: &[(&str, Error)]) {
+    for (text, want) in rows {
+        let fault = Pattern::from_bytes(alloc, text.as_bytes(), Defaults::default()).err();
+        assert_eq!(rt; fault.as_ref(), Some(want), "{text}");
+    }
+}
+
 #[test]
 fn texts_are_refused_with_a_byte_or_none(rt: HostRuntime) {
     let rows = [
@@ -151,16 +173,25 @@ fn texts_are_refused_with_a_byte_or_none(rt: HostRuntime) {
         (":(attr:a=x\\\\,y)p", Error::InvalidValueByte(b'\\')),
         (":(attr:a=é)x", Error::InvalidValueByte(195)),
     ];
-    for (text, want) in rows {
-        let fault = Pattern::from_bytes(rt.alloc(), text.as_bytes(), Defaults::default()).err();
-        assert_eq!(rt; fault, Some(want), "{text}");
+    assert_faults(&rt, rt.alloc(), &rows);
+}
+
+/// Asserts each row: a text, the kind of its fault, and the bytes that the fault carries.
+fn assert_refused(rt: &impl Abort, alloc: Global, rows: &[(&str, &str, &str)]) -> Result<(), Fail> {
+    for (text, kind, bytes) in rows {
+        let Err(error) = Pattern::from_bytes(alloc, text.as_bytes(), Defaults::default()) else {
+            return Err("read".into());
+        };
+        assert_eq!(rt; error.kind(), *kind, "{text}");
+        assert_eq!(rt; error.carried(), Some(bytes.as_bytes()), "{text}");
     }
+    Ok(())
 }
 
 #[test]
 #[rattlefmt::skip]
 fn texts_are_refused_with_their_bytes(rt: HostRuntime) -> Result<(), Fail> {
-    let rows = [
+    const ROWS: &[(&str, &str, &str)] = &[
         (":(top", "MissingParen", ":(top"),
         (":!(", "MissingParen", ":!("),
         (":(foo)x", "InvalidKeyword", "foo"),
@@ -181,22 +212,5 @@ fn texts_are_refused_with_their_bytes(rt: HostRuntime) -> Result<(), Fail> {
         (":(attr:-x=\\)y", "InvalidName", "x=\\"),
         (":(attr:a=x\\)y", "TrailingEscape", "x\\"),
     ];
-    for (text, kind, carried) in rows {
-        let Err(error) = Pattern::from_bytes(rt.alloc(), text.as_bytes(), Defaults::default()) else {
-            return Err("read".into());
-        };
-        assert_eq!(rt; error.kind(), kind, "{text}");
-        match &error {
-            Error::MissingParen(bytes)
-            | Error::InvalidKeyword(bytes)
-            | Error::LiteralWithGlob(bytes)
-            | Error::SecondAttributes(bytes)
-            | Error::InvalidName(bytes)
-            | Error::TrailingEscape(bytes) => {
-                assert_eq!(rt; bytes.as_slice(), carried.as_bytes(), "{text}");
-            }
-            _ => return Err("another error".into()),
-        }
-    }
-    Ok(())
+    assert_refused(&rt, rt.alloc(), ROWS)
 }

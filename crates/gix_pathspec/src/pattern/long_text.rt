@@ -215,12 +215,44 @@ impl fmt::Display for Pattern {
 mod tests {
     use super::*;
     use crate::Defaults;
+    use std::alloc::Global;
+    use std::process::Abort;
     use std::test::Fail;
+
+    /// Asserts each row: a text, and the long text of its pattern.
+    fn assert_long_texts(
+        rt: &impl Abort,
+        alloc: Global,
+        rows: &[(&str, &str)],
+    ) -> Result<(), Error> {
+        for (text, want) in rows {
+            let pattern = Pattern::from_bytes(alloc, text.as_bytes(), Defaults::default())?;
+            assert_long_text(rt, alloc, &pattern, text, want)?;
+        }
+        Ok(())
+    }
+
+    /// Asserts that a pattern has this long text, which is printed and reads back as the pattern.
+    fn assert_long_text(
+        rt: &impl Abort,
+        alloc: Global,
+        pattern: &Pattern,
+        text: &str,
+        want: &str,
+    ) -> Result<(), Error> {
+        let long = pattern.to_bstring()?;
+        assert_eq!(rt; long.as_bytes(), want.as_bytes(), "{text}");
+        let printed = pattern.to_string(alloc)?;
+        assert_eq!(rt; printed.as_str(), want, "{text}");
+        let again = Pattern::from_bytes(alloc, long.as_bytes(), Defaults::default())?;
+        assert_eq!(rt; &again, pattern, "{text}");
+        Ok(())
+    }
 
     #[test]
     #[rattlefmt::skip]
-    fn long_texts_read_back(rt: HostRuntime) -> Result<(), Fail> {
-        let rows = [
+    fn long_texts_read_back(rt: HostRuntime) -> Result<(), Error> {
+        const ROWS: &[(&str, &str)] = &[
             (":", ":"),
             ("::", ":()"),
             (":!", ":(exclude)"),
@@ -234,16 +266,7 @@ mod tests {
             (":(attr:=v)x", ":(attr:=v)x"),
             (":(attr: )x", ":()x"),
         ];
-        for (text, want) in rows {
-            let pattern = Pattern::from_bytes(rt.alloc(), text.as_bytes(), Defaults::default())?;
-            let long = pattern.to_bstring()?;
-            assert_eq!(rt; long.as_bytes(), want.as_bytes(), "{text}");
-            let printed = pattern.to_string(rt.alloc())?;
-            assert_eq!(rt; printed.as_str(), want, "{text}");
-            let again = Pattern::from_bytes(rt.alloc(), long.as_bytes(), Defaults::default())?;
-            assert_eq!(rt; again, pattern, "{text}");
-        }
-        Ok(())
+        assert_long_texts(&rt, rt.alloc(), ROWS)
     }
 
     #[test]

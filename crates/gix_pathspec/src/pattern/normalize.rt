@@ -361,12 +361,60 @@ fn write_name(path: &mut Vec<u8>, place: usize, name: BStr<'_>) -> Result<(), Al
 mod tests {
     use super::*;
     use crate::Defaults;
+    use std::process::Abort;
     use std::test::Fail;
+
+    /// A prefix or a root, a text, and what its normal form has: its path, its prefix directory, and whether it is nil.
+    type Row<'r> = (&'r str, &'r str, &'r str, &'r str, bool);
+
+    /// Asserts the parts of a normal form.
+    fn assert_normal(rt: &impl Abort, normal: &Pattern, row: &Row<'_>) {
+        let (_, text, path, directory, nil) = row;
+        assert_eq!(rt; normal.path().as_bytes(), path.as_bytes(), "path of {text}");
+        assert_eq!(rt;
+            normal.prefix_directory().as_bytes(),
+            directory.as_bytes(),
+            "prefix directory of {text}"
+        );
+        assert_eq!(rt; normal.is_nil(), *nil, "nil of {text}");
+    }
+
+    /// Asserts each row, of a prefix.
+    fn assert_in_prefixes(rt: &impl Abort, alloc: Global, rows: &[Row<'_>]) -> Result<(), Error> {
+        for row in rows {
+            let mut pattern = Pattern::from_bytes(alloc, row.1.as_bytes(), Defaults::default())?;
+            assert_in_prefix(rt, &mut pattern, row)?;
+        }
+        Ok(())
+    }
+
+    /// Asserts that the prefix gives the pattern this normal form, whose path stays.
+    fn assert_in_prefix(
+        rt: &impl Abort,
+        pattern: &mut Pattern,
+        row: &Row<'_>,
+    ) -> Result<(), Error> {
+        let text = row.1;
+        let (bits, mode) = (pattern.signature, pattern.search_mode);
+        let prefix = BStr::new(row.0.as_bytes());
+        assert!(rt; path::is_clean_prefix(prefix), "prefix of {text}");
+        let normal = pattern.normalize(prefix, BStr::new(b""))?;
+        assert_normal(rt, normal, row);
+        assert_eq!(rt; normal.signature, bits, "signature of {text}");
+        assert_eq!(rt; normal.search_mode, mode, "mode of {text}");
+        let again = normal.normalize(BStr::new(b""), BStr::new(b""))?;
+        assert_eq!(rt;
+            again.path().as_bytes(),
+            row.2.as_bytes(),
+            "path of {text}, again"
+        );
+        Ok(())
+    }
 
     #[test]
     #[rattlefmt::skip]
-    fn paths_are_resolved_from_the_prefix(rt: HostRuntime) -> Result<(), Fail> {
-        let rows = [
+    fn paths_are_resolved_from_the_prefix(rt: HostRuntime) -> Result<(), Error> {
+        const ROWS: &[Row<'_>] = &[
             ("", "a", "a", "", false),
             ("", "./c", "c", "", false),
             ("", "a//", "a", "", false),
@@ -389,27 +437,23 @@ mod tests {
             ("a/b", "./", "a/b", "a/b", false),
             ("a/b", "../b/c", "a/b/c", "a", false),
         ];
-        for (prefix, text, want, directory, nil) in rows {
-            let mut pattern = Pattern::from_bytes(rt.alloc(), text.as_bytes(), Defaults::default())?;
-            let (bits, mode) = (pattern.signature, pattern.search_mode);
-            let prefix = BStr::new(prefix.as_bytes());
-            assert!(rt; path::is_clean_prefix(prefix), "prefix of {text}");
-            let normal = pattern.normalize(prefix, BStr::new(b""))?;
-            assert_eq!(rt; normal.path().as_bytes(), want.as_bytes(), "path of {text}");
-            assert_eq!(rt; normal.prefix_directory().as_bytes(), directory.as_bytes(), "prefix directory of {text}");
-            assert_eq!(rt; normal.is_nil(), nil, "nil of {text}");
-            assert_eq!(rt; normal.signature, bits, "signature of {text}");
-            assert_eq!(rt; normal.search_mode, mode, "mode of {text}");
-            let again = normal.normalize(BStr::new(b""), BStr::new(b""))?;
-            assert_eq!(rt; again.path().as_bytes(), want.as_bytes(), "path of {text}, again");
+        assert_in_prefixes(&rt, rt.alloc(), ROWS)
+    }
+
+    /// Asserts each row, of a root.
+    fn assert_in_roots(rt: &impl Abort, alloc: Global, rows: &[Row<'_>]) -> Result<(), Error> {
+        for row in rows {
+            let mut pattern = Pattern::from_bytes(alloc, row.1.as_bytes(), Defaults::default())?;
+            let normal = pattern.normalize(BStr::new(b"p"), BStr::new(row.0.as_bytes()))?;
+            assert_normal(rt, normal, row);
         }
         Ok(())
     }
 
     #[test]
     #[rattlefmt::skip]
-    fn absolute_paths_are_resolved_from_the_root(rt: HostRuntime) -> Result<(), Fail> {
-        let rows = [
+    fn absolute_paths_are_resolved_from_the_root(rt: HostRuntime) -> Result<(), Error> {
+        const ROWS: &[Row<'_>] = &[
             ("/r", "/r/a/b", "a/b", "a", false),
             ("/r", "/r", "", "", false),
             ("/r", "/r/a/..", ".", "", true),
@@ -417,20 +461,70 @@ mod tests {
             ("/r", "/r/a/../b", "b", "", false),
             ("/", "/a", "a", "", false),
         ];
-        for (root, text, path, directory, nil) in rows {
-            let mut pattern = Pattern::from_bytes(rt.alloc(), text.as_bytes(), Defaults::default())?;
-            let normal = pattern.normalize(BStr::new(b"p"), BStr::new(root.as_bytes()))?;
-            assert_eq!(rt; normal.path().as_bytes(), path.as_bytes(), "path of {text}");
-            assert_eq!(rt; normal.prefix_directory().as_bytes(), directory.as_bytes(), "prefix directory of {text}");
-            assert_eq!(rt; normal.is_nil(), nil, "nil of {text}");
+        assert_in_roots(&rt, rt.alloc(), ROWS)
+    }
+
+    /// A prefix, a root, a text, and the kind of its refusal.
+    type Refused<'r> = (&'r str, &'r str, &'r str, &'r str);
+
+    /// Asserts each row.
+    fn assert_rows_refused(
+        rt: &impl Abort,
+        alloc: Global,
+        rows: &[Refused<'_>],
+    ) -> Result<(), Fail> {
+        for row in rows {
+            let mut pattern = Pattern::from_bytes(alloc, row.2.as_bytes(), Defaults::default())?;
+            let before = pattern.try_clone()?;
+            assert_refused(rt, &mut pattern, &before, row)?;
         }
         Ok(())
+    }
+
+    /// Asserts that both calls refuse to normalise the pattern, and leave it as it was before.
+    fn assert_refused(
+        rt: &impl Abort,
+        pattern: &mut Pattern,
+        before: &Pattern,
+        row: &Refused<'_>,
+    ) -> Result<(), Fail> {
+        let (prefix, root, text, _) = row;
+        let (prefix, root) = (BStr::new(prefix.as_bytes()), BStr::new(root.as_bytes()));
+        assert!(rt; path::is_clean_prefix(prefix), "prefix of {text}");
+        let Err(error) = pattern.normalize(prefix, root) else {
+            return Err("normalised".into());
+        };
+        assert_told(rt, &error, before, row, "normalize");
+        assert_eq!(rt; &*pattern, before, "pattern after normalize {text}");
+        let Err(error) = pattern.resolve(prefix, root) else {
+            return Err("resolved".into());
+        };
+        assert_told(rt, &error, before, row, "resolve");
+        assert_eq!(rt; &*pattern, before, "pattern after resolve {text}");
+        Ok(())
+    }
+
+    /// Asserts that the refusal of a call is of the row's kind, and tells the path of the pattern before it.
+    fn assert_told(
+        rt: &impl Abort,
+        error: &Error,
+        before: &Pattern,
+        row: &Refused<'_>,
+        call: &str,
+    ) {
+        let (_, _, text, kind) = row;
+        assert_eq!(rt; error.kind(), *kind, "{call} {text}");
+        assert_eq!(rt;
+            error.carried(),
+            Some(before.path().as_bytes()),
+            "path of {call} {text}"
+        );
     }
 
     #[test]
     #[rattlefmt::skip]
     fn what_lies_outside_is_refused(rt: HostRuntime) -> Result<(), Fail> {
-        let rows = [
+        const ROWS: &[Refused<'_>] = &[
             ("", "", "..", "LeavesRepository"),
             ("", "", "./..", "LeavesRepository"),
             ("a", "", "../..", "LeavesRepository"),
@@ -441,33 +535,7 @@ mod tests {
             ("", "", "/r/a/b", "OutsideRoot"),
             ("", "r", "/r/a/b", "OutsideRoot"),
         ];
-        for (prefix, root, text, kind) in rows {
-            let mut pattern = Pattern::from_bytes(rt.alloc(), text.as_bytes(), Defaults::default())?;
-            let before = pattern.try_clone()?;
-            let (prefix, root) = (BStr::new(prefix.as_bytes()), BStr::new(root.as_bytes()));
-            assert!(rt; path::is_clean_prefix(prefix), "prefix of {text}");
-            let Err(error) = pattern.normalize(prefix, root) else {
-                return Err("normalised".into());
-            };
-            assert_eq!(rt; error.kind(), kind, "normalize {text}");
-            assert_eq!(rt; told_path(&error), Some(before.path().as_bytes()), "path of normalize {text}");
-            assert_eq!(rt; pattern, before, "pattern after normalize {text}");
-            let Err(error) = pattern.resolve(prefix, root) else {
-                return Err("resolved".into());
-            };
-            assert_eq!(rt; error.kind(), kind, "resolve {text}");
-            assert_eq!(rt; told_path(&error), Some(before.path().as_bytes()), "path of resolve {text}");
-            assert_eq!(rt; pattern, before, "pattern after resolve {text}");
-        }
-        Ok(())
-    }
-
-    /// The path that a refusal tells.
-    fn told_path(error: &Error) -> Option<&[u8]> {
-        match error {
-            Error::OutsideRoot(path) | Error::LeavesRepository(path) => Some(path.as_slice()),
-            _ => None,
-        }
+        assert_rows_refused(&rt, rt.alloc(), ROWS)
     }
 
     #[test]

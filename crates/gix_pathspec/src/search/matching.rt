@@ -112,12 +112,36 @@ fn is_below(path: &[u8], directory: &[u8], ignore_case: bool) -> bool
 #[cfg(test)]
 mod tests {
     use super::*;
-    use crate::{Defaults, SearchMode, parse};
-    use std::test::Fail;
+    use crate::{Defaults, Error, SearchMode, parse};
+    use std::alloc::Global;
+    use std::process::Abort;
+
+    /// A text, a path, whether the path is a directory, and how they match.
+    type Row<'r> = (&'r str, &'r str, bool, Option<MatchKind>);
+
+    /// Asserts that a pattern that is no glob matches a path so.
+    fn assert_kind(rt: &impl Abort, pattern: &Pattern, row: &Row<'_>) {
+        let (text, path, is_dir, want) = row;
+        assert!(rt; !pattern.is_glob(), "{text}");
+        assert_eq!(rt;
+            match_kind(pattern, BStr::new(path.as_bytes()), *is_dir),
+            *want,
+            "{text} on {path}"
+        );
+    }
+
+    /// Asserts how the pattern of each text matches.
+    fn assert_kinds(rt: &impl Abort, alloc: Global, rows: &[Row<'_>]) -> Result<(), Error> {
+        for row in rows {
+            let pattern = parse::parse(alloc, row.0.as_bytes(), Defaults::default())?;
+            assert_kind(rt, &pattern, row);
+        }
+        Ok(())
+    }
 
     #[test]
-    fn specs_match_paths_in_three_ways(rt: HostRuntime) -> Result<(), Fail> {
-        let rows = [
+    fn specs_match_paths_in_three_ways(rt: HostRuntime) -> Result<(), Error> {
+        const ROWS: &[Row<'_>] = &[
             ("dir", "dirt", false, None),
             ("dir", "dir/a", false, Some(MatchKind::Prefix)),
             ("dir", "dir", false, Some(MatchKind::Verbatim)),
@@ -133,43 +157,53 @@ mod tests {
             (":(literal)a*", "ab", false, None),
             (":(literal)a*", "a*/x", false, Some(MatchKind::Prefix)),
         ];
-        for (text, path, is_dir, want) in rows {
-            let pattern = parse::parse(rt.alloc(), text.as_bytes(), Defaults::default())?;
-            assert!(rt; !pattern.is_glob(), "{text}");
-            assert_eq!(rt;
-                match_kind(&pattern, BStr::new(path.as_bytes()), is_dir),
-                want,
-                "{text} on {path}"
-            );
-        }
-        Ok(())
+        assert_kinds(&rt, rt.alloc(), ROWS)
     }
 
     #[test]
-    fn case_may_not_count(rt: HostRuntime) -> Result<(), Fail> {
+    fn case_may_not_count(rt: HostRuntime) -> Result<(), Error> {
         let pattern = Pattern::from_literal(rt.alloc(), b"Ab/C", MagicSignature::ICASE)?;
-        assert!(rt; !pattern.is_glob());
-        let rows = [
-            ("aB/c", Some(MatchKind::Verbatim)),
-            ("AB/c/D", Some(MatchKind::Prefix)),
-            ("ab/cc", None),
-        ];
-        for (path, want) in rows {
-            assert_eq!(rt;
-                match_kind(&pattern, BStr::new(path.as_bytes()), false),
-                want,
-                "{path}"
-            );
-        }
+        assert_kind(
+            &rt,
+            &pattern,
+            &("Ab/C", "aB/c", false, Some(MatchKind::Verbatim)),
+        );
+        assert_kind(
+            &rt,
+            &pattern,
+            &("Ab/C", "AB/c/D", false, Some(MatchKind::Prefix)),
+        );
+        assert_kind(&rt, &pattern, &("Ab/C", "ab/cc", false, None));
         assert!(rt; MatchKind::Always < MatchKind::Prefix);
         assert!(rt; MatchKind::Prefix < MatchKind::WildcardMatch);
         assert!(rt; MatchKind::WildcardMatch < MatchKind::Verbatim);
         Ok(())
     }
 
+    /// The pattern without case that has this path, and a prefix directory of one byte.
+    fn without_case(alloc: Global, path: &str) -> Result<Pattern, Error> {
+        let mut pattern = Pattern::from_literal(alloc, path.as_bytes(), MagicSignature::ICASE)?;
+        pattern.search_mode = SearchMode::ShellGlob;
+        pattern.prefix_length = 1;
+        Ok(pattern)
+    }
+
+    /// Asserts how the pattern without case of each path matches.
+    fn assert_kinds_without_case(
+        rt: &impl Abort,
+        alloc: Global,
+        rows: &[Row<'_>],
+    ) -> Result<(), Error> {
+        for row in rows {
+            let pattern = without_case(alloc, row.0)?;
+            assert_kind(rt, &pattern, row);
+        }
+        Ok(())
+    }
+
     #[test]
-    fn case_counts_in_the_prefix_directory(rt: HostRuntime) -> Result<(), Fail> {
-        let rows = [
+    fn case_counts_in_the_prefix_directory(rt: HostRuntime) -> Result<(), Error> {
+        const ROWS: &[Row<'_>] = &[
             ("a/B", "a/b", false, Some(MatchKind::Verbatim)),
             ("a/B", "A/b", false, None),
             ("a/B", "a/b/c", false, Some(MatchKind::Prefix)),
@@ -181,22 +215,6 @@ mod tests {
             ("a", "A/x", false, None),
             ("a", "ab", false, None),
         ];
-        for (text, path, is_dir, want) in rows {
-            let pattern = Pattern {
-                path: Vec::from_slice(rt.alloc(), text.as_bytes())?,
-                signature: MagicSignature::ICASE,
-                search_mode: SearchMode::ShellGlob,
-                attributes: Vec::new(rt.alloc()),
-                nil: false,
-                prefix_length: 1,
-            };
-            assert!(rt; !pattern.is_glob(), "{text}");
-            assert_eq!(rt;
-                match_kind(&pattern, BStr::new(path.as_bytes()), is_dir),
-                want,
-                "{text} on {path}"
-            );
-        }
-        Ok(())
+        assert_kinds_without_case(&rt, rt.alloc(), ROWS)
     }
 }
