@@ -36,7 +36,7 @@ fn assert_rows(
 
 #[test]
 fn path_aware_globs_tell_slashes_apart(rt: HostRuntime) -> Result<(), AllocError> {
-    let rows = [
+    const ROWS: &[(&str, &str, bool)] = &[
         ("*.c", "x.c", true),
         ("*.c", "d/x.c", false),
         ("*", "", true),
@@ -60,12 +60,12 @@ fn path_aware_globs_tell_slashes_apart(rt: HostRuntime) -> Result<(), AllocError
         ("a[!b]c", "a/c", false),
         ("a[!b]c", "axc", true),
     ];
-    assert_rows(&rt, rt.alloc(), PathAware, Sensitive, &rows)
+    assert_rows(&rt, rt.alloc(), PathAware, Sensitive, ROWS)
 }
 
 #[test]
 fn shell_globs_take_slashes_too(rt: HostRuntime) -> Result<(), AllocError> {
-    let rows = [
+    const ROWS: &[(&str, &str, bool)] = &[
         ("*.c", "d/x.c", true),
         ("*/c", "a/d/c", true),
         ("**/x", "x", false),
@@ -74,12 +74,12 @@ fn shell_globs_take_slashes_too(rt: HostRuntime) -> Result<(), AllocError> {
         ("\\*", "\\*", false),
         ("A", "a", false),
     ];
-    assert_rows(&rt, rt.alloc(), Shell, Sensitive, &rows)
+    assert_rows(&rt, rt.alloc(), Shell, Sensitive, ROWS)
 }
 
 #[test]
 fn brackets_list_bytes_ranges_and_classes(rt: HostRuntime) -> Result<(), AllocError> {
-    let rows = [
+    const ROWS: &[(&str, &str, bool)] = &[
         ("[]x]", "]", true),
         ("[]x]", "x", true),
         ("[a-]", "-", true),
@@ -106,12 +106,12 @@ fn brackets_list_bytes_ranges_and_classes(rt: HostRuntime) -> Result<(), AllocEr
         ("[a", "[a", false),
         ("[a", "a", false),
     ];
-    assert_rows(&rt, rt.alloc(), Shell, Sensitive, &rows)
+    assert_rows(&rt, rt.alloc(), Shell, Sensitive, ROWS)
 }
 
 #[test]
 fn case_may_be_folded(rt: HostRuntime) -> Result<(), AllocError> {
-    let rows = [
+    const ROWS: &[(&str, &str, bool)] = &[
         ("A", "a", true),
         ("a", "A", true),
         ("[[:upper:]]", "q", true),
@@ -121,7 +121,7 @@ fn case_may_be_folded(rt: HostRuntime) -> Result<(), AllocError> {
         ("*.C", ".c", true),
         ("*.C", "c", false),
     ];
-    assert_rows(&rt, rt.alloc(), Shell, Fold, &rows)
+    assert_rows(&rt, rt.alloc(), Shell, Fold, ROWS)
 }
 
 #[test]
