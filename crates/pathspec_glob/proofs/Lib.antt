@@ -2,6 +2,7 @@ pub mod BracketProofs
 pub mod TokenProofs
 pub mod GlobProofs
 pub mod TailProofs
+pub mod StemProofs
 pub mod PlaceProofs
 pub mod AcceptProofs
 pub mod WindowProofs

@@ -62,11 +62,11 @@ plain_piece mode after_slash b rest h =
     rw (t.0, q.0, r.0, p.0) refl
 
 -- the tokens of such bytes
-abbrev plain_tokens : List ℕ → List Token
+abbrev pub plain_tokens : List ℕ → List Token
 plain_tokens front = map (λ b. One (Byte b)) front
 
 -- whether what follows the bytes stands after a slash, or where they stood
-abbrev slash_before_rest : Bool → List ℕ → Bool
+abbrev pub slash_before_rest : Bool → List ℕ → Bool
 slash_before_rest after_slash [] = after_slash
 slash_before_rest after_slash (b ∷ bs) = slash_before_rest (b == slash) bs
 

@@ -1,13 +1,13 @@
 -- Globs as they are compiled, and what is promised of their answers.
 use Rattle.std.specs.Prelude.{◌≡◌, ◌≤◌, ◌+◌, ◌*◌, ℕ, Bool, true, false, List, length, drop, not, ◌&&◌, ◌==◌, ◌↔◌, ◌⊎◌, IsTrue, IsFalse, nat_eq, if◌then◌else◌}
-use Rattle.std.specs.List.{list_any, ends_with}
+use Rattle.std.specs.List.{list_any, ends_with, before_first}
 use Rattle.pathspec_glob.specs.declared.Mode.{Mode}
 use Rattle.pathspec_glob.specs.declared.Mode.TheVariants.{Shell}
 use Rattle.pathspec_glob.specs.declared.Case.{Case}
 use Rattle.pathspec_glob.specs.declared.Case.TheVariants.{Sensitive, Fold}
 use Rattle.pathspec_glob.specs.declared.places.Places.{Places}
 use Rattle.pathspec_glob.specs.declared.scratch.tokens.Steps.{Steps}
-use Rattle.pathspec_glob.specs.Bytes.{slash, star, first_is, fold_case, is_wildcard}
+use Rattle.pathspec_glob.specs.Bytes.{slash, star, first_is, begins_with, fold_case, is_wildcard}
 use Rattle.pathspec_glob.specs.Tokens.{Token, tokens}
 use Rattle.pathspec_glob.specs.GlobRelation.{Matches, matches}
 
@@ -57,3 +57,8 @@ AnswersTail mode case pattern text given = IsTrue (is_tail_pattern pattern) → 
 -- The function gives just what the relation says.
 abbrev pub GlobIsRelation : Type 0
 GlobIsRelation = (mode : Mode) (case : Case) (ts : List Token) (text : List ℕ) → IsTrue (matches mode case ts text) ↔ Matches mode case ts text
+
+-- A text that a glob matches begins with what stands before the pattern's first wildcard, without case where case does not count.
+abbrev pub MatchBeginsStem : Type 0
+MatchBeginsStem = (mode : Mode) (case : Case) (pattern text : List ℕ) → IsTrue (matches mode case (tokens mode pattern) text)
+    → IsTrue (begins_with (fold_case (folds case) text) (fold_case (folds case) (before_first is_wildcard pattern)))

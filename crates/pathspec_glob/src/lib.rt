@@ -4,6 +4,7 @@
 ghost use Rattle.std.specs.Prelude.{◌≡◌, is_some};
 ghost use Rattle.std.specs.List.{list_any, position};
 ghost use Rattle.pathspec_glob.specs.Bytes.{is_wildcard};
+ghost use Rattle.pathspec_glob.specs.Globs.{MatchBeginsStem};
 
 mod brackets;
 mod matcher;
@@ -34,10 +35,13 @@ pub enum Case {
 
 /// The place of the first `*`, `?`, `[` or `\`.
 ///
+/// What stands before it begins each text that the pattern matches as a glob.
+///
 /// It looks at each byte up to that one.
 pub fn first_wildcard(text: &[u8]) -> Option<usize>
     ensures place { result ≡ position is_wildcard text.now }
     ensures found { is_some result ≡ list_any is_wildcard text.now }
+    ensures stem { MatchBeginsStem }
 {
     place_of_wildcard(text)
 }

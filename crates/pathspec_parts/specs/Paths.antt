@@ -1,5 +1,5 @@
 -- Paths: byte strings that are cut at `/` (gitglossary, "pathspec").
-use Rattle.std.specs.Prelude.{ℕ, Bool, not, ◌&&◌, ◌||◌, List, [], ◌∷◌, ◌++◌, length, drop, filter, codes, bytes_eq, ◌==◌, if◌then◌else◌, Option, Some, None, ◌-◌, take, nat_eq}
+use Rattle.std.specs.Prelude.{◌≡◌, ◌⊎◌, ℕ, Bool, not, ◌&&◌, ◌||◌, List, [], ◌∷◌, ◌++◌, length, drop, filter, codes, bytes_eq, ◌==◌, if◌then◌else◌, Option, Some, None, ◌-◌, take, nat_eq}
 use Rattle.std.specs.List.{starts_with, ends_with, list_all, join_with_byte, slice_split}
 use Rattle.pathspec_glob.specs.Bytes.{slash, is_empty, begins_with}
 
@@ -32,10 +32,18 @@ abbrev pub join_names : List (List ℕ) → List ℕ
 join_names names = join_with_byte slash names
 
 -- x begins with d and a slash
+abbrev pub IsBelow : List ℕ → List ℕ → Type 0
+IsBelow x d = (rest : List ℕ) × (x ≡ d ++ slash ∷ rest)
+
+-- x is d, or begins with d and a slash
+abbrev pub IsAtOrBelow : List ℕ → List ℕ → Type 0
+IsAtOrBelow x d = (x ≡ d) ⊎ IsBelow x d
+
+-- the first of these as a test
 abbrev pub is_below : List ℕ → List ℕ → Bool
 is_below x d = begins_with x (d ++ slash ∷ [])
 
--- x is d, or begins with d and a slash
+-- the second as a test
 abbrev pub is_at_or_below : List ℕ → List ℕ → Bool
 is_at_or_below x d = bytes_eq x d || is_below x d
 
