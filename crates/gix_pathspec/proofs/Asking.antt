@@ -1,51 +1,22 @@
 -- The questions that the rows ask, each as one function that computes.
-use Rattle.std.proofs.Common.{ℕ, Bool, true, false, List, [], Option, Result, Ok}
-use Rattle.std.specs.Option.{option_and_then}
+use Rattle.std.proofs.Common.{ℕ, Bool, true, false, List, [], ◌∷◌, Option, map}
+use Rattle.std.specs.Prelude.{bytes_eq}
+use Rattle.std.specs.Option.{option_map, option_and_then}
 use Rattle.std.specs.Result.{result_ok}
-use Rattle.pathspec_parts.specs.Attributes.{State, Assignment}
+use Rattle.pathspec_parts.specs.Attributes.{Table}
+use Rattle.pathspec_parts.specs.Attributes.State.{Set, Unspecified}
 use Rattle.pathspec_parts.specs.Tokens.{tokens_from}
 use Rattle.pathspec_parts.specs.GlobRelation.{matches}
-use Rattle.gix_pathspec.specs.declared.SearchMode.{SearchMode}
+use Rattle.pathspec_pattern.specs.LongText.{long_text}
 use Rattle.gix_pathspec.specs.declared.search.MatchKind.{MatchKind}
-use Rattle.gix_pathspec.specs.Results.{◌>>=◌}
-use Rattle.gix_pathspec.specs.Faults.{Fault}
-use Rattle.gix_pathspec.specs.AttributeLists.{assignment_of, assignments_of}
-use Rattle.gix_pathspec.specs.Specs.{Spec}
-use Rattle.gix_pathspec.specs.Reading.{no_defaults, reading, cut_of, is_unimplemented, magic_of, spec_of}
-use Rattle.gix_pathspec.specs.LongText.{long_text}
+use Rattle.gix_pathspec.specs.Results.{all_ok, ◌>>=◌}
 use Rattle.gix_pathspec.specs.NormalForm.{normal_form, climb}
-use Rattle.gix_pathspec.specs.Matching.{fit, prefix_directory}
-
--- a spec with a path, a signature and a mode, and with nothing else
-abbrev pub spec : List ℕ → ℕ → SearchMode → Spec
-spec path signature mode = record { path = path; signature = signature; mode = mode; attributes = []; nil = false; prefix_length = 0 }
-
--- the same with attributes
-abbrev pub spec_with : List ℕ → ℕ → SearchMode → List Assignment → Spec
-spec_with path signature mode attributes = record { path = path; signature = signature; mode = mode; attributes = attributes; nil = false; prefix_length = 0 }
-
-abbrev pub apply_assignments : List ℕ → State → Assignment
-apply_assignments name state = record { name = name; state = state }
-
--- what a text says without defaults
-unfoldable pub parse : List ℕ → Result Spec Fault
-unfolding reading cut_of is_unimplemented magic_of spec_of assignments_of assignment_of
-parse text = reading no_defaults text
-
--- the long text of that
-unfoldable pub long : List ℕ → Result (List ℕ) Fault
-unfolding parse long_text
-long text = parse text >>= λ s. Ok (long_text s)
-
--- path and prefix directory, and whether it is nil, of a text's normal form
-unfoldable pub normal : List ℕ → List ℕ → List ℕ → Result (List ℕ × List ℕ × Bool) Fault
-unfolding parse normal_form climb
-normal prefix root text = parse text >>= λ s. normal_form prefix root s >>= λ n. Ok (n.path, prefix_directory n, n.nil)
-
--- the same of a text under defaults that ask for a literal spec
-unfoldable pub normal_literal : List ℕ → List ℕ → Result (List ℕ × List ℕ × Bool) Fault
-unfolding reading normal_form climb
-normal_literal prefix text = reading (record no_defaults { literal = true }) text >>= λ s. normal_form prefix [] s >>= λ n. Ok (n.path, prefix_directory n, n.nil)
+use Rattle.gix_pathspec.specs.Matching.{fit, has_attributes, spec_matches}
+use Rattle.gix_pathspec.specs.Prefixes.{common_prefix, first_prefix_directory}
+use Rattle.gix_pathspec.specs.Pruning.{reaches, can_match}
+use Rattle.gix_pathspec.specs.Directories.{directory_matches, common_directory}
+use Rattle.gix_pathspec.specs.Search.{Numbered, Answer, search_of, answer, selects, specs_of}
+use Rattle.pathspec_pattern.proofs.Asking.{parse}
 
 -- how a spec fits a path
 unfoldable pub fitted : List ℕ → List ℕ → Bool → Option MatchKind
@@ -56,3 +27,61 @@ fitted text path is_dir = option_and_then (λ n. fit n path is_dir) (result_ok (
 unfoldable pub kind : List ℕ → List ℕ → Option MatchKind
 unfolding fitted
 kind text path = fitted text path false
+
+-- a look-up that knows of no attribute
+abbrev pub nothing_known : Table
+nothing_known q = record { found = true; states = map (λ name. Unspecified) q.names }
+
+-- one that says of one path that an attribute is set
+abbrev pub known_of : List ℕ → Table
+known_of path q = record { found = bytes_eq q.path path; states = Set ∷ [] }
+
+-- the search of texts, where each reads and has a normal form
+unfoldable pub searched : List ℕ → List (List ℕ) → Option (List Numbered)
+unfolding parse normal_form climb search_of
+searched prefix texts = option_and_then (λ specs. result_ok (search_of prefix [] specs)) (result_ok (all_ok (map parse texts)))
+
+-- what it answers to a path
+unfoldable pub answered : List ℕ → List (List ℕ) → List ℕ → Bool → Option (Option Answer)
+unfolding searched answer common_prefix spec_matches has_attributes fit matches tokens_from
+answered prefix texts path is_dir = option_map (λ search. answer nothing_known search path is_dir) (searched prefix texts)
+
+-- the number and the kind of the answer
+unfoldable pub asked : List ℕ → List (List ℕ) → List ℕ → Bool → Option (ℕ × MatchKind)
+unfolding answered
+asked prefix texts path is_dir = option_and_then (λ given. option_map (λ a. (a.number, a.kind)) given) (answered prefix texts path is_dir)
+
+-- the long text of the spec that answers for a file
+unfoldable pub answering : List ℕ → List (List ℕ) → List ℕ → Option (List ℕ)
+unfolding answered long_text
+answering prefix texts path = option_and_then (λ given. option_map (λ a. long_text a.pattern) given) (answered prefix texts path false)
+
+-- whether the answer selects a file
+unfoldable pub selected : List ℕ → List (List ℕ) → List ℕ → Option Bool
+unfolding answered
+selected prefix texts path = option_map selects (answered prefix texts path false)
+
+-- whether something at or below a path can match
+unfoldable pub can_match_under : List ℕ → List (List ℕ) → List ℕ → Option Bool → Option Bool
+unfolding searched can_match common_prefix reaches
+can_match_under prefix texts d is_dir = option_map (λ search. can_match (specs_of search) d is_dir) (searched prefix texts)
+
+-- the common prefix
+unfoldable pub common : List ℕ → List (List ℕ) → Option (List ℕ)
+unfolding searched common_prefix
+common prefix texts = option_map (λ search. common_prefix (specs_of search)) (searched prefix texts)
+
+-- the longest common directory
+unfoldable pub directory : List ℕ → List (List ℕ) → Option (List ℕ)
+unfolding searched common_directory common_prefix
+directory prefix texts = option_and_then (λ search. common_directory (specs_of search)) (searched prefix texts)
+
+-- the prefix directory of the first include
+unfoldable pub first_directory : List ℕ → List (List ℕ) → Option (List ℕ)
+unfolding searched
+first_directory prefix texts = option_map (λ search. first_prefix_directory (specs_of search)) (searched prefix texts)
+
+-- whether a directory lies in the prefix
+unfoldable pub in_prefix : List (List ℕ) → List ℕ → Bool → Option Bool
+unfolding searched directory_matches common_prefix
+in_prefix texts d leading = option_map (λ search. directory_matches (specs_of search) d leading) (searched [] texts)

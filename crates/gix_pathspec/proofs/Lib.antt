@@ -1,21 +1,25 @@
-pub mod ReadingProofs
+pub mod BuildingProofs
 pub mod MatchingProofs
-pub mod JoinProofs
-pub mod NormalFormProofs
-pub mod HeightProofs
-pub mod StaysProofs
-pub mod StackProofs
-pub mod LongTextProofs
-pub mod AttributeTextProofs
-pub mod RoundTripProofs
-pub mod ParsedProofs
-mod RoundTripRows
-pub mod ResolvingProofs
-pub mod ParseProofs
-pub mod CutProofs
-pub mod PiecesProofs
-pub mod ListProofs
+pub mod BeginsProofs
+pub mod PrefixProofs
+pub mod ChosenProofs
+pub mod HeadProofs
+pub mod SelectedProofs
+pub mod FoundProofs
+pub mod SearchProofs
+pub mod PruningSafeProofs
+pub mod NotChosenProofs
+pub mod PruningNearProofs
+pub mod SharpPruningProofs
+pub mod DirectoryProofs
 mod Asking
-mod ReadingRows
-mod NormalFormRows
 mod MatchingRows
+pub mod TextProofs
+pub mod SpecListProofs
+pub mod PruningCalls
+pub mod SlashProofs
+pub mod DirectoryCalls
+mod SearchRows
+mod PruningRows
+mod DirectoryRows
+mod DirectoryPremiseRows

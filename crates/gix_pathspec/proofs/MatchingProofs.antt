@@ -1,4 +1,4 @@
--- What lies below a path, byte by byte, and how a spec that isn't a glob fits.
+-- What lies below a path, byte by byte, and the ways in which a spec fits.
 use Rattle.std.proofs.Common.{◌≡◌, ◌≢◌, ℕ, ◌+◌, ◌<◌, ◌≤◌, Bool, true, false, not, ◌&&◌, cond, inl, inr, refl, sym, ◌∙◌, ap, List, [], ◌∷◌, length, take, get_or, arith, ◌==◌, Some, None, Option, is_some}
 use Rattle.std.proofs.lemmas.Bool.{ne_eqb, cases_lt, lt-ltb, le-ltb}
 use Rattle.std.proofs.lemmas.List.{length-map, take-map, get_or-map}
@@ -7,12 +7,13 @@ use Rattle.std.specs.Prelude.{bytes_eq}
 use Rattle.std.specs.Char.{to_ascii_lowercase}
 use Rattle.pathspec_parts.specs.Bytes.{slash, fold_case, is_empty}
 use Rattle.pathspec_parts.specs.Attributes.{Table}
-use Rattle.gix_pathspec.specs.declared.SearchMode.{SearchMode}
-use Rattle.gix_pathspec.specs.declared.SearchMode.TheVariants.{ShellGlob, Literal, PathAwareGlob}
+use Rattle.pathspec_pattern.specs.declared.SearchMode.{SearchMode}
+use Rattle.pathspec_pattern.specs.declared.SearchMode.TheVariants.{ShellGlob, Literal, PathAwareGlob}
 use Rattle.gix_pathspec.specs.declared.search.MatchKind.{MatchKind}
-use Rattle.gix_pathspec.specs.declared.search.MatchKind.TheVariants.{Always, Prefix, Verbatim}
+use Rattle.gix_pathspec.specs.declared.search.MatchKind.TheVariants.{Always, Prefix, WildcardMatch, Verbatim}
 use Rattle.gix_pathspec.specs.Specs.{Spec, has_wildcard, is_literal, is_glob, always_matches}
-use Rattle.gix_pathspec.specs.Matching.{fit, spec_matches, has_attributes, is_in_prefix_directory, glob_matches, takes_kind, is_verbatim_match, is_prefix_match}
+use Rattle.gix_pathspec.specs.Matching.{fit, match_way, spec_matches, has_attributes, is_in_prefix_directory, is_glob_match, is_verbatim_match, is_prefix_match}
+use Rattle.gix_pathspec.specs.Compiled.{glob_in_mode, glob_of}
 use Rattle.pathspec_parts.specs.Paths.{is_below}
 
 -- ---- below a path
@@ -44,7 +45,7 @@ below-short (b ∷ x) (c ∷ d) l = below-cons b c x d ∙ (rw (below-short x d 
 -- ---- the same without case
 
 -- no other byte becomes a slash
-lower-slash : (b : ℕ) → to_ascii_lowercase b ≡ slash → b ≡ slash
+pub lower-slash : (b : ℕ) → to_ascii_lowercase b ≡ slash → b ≡ slash
 lower-slash b h = elim (cases_lt b 65) [
   | inl small ↦ let t : to_ascii_lowercase b ≡ b = rw (lt-ltb b 65 small) refl in sym t ∙ h
   | inr large ↦ elim (cases_lt b 91) [
@@ -76,13 +77,7 @@ pub below-folded_short : (f : Bool) (x d : List ℕ) → length x ≤ length d �
 below-folded_short false x d l = sym (below-short x d l)
 below-folded_short true x d l = sym (below-short (fold_case true x) (fold_case true d) (rw (length-map x to_ascii_lowercase, length-map d to_ascii_lowercase) l))
 
--- ---- a spec that isn't a glob
-
--- in each mode no glob matches
-none-globbed : (mode : SearchMode) (s : Spec) (path : List ℕ) (is_dir : Bool) → (has_wildcard s && not (is_literal mode)) ≡ false → (has_wildcard s && glob_matches mode s path && takes_kind s is_dir) ≡ false
-none-globbed ShellGlob s path is_dir plain = rw (sym (and-true (has_wildcard s)) ∙ plain) refl
-none-globbed Literal s path is_dir plain = rw (and-false (has_wildcard s)) refl
-none-globbed PathAwareGlob s path is_dir plain = rw (sym (and-true (has_wildcard s)) ∙ plain) refl
+-- ---- the ways to fit
 
 -- where the prefix directory isn't kept
 pub fit-lost : (s : Spec) (path : List ℕ) (is_dir : Bool) → is_in_prefix_directory s path is_dir ≡ false → None ≡ fit s path is_dir
@@ -90,22 +85,34 @@ unfolding fit
 fit-lost s path is_dir lost = rw lost refl
 
 -- where it is kept
-module _ (s : Spec) (path : List ℕ) (is_dir : Bool) (kept : is_in_prefix_directory s path is_dir ≡ true) (plain : is_glob s ≡ false) where
-  fit-plain : fit s path is_dir ≡ (cond (always_matches s) (Some Always) (cond (is_verbatim_match s path is_dir) (Some Verbatim) (cond (is_prefix_match s path) (Some Prefix) None)))
+module _ (s : Spec) (path : List ℕ) (is_dir : Bool) (kept : is_in_prefix_directory s path is_dir ≡ true) where
+  fit-kept : fit s path is_dir ≡ match_way s path is_dir
   unfolding fit
-  fit-plain = rw (kept, none-globbed s.mode s path is_dir plain) refl
+  fit-kept = rw kept refl
 
   pub fit-always : always_matches s ≡ true → Some Always ≡ fit s path is_dir
-  fit-always a = sym (fit-plain ∙ (rw a refl))
+  fit-always a = sym (fit-kept ∙ (rw a refl))
 
-  pub fit-verbatim : always_matches s ≡ false → is_verbatim_match s path is_dir ≡ true → Some Verbatim ≡ fit s path is_dir
-  fit-verbatim a v = sym (fit-plain ∙ (rw (a, v) refl))
+  pub fit-globbed : always_matches s ≡ false → is_glob_match s path is_dir ≡ true → Some WildcardMatch ≡ fit s path is_dir
+  fit-globbed a g = sym (fit-kept ∙ (rw (a, g) refl))
 
-  pub fit-prefixed : always_matches s ≡ false → is_verbatim_match s path is_dir ≡ false → is_prefix_match s path ≡ true → Some Prefix ≡ fit s path is_dir
-  fit-prefixed a v p = sym (fit-plain ∙ (rw (a, v, p) refl))
+  pub fit-verbatim : always_matches s ≡ false → is_glob_match s path is_dir ≡ false → is_verbatim_match s path is_dir ≡ true → Some Verbatim ≡ fit s path is_dir
+  fit-verbatim a g v = sym (fit-kept ∙ (rw (a, g, v) refl))
 
-  pub fit-none : always_matches s ≡ false → is_verbatim_match s path is_dir ≡ false → is_prefix_match s path ≡ false → None ≡ fit s path is_dir
-  fit-none a v p = sym (fit-plain ∙ (rw (a, v, p) refl))
+  pub fit-prefixed : always_matches s ≡ false → is_glob_match s path is_dir ≡ false → is_verbatim_match s path is_dir ≡ false → is_prefix_match s path ≡ true → Some Prefix ≡ fit s path is_dir
+  fit-prefixed a g v p = sym (fit-kept ∙ (rw (a, g, v, p) refl))
+
+  pub fit-none : always_matches s ≡ false → is_glob_match s path is_dir ≡ false → is_verbatim_match s path is_dir ≡ false → is_prefix_match s path ≡ false → None ≡ fit s path is_dir
+  fit-none a g v p = sym (fit-kept ∙ (rw (a, g, v, p) refl))
+
+-- a spec that isn't a glob is compared as none
+pub no_glob : (s : Spec) → is_glob s ≡ false → None ≡ glob_of s
+no_glob s plain = plain_in (has_wildcard s) s.mode plain where
+  plain_in : (wild : Bool) (mode : SearchMode) → (wild && not (is_literal mode)) ≡ false → None ≡ cond wild (glob_in_mode mode s.path) None
+  plain_in false mode h = refl
+  plain_in true ShellGlob h = cc
+  plain_in true Literal h = refl
+  plain_in true PathAwareGlob h = cc
 
 -- a spec that lists no attributes means what it fits
 pub spec_matches-fits : (s : Spec) (path : List ℕ) (is_dir : Bool) (kind : Option MatchKind) → is_empty s.attributes ≡ true → kind ≡ fit s path is_dir → (table : Table) → is_some kind ≡ spec_matches table s path is_dir

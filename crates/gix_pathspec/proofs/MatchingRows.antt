@@ -1,10 +1,11 @@
 -- Rows on how specs fit paths.
 use Rattle.std.proofs.Common.{◌≡◌, true, false, refl, Some, None}
 use Rattle.std.specs.Prelude.{codes}
-use Rattle.gix_pathspec.specs.declared.SearchMode.TheVariants.{ShellGlob}
+use Rattle.pathspec_pattern.specs.declared.SearchMode.TheVariants.{ShellGlob}
 use Rattle.gix_pathspec.specs.declared.search.MatchKind.TheVariants.{Always, Prefix, WildcardMatch, Verbatim}
 use Rattle.gix_pathspec.specs.Matching.{fit}
-use Rattle.gix_pathspec.proofs.Asking.{fitted, kind, spec}
+use Rattle.gix_pathspec.proofs.Asking.{fitted, kind}
+use Rattle.pathspec_pattern.proofs.Asking.{spec}
 
 -- `:(glob)*.c` on `x.c`
 vector_1 : kind (codes ":(glob)*.c") (codes "x.c") ≡ Some WildcardMatch
@@ -291,3 +292,53 @@ bracket_wildcard = refl
 without_case : kind (codes ":(icase)Ab/C") (codes "aB/c") ≡ Some Verbatim
 unfolding kind
 without_case = refl
+
+-- forty open brackets, on the file of that name
+brackets_alone : kind (codes "[[[[[[[[[[[[[[[[[[[[[[[[[[[[[[[[[[[[[[[[") (codes "[[[[[[[[[[[[[[[[[[[[[[[[[[[[[[[[[[[[[[[[") ≡ Some Verbatim
+unfolding kind
+brackets_alone = refl
+
+-- `[[:alpha` on `[[:alpha`
+unclosed_class : kind (codes "[[:alpha") (codes "[[:alpha") ≡ Some Verbatim
+unfolding kind
+unclosed_class = refl
+
+-- `[[:alpha` on `a`
+unclosed_class_letter : kind (codes "[[:alpha") (codes "a") ≡ None
+unfolding kind
+unclosed_class_letter = refl
+
+-- `[[:]x]` on `[x]`
+colon_bracket : kind (codes "[[:]x]") (codes "[x]") ≡ Some WildcardMatch
+unfolding kind
+colon_bracket = refl
+
+-- `[[:]x]` on `:x]`
+colon_bracket_colon : kind (codes "[[:]x]") (codes ":x]") ≡ Some WildcardMatch
+unfolding kind
+colon_bracket_colon = refl
+
+-- `[[:]x]` on `x`
+colon_bracket_letter : kind (codes "[[:]x]") (codes "x") ≡ None
+unfolding kind
+colon_bracket_letter = refl
+
+-- `[[::]x]` on `[[::]x]`
+empty_class : kind (codes "[[::]x]") (codes "[[::]x]") ≡ Some Verbatim
+unfolding kind
+empty_class = refl
+
+-- `[[::]x]` on `:x]`
+empty_class_letter : kind (codes "[[::]x]") (codes ":x]") ≡ None
+unfolding kind
+empty_class_letter = refl
+
+-- `:(glob)**/**/**/**/**/**/x` on `x`
+many_directories : kind (codes ":(glob)**/**/**/**/**/**/x") (codes "x") ≡ Some WildcardMatch
+unfolding kind
+many_directories = refl
+
+-- `:(glob)**/**/**/**/**/**/x` on `y`
+many_directories_other : kind (codes ":(glob)**/**/**/**/**/**/x") (codes "y") ≡ None
+unfolding kind
+many_directories_other = refl

@@ -1,8 +1,8 @@
 -- Whether a spec matches a path (gitglossary, "pathspec"). Paths here are not empty, and a path is a directory or a file.
-use Rattle.std.specs.Prelude.{ℕ, Bool, true, false, not, ◌&&◌, ◌||◌, ◌⊎◌, List, [], ◌∷◌, take, map, bytes_eq, if◌then◌else◌, Option, Some, None, is_some, IsTrue, IsFalse, Contains}
+use Rattle.std.specs.Prelude.{ℕ, Bool, true, false, not, ◌&&◌, ◌||◌, ◌⊎◌, List, [], ◌∷◌, map, bytes_eq, if◌then◌else◌, Option, Some, None, is_some, IsTrue, IsFalse, Contains}
 use Rattle.std.specs.List.{list_any}
-use Rattle.gix_pathspec.specs.declared.SearchMode.{SearchMode}
-use Rattle.gix_pathspec.specs.declared.SearchMode.TheVariants.{ShellGlob, Literal, PathAwareGlob}
+use Rattle.pathspec_pattern.specs.declared.SearchMode.{SearchMode}
+use Rattle.pathspec_pattern.specs.declared.SearchMode.TheVariants.{ShellGlob, Literal, PathAwareGlob}
 use Rattle.gix_pathspec.specs.declared.search.MatchKind.{MatchKind}
 use Rattle.gix_pathspec.specs.declared.search.MatchKind.TheVariants.{Always, Prefix, WildcardMatch, Verbatim}
 use Rattle.pathspec_glob.specs.declared.Mode.TheVariants.{Shell, PathAware}
@@ -12,15 +12,11 @@ use Rattle.pathspec_parts.specs.Bytes.{is_empty, fold_case}
 use Rattle.pathspec_parts.specs.Paths.{is_below}
 use Rattle.pathspec_parts.specs.Attributes.{State, Assignment, Question, Table}
 use Rattle.pathspec_parts.specs.Attributes.State.{Set, Unset, Value, Unspecified}
-use Rattle.gix_pathspec.specs.Specs.{Spec, is_exclude, is_include, ignores_case, wants_directory, always_matches, has_wildcard}
+use Rattle.gix_pathspec.specs.Specs.{Spec, is_exclude, is_include, ignores_case, wants_directory, always_matches, has_wildcard, prefix_directory}
 use Rattle.pathspec_parts.specs.Tokens.{tokens}
 use Rattle.pathspec_parts.specs.GlobRelation.{matches}
 
 -- ---- fits
-
--- the front of the path that is compared with case, a directory
-abbrev pub prefix_directory : Spec → List ℕ
-prefix_directory s = take s.prefix_length s.path
 
 -- A spec without case and with a prefix directory wants a path below that directory, or the directory itself, compared with case.
 abbrev pub is_in_prefix_directory : Spec → List ℕ → Bool → Bool

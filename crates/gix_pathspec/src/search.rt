@@ -1,5 +1,22 @@
-//! Whether specs match paths.
+//! Searches: specs that are asked together about paths (gitglossary, "pathspec").
+mod directories;
+mod found;
+mod init;
 pub mod matching;
+mod patterns;
+mod pruning;
+mod spec;
+#[cfg(test)]
+mod tests;
+mod texts;
+
+use crate::Pattern;
+use bstr::BString;
+pub use found::{Match, MatchPlace};
+pub use init::BuildError;
+pub use patterns::{IntoPatterns, Patterns};
+use spec::CompiledSpec;
+use std::marker::Model;
 
 /// How a spec came to match a path. The order is that of the variants.
 #[derive(Clone, Copy, Debug, PartialEq, Eq, PartialOrd, Ord, Hash)]
@@ -12,4 +29,30 @@ pub enum MatchKind {
     WildcardMatch,
     /// The path is the spec's path.
     Verbatim,
+}
+
+/// Specs that are asked together about paths: excludes first, each group in the order in which the specs were given.
+///
+/// It has made all the room that matching needs: no call on it but [`Search::try_clone`] takes memory.
+#[derive(Debug, Drop)]
+pub struct Search {
+    specs: Vec<CompiledSpec>,
+    /// The spec `:`, which answers where no spec does.
+    nil: Pattern,
+    common_prefix: Vec<u8>,
+    /// Where the specs come from, as a path or a name. Nothing here reads it.
+    pub source: Option<BString>,
+}
+
+impl Model for Search {
+    ghost use Rattle.std.specs.Option.{option_map};
+    ghost use Rattle.bstr.specs.Owned.{bstring_bytes};
+    ghost use Rattle.gix_pathspec.specs.Search.{SearchContents};
+    ghost use Rattle.gix_pathspec.specs.Compiled.{IsSearch};
+
+    ghost Value = { SearchContents };
+
+    ghost view = { λ s. record { specs = s.specs.items; source = option_map bstring_bytes s.source } };
+
+    ghost invariant = { λ s. IsSearch s.specs.items s.nil s.common_prefix.items };
 }

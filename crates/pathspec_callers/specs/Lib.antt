@@ -1,1 +1,2 @@
 pub mod NormalForms
+pub mod Selections

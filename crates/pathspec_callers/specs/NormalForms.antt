@@ -1,6 +1,6 @@
 -- What a text stands for in a directory of a repository.
 use Rattle.std.specs.Prelude.{ℕ, List, Result}
-use Rattle.gix_pathspec.specs.declared.defaults.Defaults.{Defaults}
+use Rattle.pathspec_pattern.specs.declared.defaults.Defaults.{Defaults}
 use Rattle.gix_pathspec.specs.Faults.{Fault}
 use Rattle.gix_pathspec.specs.Specs.{Spec}
 use Rattle.gix_pathspec.specs.Results.{◌>>=◌}

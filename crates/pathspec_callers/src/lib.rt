@@ -3,12 +3,14 @@
 
 pub mod attributes;
 pub mod glob;
+pub mod search;
 pub mod select;
 pub mod spec;
 
 #[cfg(test)]
 mod tests {
-    use gix_pathspec::{Defaults, Pattern, SearchMode};
+    use bstr::BStr;
+    use gix_pathspec::{Defaults, Pattern, Search, SearchMode};
     use pathspec_parts::attributes::Case;
     use pathspec_parts::glob::{Glob, Mode, Scratch};
     use std::test::Fail;
@@ -24,6 +26,12 @@ mod tests {
             assert!(rt; glob.matches(b"src/parse/cut.rs", Case::Sensitive, &mut scratch));
             assert!(rt; !glob.matches(b"src.rs", Case::Sensitive, &mut scratch));
         }
+        let mut specs = Vec::new(alloc);
+        specs.push(pattern)?;
+        specs.push(Pattern::from_bytes(alloc, b":!src/generated/**", Defaults::default())?)?;
+        let search = Search::from_specs(alloc, specs, None, BStr::new(b""))?;
+        assert!(rt; search.can_match_relative_path(BStr::new(b"src"), Some(true)));
+        assert!(rt; !search.can_match_relative_path(BStr::new(b"docs"), Some(true)));
         Ok(())
     }
 }

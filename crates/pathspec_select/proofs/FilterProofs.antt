@@ -5,7 +5,7 @@ use Rattle.std.proofs.lemmas.List.{append-nil}
 use Rattle.std.specs.List.{list_any}
 use Rattle.pathspec_parts.specs.Bytes.{is_empty}
 use Rattle.pathspec_parts.specs.Attributes.{Table}
-use Rattle.gix_pathspec.specs.declared.pattern.Pattern.{Pattern}
+use Rattle.pathspec_pattern.specs.declared.pattern.Pattern.{Pattern}
 use Rattle.gix_pathspec.specs.Specs.{Spec, is_glob, is_exclude, is_include}
 use Rattle.gix_pathspec.specs.Matching.{spec_matches, is_chosen}
 use Rattle.gix_pathspec.specs.Patterns.{pattern_spec}

@@ -3,13 +3,13 @@ use Rattle.std.proofs.Common.{◌≡◌, ℕ, ◌+◌, ◌<◌, Bool, false, ref
 use Rattle.std.proofs.lemmas.List.{map-append}
 use Rattle.std.proofs.Math.Seq.{drop-cons}
 use Rattle.std.proofs.Math.Numerals.{add-one}
-use Rattle.gix_pathspec.specs.declared.error.Error.{Error}
+use Rattle.pathspec_pattern.specs.declared.error.Error.{Error}
 use Rattle.gix_pathspec.specs.Results.{◌>>=◌}
 use Rattle.gix_pathspec.specs.Faults.{Fault}
 use Rattle.gix_pathspec.specs.Errors.{fault_of}
-use Rattle.gix_pathspec.specs.declared.SearchMode.{SearchMode}
-use Rattle.gix_pathspec.specs.declared.SearchMode.TheVariants.{ShellGlob}
-use Rattle.gix_pathspec.specs.declared.defaults.Defaults.{Defaults}
+use Rattle.pathspec_pattern.specs.declared.SearchMode.{SearchMode}
+use Rattle.pathspec_pattern.specs.declared.SearchMode.TheVariants.{ShellGlob}
+use Rattle.pathspec_pattern.specs.declared.defaults.Defaults.{Defaults}
 use Rattle.gix_pathspec.specs.Signatures.{signature_bits}
 use Rattle.gix_pathspec.specs.Reading.{reading, no_defaults}
 use Rattle.pathspec_select.specs.declared.refusal.Refusal.{Refusal}

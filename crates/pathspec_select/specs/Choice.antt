@@ -1,20 +1,10 @@
--- What specs choose, as a statement about the set of them, and what is written in those words.
-use Rattle.std.specs.Prelude.{◌↔◌, ℕ, Bool, List, [], ◌∷◌, ◌++◌, flat_map, Option, IfSome, IsTrue}
-use Rattle.std.specs.List.Sorted.{IsPermutation}
+-- What is written, in the words of what specs choose.
+use Rattle.std.specs.Prelude.{ℕ, List, [], ◌∷◌, ◌++◌, flat_map, Option, IfSome}
 use Rattle.std.specs.Io.KnownBytes.{Appends}
-use Rattle.pathspec_parts.specs.Attributes.{Table}
 use Rattle.gix_pathspec.specs.Specs.{Spec}
-use Rattle.gix_pathspec.specs.Matching.{is_chosen, IsChosen}
+use Rattle.gix_pathspec.specs.Matching.{IsChosen}
 use Rattle.pathspec_select.specs.Listing.{records, table_of, record_path, record_is_dir}
 use Rattle.pathspec_select.specs.Program.{AsksFor, line_feed}
-
--- The test gives just what the statement about the set of specs says.
-abbrev pub ChosenIsTest : Type 0
-ChosenIsTest = (table : Table) (specs : List Spec) (path : List ℕ) (is_dir : Bool) → IsTrue (is_chosen table specs path is_dir) ↔ IsChosen table specs path is_dir
-
--- The order of the specs doesn't matter.
-abbrev pub OrderIsFree : Type 0
-OrderIsFree = (table : Table) (specs others : List Spec) (path : List ℕ) (is_dir : Bool) → IsPermutation specs others → IsChosen table specs path is_dir → IsChosen table others path is_dir
 
 -- The kept elements are just those of which P holds, in their order.
 pub data IsSelection (P : List ℕ → Type 0) : List (List ℕ) → List (List ℕ) → Type 0 where

@@ -1,6 +1,6 @@
 -- What patterns choose, where no path has attributes.
 use Rattle.std.specs.Prelude.{ℕ, Bool, List, [], map, All, IsTrue}
-use Rattle.gix_pathspec.specs.declared.pattern.Pattern.{Pattern}
+use Rattle.pathspec_pattern.specs.declared.pattern.Pattern.{Pattern}
 use Rattle.gix_pathspec.specs.Matching.{spec_matches, is_chosen}
 use Rattle.gix_pathspec.specs.Patterns.{pattern_spec}
 use Rattle.pathspec_select.specs.Words.{is_supported}

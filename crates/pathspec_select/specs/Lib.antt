@@ -9,6 +9,8 @@ pub use Rattle.gix_pathspec.specs.Reading
 pub use Rattle.gix_pathspec.specs.NormalForm
 pub use Rattle.gix_pathspec.specs.Matching
 pub use Rattle.gix_pathspec.specs.Patterns
+pub use Rattle.gix_pathspec.specs.Search
+pub use Rattle.gix_pathspec.specs.SelectionLaws
 pub mod Listing
 pub mod Records
 pub mod WordFaults

@@ -1,6 +1,6 @@
 -- What a clause reads of a `Refusal`.
 use Rattle.std.specs.Prelude.{◌≡◌, ℕ, Some, MatchOption, Result, Ok, Err, MatchResult}
-use Rattle.gix_pathspec.specs.declared.error.Error.{Error}
+use Rattle.pathspec_pattern.specs.declared.error.Error.{Error}
 use Rattle.gix_pathspec.specs.Faults.{Fault}
 use Rattle.gix_pathspec.specs.Errors.{fault_of}
 use Rattle.pathspec_select.specs.declared.refusal.Refusal.{Refusal}

@@ -3,9 +3,10 @@ use Rattle.std.specs.Prelude.{ℕ, ◌+◌, Bool, not, ◌&&◌, List, [], ◌�
 use Rattle.pathspec_parts.specs.Bytes.{is_empty}
 use Rattle.gix_pathspec.specs.Results.{◌>>=◌}
 use Rattle.gix_pathspec.specs.Faults.{Fault}
-use Rattle.gix_pathspec.specs.Specs.{Spec, is_glob, must_be_dir}
-use Rattle.gix_pathspec.specs.Reading.{reading, no_defaults, literal_spec}
+use Rattle.gix_pathspec.specs.Specs.{Spec, is_glob}
+use Rattle.gix_pathspec.specs.Reading.{reading, no_defaults}
 use Rattle.gix_pathspec.specs.NormalForm.{normal_form}
+use Rattle.gix_pathspec.specs.Search.{default_to_prefix}
 use Rattle.pathspec_select.specs.WordFaults.{SpecFault, WordFault}
 use Rattle.pathspec_select.specs.WordFaults.SpecFault.{Invalid, Unsupported}
 use Rattle.pathspec_select.specs.WordFaults.WordFault.{BadSpec}
@@ -31,10 +32,6 @@ if_supported s = if is_supported s then Ok s else Err Unsupported
 -- the normal form of a spec in a prefix, in a repository with this root, if it is supported
 abbrev pub normalized_spec : List ℕ → List ℕ → Spec → Result Spec SpecFault
 normalized_spec prefix root s = spec_result (normal_form prefix root s) >>= if_supported
-
--- the specs; where there is none and a prefix, the prefix itself
-abbrev pub default_to_prefix : List ℕ → List Spec → List Spec
-default_to_prefix prefix specs = if is_empty specs && not (is_empty prefix) then literal_spec must_be_dir [] ∷ [] else specs
 
 -- the same result, where a fault has the number of its spec
 abbrev pub numbered_result : {A : Type 0} → ℕ → Result A SpecFault → Result A WordFault

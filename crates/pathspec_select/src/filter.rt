@@ -69,7 +69,7 @@ fn matches_path(pattern: &Pattern, path: BStr<'_>, is_dir: bool) -> bool
     requires { IsTrue (is_supported (pattern_spec pattern.now)) }
     ensures { result ≡ matches_path pattern.now (bstr_bytes path.entry) is_dir }
 {
-    matching::match_kind(pattern, path, is_dir).is_some()
+    matching::match_kind(pattern, &mut None, path, is_dir).is_some()
 }
 
 /// Whether some spec is an include.

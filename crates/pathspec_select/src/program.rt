@@ -1,7 +1,8 @@
 //! The program, over any reader and writer.
 ghost use Rattle.std.specs.Prelude.{map, string_bytes, OnOk};
 ghost use Rattle.pathspec_select.specs.Program.{Ends};
-ghost use Rattle.pathspec_select.specs.Choice.{WritesChosen, ChosenIsTest, OrderIsFree};
+ghost use Rattle.gix_pathspec.specs.SelectionLaws.{ChosenIsTest, OrderIsFree};
+ghost use Rattle.pathspec_select.specs.Choice.{WritesChosen};
 
 use crate::{Environment, Refusal, devices, filter, listing, words};
 use std::alloc::Global;
@@ -25,7 +26,7 @@ const LINE_FEED: u8 = b'\n';
 /// word that doesn't parse, and then of the first spec that has no normal form, is a glob or lists attributes;
 /// [`Refusal::Read`]; [`Refusal::Line`]; [`Refusal::Write`]. [`Refusal::Memory`] comes at its place among them.
 /// Nothing is written before a fault, but for a write's.
-#[tactic(auto, using(crate::proofs::ChosenProofs::chosen_is_test))]
+#[tactic(auto, using(gix_pathspec::proofs::ChosenProofs::chosen_is_test))]
 pub fn run<R: Read, W: Write>(
     alloc: Global,
     words: &[String],

@@ -2,9 +2,10 @@
 ghost use Rattle.std.specs.Prelude.{◌≡◌, Err, map, IfOk, IfErr, OnOk, IsTrue, string_bytes};
 ghost use Rattle.pathspec_parts.specs.Paths.{is_clean_prefix};
 ghost use Rattle.gix_pathspec.specs.Patterns.{pattern_spec};
+ghost use Rattle.gix_pathspec.specs.Search.{default_to_prefix};
 ghost use Rattle.pathspec_select.specs.WordFaults.{WordFault};
 ghost use Rattle.pathspec_select.specs.Options.{options_of};
-ghost use Rattle.pathspec_select.specs.Words.{parsed_word, parsed_words, is_supported, normalized_spec, normalized_specs, default_to_prefix, numbered_result, specs_of, specs_of_words};
+ghost use Rattle.pathspec_select.specs.Words.{parsed_word, parsed_words, is_supported, normalized_spec, normalized_specs, numbered_result, specs_of, specs_of_words};
 ghost use Rattle.pathspec_select.specs.Refusals.{ComputesWords, RefusesError};
 ghost use Rattle.pathspec_select.specs.Filter.{AreSupported};
 

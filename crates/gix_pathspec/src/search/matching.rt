@@ -1,36 +1,57 @@
 //! Whether a spec matches a path, and how (gitglossary, "pathspec").
-ghost use Rattle.std.specs.Prelude.{◌≡◌, IsTrue, IsFalse, is_some, bytes_eq};
+ghost use Rattle.std.specs.Prelude.{◌≡◌, length, map, IsTrue, is_some};
 ghost use Rattle.bstr.specs.BStr.{bstr_bytes};
-ghost use Rattle.pathspec_parts.specs.Bytes.{fold_case, is_empty};
-ghost use Rattle.pathspec_parts.specs.Paths.{is_below};
+ghost use Rattle.pathspec_parts.specs.Bytes.{is_empty};
 ghost use Rattle.pathspec_parts.specs.Attributes.{Table};
-ghost use Rattle.gix_pathspec.specs.Specs.{is_glob, ignores_case};
-ghost use Rattle.gix_pathspec.specs.Matching.{fit, spec_matches, is_in_prefix_directory, is_verbatim_match, is_prefix_match};
+ghost use Rattle.pathspec_parts.specs.AttributeStates.{state_ref_view, assignment_view};
+ghost use Rattle.pathspec_parts.specs.Outcomes.{states_of};
+ghost use Rattle.gix_pathspec.specs.Specs.{ignores_case};
+ghost use Rattle.gix_pathspec.specs.Matching.{fit, spec_matches, is_in_prefix_directory, is_glob_match, is_verbatim_match, is_prefix_match, takes_kind, case_of, same_state, have_states};
 ghost use Rattle.gix_pathspec.specs.Patterns.{pattern_spec};
+ghost use Rattle.gix_pathspec.specs.Compiled.{glob_of};
+ghost use Rattle.gix_pathspec.specs.SelectionLaws.{FittedBeginsHead, FittedBeginsStem};
 
 use crate::search::MatchKind;
+use crate::search::spec::CompiledSpec;
+pub use crate::search::spec::GlobMatcher;
+use crate::search::texts::{begins_with, is_below, is_same_text};
 use crate::{MagicSignature, Pattern};
 use bitflags::Flags;
 use bstr::BStr;
+use pathspec_parts::attributes::{Assignment, Case, LookUp, Outcome, StateRef};
 
-/// How a pattern that isn't a glob matches a path that isn't empty and is a directory or a file, if it does:
-/// always, or since the path is the pattern's or lies below it.
+/// How a pattern matches a path that isn't empty and is a directory or a file, if it does: always, or since its glob
+/// matches the path, or since the path is the pattern's or lies below it. Of several ways it is the first.
+///
+/// The glob is the one that the pattern is compared as, and None for a pattern that isn't compared as one.
 ///
 /// A pattern without case that has a prefix directory matches only what lies below that directory, and the directory
 /// itself, both compared with case.
 ///
-/// It looks at each byte of the pattern's path a fixed number of times, and takes no memory.
-pub fn match_kind(pattern: &Pattern, path: BStr<'_>, is_dir: bool) -> Option<MatchKind>
-    requires { IsFalse (is_glob (pattern_spec pattern.now)) }
+/// Beside the steps of the glob, it looks at each byte of the pattern's path a fixed number of times. It takes no
+/// memory.
+#[tactic(auto, using(crate::proofs::HeadProofs::fitted_begins_head, crate::proofs::HeadProofs::fitted_begins_stem))]
+pub fn match_kind(
+    pattern: &Pattern,
+    glob: &mut Option<GlobMatcher>,
+    path: BStr<'_>,
+    is_dir: bool,
+) -> Option<MatchKind>
+    requires { glob.old ≡ glob_of (pattern_spec pattern.now) }
     ensures kind { result ≡ fit (pattern_spec pattern.now) (bstr_bytes path.entry) is_dir }
     ensures matches { IsTrue (is_empty (pattern_spec pattern.now).attributes) → (table : Table)
         → is_some result ≡ spec_matches table (pattern_spec pattern.now) (bstr_bytes path.entry) is_dir }
+    ensures same { glob.new ≡ glob.old }
+    // What fits begins with the head, and, unless the pattern is nil, with the stem.
+    ensures begins { FittedBeginsHead × FittedBeginsStem }
 {
     if !is_in_prefix_directory(pattern, path, is_dir) {
         return None;
     }
     if pattern.always_matches() {
         Some(MatchKind::Always)
+    } else if is_glob_match(pattern, glob, path, is_dir) {
+        Some(MatchKind::WildcardMatch)
     } else if is_verbatim_match(pattern, path, is_dir) {
         Some(MatchKind::Verbatim)
     } else if is_prefix_match(pattern, path) {
@@ -54,15 +75,34 @@ fn is_in_prefix_directory(pattern: &Pattern, path: BStr<'_>, is_dir: bool) -> bo
         || is_same_text(path, prefix, false) && is_dir
 }
 
+/// Whether the pattern's glob, if it has one, matches the path, which is a directory where the pattern wants one.
+fn is_glob_match(
+    pattern: &Pattern,
+    glob: &mut Option<GlobMatcher>,
+    path: BStr<'_>,
+    is_dir: bool,
+) -> bool
+    requires { glob.old ≡ glob_of (pattern_spec pattern.now) }
+    ensures answer { result ≡ is_glob_match (pattern_spec pattern.now)
+        (bstr_bytes path.entry) is_dir }
+    ensures same { glob.new ≡ glob.old }
+{
+    match glob {
+        Some(glob) => {
+            takes_kind(pattern, is_dir) && glob.matches(path.as_bytes(), case_of(pattern))
+        }
+        None => false,
+    }
+}
+
 /// Whether the path is the pattern's, and a directory where the pattern wants one.
 fn is_verbatim_match(pattern: &Pattern, path: BStr<'_>, is_dir: bool) -> bool
     ensures { result ≡ is_verbatim_match (pattern_spec pattern.now) (bstr_bytes path.entry) is_dir }
 {
-    let takes_kind = is_dir || !pattern.signature.contains(MagicSignature::MUST_BE_DIR);
-    takes_kind
+    takes_kind(pattern, is_dir)
         && is_same_text(
             path.as_bytes(),
-            pattern.path.as_slice(),
+            pattern.path().as_bytes(),
             ignores_case(pattern),
         )
 }
@@ -73,9 +113,27 @@ fn is_prefix_match(pattern: &Pattern, path: BStr<'_>) -> bool
 {
     is_below(
         path.as_bytes(),
-        pattern.path.as_slice(),
+        pattern.path().as_bytes(),
         ignores_case(pattern),
     )
+}
+
+/// Whether the pattern takes a directory, or else a file.
+fn takes_kind(pattern: &Pattern, is_dir: bool) -> bool
+    ensures { result ≡ takes_kind (pattern_spec pattern.now) is_dir }
+{
+    is_dir || !pattern.signature.contains(MagicSignature::MUST_BE_DIR)
+}
+
+/// Whether case counts for the pattern.
+fn case_of(pattern: &Pattern) -> Case
+    ensures { result ≡ case_of (pattern_spec pattern.now) }
+{
+    if ignores_case(pattern) {
+        Case::Fold
+    } else {
+        Case::Sensitive
+    }
 }
 
 /// Whether ASCII case doesn't count for the pattern.
@@ -85,34 +143,107 @@ fn ignores_case(pattern: &Pattern) -> bool
     pattern.signature.contains(MagicSignature::ICASE)
 }
 
-/// Whether two texts are one, up to ASCII case where it doesn't count.
-fn is_same_text(left: &[u8], right: &[u8], ignore_case: bool) -> bool
-    ensures { result ≡ bytes_eq (fold_case ignore_case left.now) (fold_case ignore_case right.now) }
-{
-    if ignore_case {
-        left.eq_ignore_ascii_case(right)
-    } else {
-        left == right
+impl CompiledSpec {
+    ghost use Rattle.std.specs.Prelude.{IfOk, OnOk, OnErr};
+    ghost use Rattle.pathspec_parts.specs.Attributes.{next_count};
+    ghost use Rattle.gix_pathspec.specs.Matching.{has_attributes};
+    ghost use Rattle.gix_pathspec.specs.Found.{matched_kind};
+
+    /// How the spec fits a path that isn't empty and is a directory or a file, whatever attributes it has.
+    ///
+    /// A path that doesn't begin with the spec's head never reaches its glob.
+    fn fit(&mut self, path: BStr<'_>, is_dir: bool) -> Option<MatchKind>
+        ensures fit { result ≡ fit self.old.spec (bstr_bytes path.entry) is_dir }
+        ensures same { self.new ≡ self.old }
+    {
+        if begins_with(path.as_bytes(), self.head(), false) {
+            match_kind(&self.pattern, &mut self.glob, path, is_dir)
+        } else {
+            None
+        }
+    }
+
+    /// Whether the path has each attribute that the spec lists. The look-up is asked at most once, and only where the
+    /// spec lists any.
+    ///
+    /// # Errors
+    /// The look-up's fault.
+    fn has_attributes<L: LookUp>(
+        &mut self,
+        path: BStr<'_>,
+        is_dir: bool,
+        look_up: &mut L,
+    ) -> Result<bool, L::Fault>
+        ensures answer { IfOk result (λ has. has
+            ≡ has_attributes (L.table look_up.old) self.old.spec (bstr_bytes path.entry) is_dir) }
+        ensures same { self.new ≡ self.old }
+        ensures table_stays { L.table look_up.new ≡ L.table look_up.old }
+        ensures ok_leaves_count { OnOk result (L.failures look_up.new ≡ L.failures look_up.old) }
+        ensures err_counts { OnErr result
+            (L.failures look_up.new ≡ next_count (L.failures look_up.old)) }
+    {
+        if self.pattern.attributes.is_empty() {
+            return Ok(true);
+        }
+        self.outcome.reset();
+        let found = look_up.look_up(path, Case::Sensitive, is_dir, &mut self.outcome)?;
+        Ok(found && have_states(&self.outcome, &self.pattern.attributes))
+    }
+
+    /// How the spec matches a path that isn't empty and is a directory or a file: it fits in this way, and the path has
+    /// the attributes that the spec lists.
+    ///
+    /// The look-up is asked at most once, and only where the spec lists attributes and fits.
+    ///
+    /// # Errors
+    /// The look-up's fault.
+    pub(super) fn matches<L: LookUp>(
+        &mut self,
+        path: BStr<'_>,
+        is_dir: bool,
+        look_up: &mut L,
+    ) -> Result<Option<MatchKind>, L::Fault>
+        ensures answer { IfOk result (λ kind. kind
+            ≡ matched_kind (L.table look_up.old) self.old.spec (bstr_bytes path.entry) is_dir) }
+        ensures same { self.new ≡ self.old }
+        ensures table_stays { L.table look_up.new ≡ L.table look_up.old }
+        ensures ok_leaves_count { OnOk result (L.failures look_up.new ≡ L.failures look_up.old) }
+        ensures err_counts { OnErr result
+            (L.failures look_up.new ≡ next_count (L.failures look_up.old)) }
+    {
+        match self.fit(path, is_dir) {
+            Some(kind) => Ok(self.has_attributes(path, is_dir, look_up)?.then_some(kind)),
+            None => Ok(None),
+        }
     }
 }
 
-/// Whether a path begins with a directory's path and a slash, up to ASCII case where it doesn't count.
-fn is_below(path: &[u8], directory: &[u8], ignore_case: bool) -> bool
-    ensures { result ≡ is_below (fold_case ignore_case path.now)
-        (fold_case ignore_case directory.now) }
+/// Whether each place of an outcome has the state of the assignment at this place.
+fn have_states(outcome: &Outcome, assignments: &[Assignment]) -> bool
+    requires { length outcome.now ≡ length assignments.now }
+    ensures { result
+        ≡ have_states (states_of outcome.now) (map assignment_view assignments.now) }
 {
-    let n = directory.len();
-    if n < path.len() && path[n] == b'/' {
-        is_same_text(directory, &path[..n], ignore_case)
-    } else {
-        false
+    for (place, assignment) in assignments.iter().enumerate() {
+        if !is_same_state(outcome.state(place), assignment.state.as_ref()) {
+            return false;
+        }
     }
+    true
+}
+
+/// Whether two states are one.
+fn is_same_state(left: StateRef<'_>, right: StateRef<'_>) -> bool
+    ensures { result ≡ same_state (state_ref_view left.entry) (state_ref_view right.entry) }
+{
+    left == right
 }
 
 #[cfg(test)]
 mod tests {
     use super::*;
-    use crate::{Defaults, Error, SearchMode, parse};
+    use crate::{Defaults, Error, parse};
+    use pathspec_parts::path::is_clean_prefix;
     use std::alloc::Global;
     use std::process::Abort;
 
@@ -120,20 +251,29 @@ mod tests {
     type Row<'r> = (&'r str, &'r str, bool, Option<MatchKind>);
 
     /// Asserts that a pattern that is no glob matches a path so.
+    #[tactic(auto, using(crate::proofs::MatchingProofs::no_glob))]
     fn assert_kind(rt: &impl Abort, pattern: &Pattern, row: &Row<'_>) {
         let (text, path, is_dir, want) = row;
         assert!(rt; !pattern.is_glob(), "{text}");
         assert_eq!(rt;
-            match_kind(pattern, BStr::new(path.as_bytes()), *is_dir),
+            match_kind(pattern, &mut None, BStr::new(path.as_bytes()), *is_dir),
             *want,
             "{text} on {path}"
         );
     }
 
-    /// Asserts how the pattern of each text matches.
-    fn assert_kinds(rt: &impl Abort, alloc: Global, rows: &[Row<'_>]) -> Result<(), Error> {
+    /// Asserts how the pattern of each text matches, given in this directory.
+    fn assert_kinds(
+        rt: &impl Abort,
+        alloc: Global,
+        prefix: &str,
+        rows: &[Row<'_>],
+    ) -> Result<(), Error> {
+        let prefix = BStr::new(prefix.as_bytes());
+        assert!(rt; is_clean_prefix(prefix));
         for row in rows {
-            let pattern = parse::parse(alloc, row.0.as_bytes(), Defaults::default())?;
+            let mut pattern = parse::parse(alloc, row.0.as_bytes(), Defaults::default())?;
+            pattern.resolve(prefix, BStr::new(b""))?;
             assert_kind(rt, &pattern, row);
         }
         Ok(())
@@ -157,64 +297,36 @@ mod tests {
             (":(literal)a*", "ab", false, None),
             (":(literal)a*", "a*/x", false, Some(MatchKind::Prefix)),
         ];
-        assert_kinds(&rt, rt.alloc(), ROWS)
+        assert_kinds(&rt, rt.alloc(), "", ROWS)
     }
 
     #[test]
     fn case_may_not_count(rt: HostRuntime) -> Result<(), Error> {
-        let pattern = Pattern::from_literal(rt.alloc(), b"Ab/C", MagicSignature::ICASE)?;
-        assert_kind(
-            &rt,
-            &pattern,
-            &("Ab/C", "aB/c", false, Some(MatchKind::Verbatim)),
-        );
-        assert_kind(
-            &rt,
-            &pattern,
-            &("Ab/C", "AB/c/D", false, Some(MatchKind::Prefix)),
-        );
-        assert_kind(&rt, &pattern, &("Ab/C", "ab/cc", false, None));
+        const ROWS: &[Row<'_>] = &[
+            (":(icase)Ab/C", "aB/c", false, Some(MatchKind::Verbatim)),
+            (":(icase)Ab/C", "AB/c/D", false, Some(MatchKind::Prefix)),
+            (":(icase)Ab/C", "ab/cc", false, None),
+        ];
         assert!(rt; MatchKind::Always < MatchKind::Prefix);
         assert!(rt; MatchKind::Prefix < MatchKind::WildcardMatch);
         assert!(rt; MatchKind::WildcardMatch < MatchKind::Verbatim);
-        Ok(())
-    }
-
-    /// The pattern without case that has this path, and a prefix directory of one byte.
-    fn without_case(alloc: Global, path: &str) -> Result<Pattern, Error> {
-        let mut pattern = Pattern::from_literal(alloc, path.as_bytes(), MagicSignature::ICASE)?;
-        pattern.search_mode = SearchMode::ShellGlob;
-        pattern.prefix_length = 1;
-        Ok(pattern)
-    }
-
-    /// Asserts how the pattern without case of each path matches.
-    fn assert_kinds_without_case(
-        rt: &impl Abort,
-        alloc: Global,
-        rows: &[Row<'_>],
-    ) -> Result<(), Error> {
-        for row in rows {
-            let pattern = without_case(alloc, row.0)?;
-            assert_kind(rt, &pattern, row);
-        }
-        Ok(())
+        assert_kinds(&rt, rt.alloc(), "", ROWS)
     }
 
     #[test]
     fn case_counts_in_the_prefix_directory(rt: HostRuntime) -> Result<(), Error> {
         const ROWS: &[Row<'_>] = &[
-            ("a/B", "a/b", false, Some(MatchKind::Verbatim)),
-            ("a/B", "A/b", false, None),
-            ("a/B", "a/b/c", false, Some(MatchKind::Prefix)),
-            ("a/B", "a", false, None),
-            ("a/B", "a", true, None),
-            ("a", "a", true, Some(MatchKind::Verbatim)),
-            ("a", "a", false, None),
-            ("a", "a/x", false, Some(MatchKind::Prefix)),
-            ("a", "A/x", false, None),
-            ("a", "ab", false, None),
+            (":(icase)B", "a/b", false, Some(MatchKind::Verbatim)),
+            (":(icase)B", "A/b", false, None),
+            (":(icase)B", "a/b/c", false, Some(MatchKind::Prefix)),
+            (":(icase)B", "a", false, None),
+            (":(icase)B", "a", true, None),
+            (":(icase)./", "a", true, Some(MatchKind::Verbatim)),
+            (":(icase)./", "a", false, None),
+            (":(icase)./", "a/x", false, Some(MatchKind::Prefix)),
+            (":(icase)./", "A/x", false, None),
+            (":(icase)./", "ab", false, None),
         ];
-        assert_kinds_without_case(&rt, rt.alloc(), ROWS)
+        assert_kinds(&rt, rt.alloc(), "a", ROWS)
     }
 }

@@ -3,7 +3,8 @@ use Rattle.std.proofs.Common.{refl, map, string_bytes}
 use Rattle.std.proofs.lemmas.Result.{err_from_is_err_and}
 use Rattle.gix_pathspec.specs.Patterns.{pattern_spec}
 use Rattle.pathspec_select.proofs.ProgramProofs.{refuses-words, refuses-reading}
-use Rattle.pathspec_select.proofs.ChosenProofs.{order_is_free, writes_chosen}
+use Rattle.gix_pathspec.proofs.ChosenProofs.{order_is_free}
+use Rattle.pathspec_select.proofs.ChosenProofs.{writes_chosen}
 use Rattle.pathspec_select.proofs.program.run.Goals as goal
 
 pub returns-in_err-patterns-clause-ends : goal.returns-in_err-patterns-clause-ends

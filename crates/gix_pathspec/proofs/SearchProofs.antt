@@ -1,0 +1,139 @@
+-- The specs of a search: a nil one has no prefix directory, and they stand in search order.
+use Rattle.std.proofs.Common.{◌≡◌, ℕ, ◌+◌, Bool, true, false, not, cond, inl, inr, refl, sym, ◌∙◌, ap, List, [], ◌∷◌, ◌++◌, subst, Option, Some, None, Result, Ok, Err, codes, arith}
+use Rattle.std.proofs.lemmas.Bool.{cases_Bool}
+use Rattle.std.proofs.lemmas.List.{map-append, append-nil}
+use Rattle.std.proofs.lemmas.List.Elements.{filter-append, Contains-push, Contains-append_left, Contains-append_right, Contains-append_cases}
+use Rattle.std.specs.Prelude.{Contains, IsTrue, filter}
+use Rattle.gix_pathspec.specs.Results.{◌>>=◌}
+use Rattle.gix_pathspec.specs.Faults.{Fault}
+use Rattle.gix_pathspec.specs.Faults.Fault.{LeavesRepository}
+use Rattle.gix_pathspec.specs.Specs.{Spec, is_exclude, is_include}
+use Rattle.gix_pathspec.specs.NormalForm.{Base, base, own_components, components_to_resolve, is_inside, resolve, resolved, stays_empty, survivors, normal_form}
+use Rattle.gix_pathspec.specs.Search.{Numbered, specs_of, at_number, numbered_from, in_search_order, default_to_prefix, search_of}
+use Rattle.gix_pathspec.specs.SelectionLaws.{NoNilPrefix}
+use Rattle.gix_pathspec.proofs.SelectedProofs.{Contains-cases}
+
+-- ---- the specs of a search
+
+resolved_empty : (s : Spec) (b : Bool) → (cond b (record s { path = []; prefix_length = 0 }) (record s { path = codes "."; nil = true; prefix_length = 0 })).prefix_length ≡ 0
+resolved_empty s true = refl
+resolved_empty s false = refl
+
+resolved-nil : (b : Base) (s : Spec) (own left : List (List ℕ)) → IsTrue (resolved b s own left).nil → (resolved b s own left).prefix_length ≡ 0
+resolved-nil b s own [] n = resolved_empty s (stays_empty b s own)
+resolved-nil b s own (name ∷ more) n = rw n refl
+
+resolve-nil : (b : Base) (s m : Spec) (own : Option (List (List ℕ))) → resolve b s own ≡ Ok m → IsTrue m.nil → m.prefix_length ≡ 0
+resolve-nil b s m None e n = cc
+resolve-nil b s m (Some own) e n = elim (cases_Bool (is_inside b own)) [
+  | inl z ↦
+      let left = survivors (components_to_resolve b own) in
+      let r : Ok (resolved b s own left) ≡ Ok m = rw z at e in
+      let same : resolved b s own left ≡ m = cc in
+      subst (λ (x : Spec). IsTrue x.nil → x.prefix_length ≡ 0) same (resolved-nil b s own left) n
+  | inr z ↦ let r : Err (LeavesRepository s.path) ≡ Ok m = rw z at e in cc
+]
+
+pub normal_form-nil : (prefix root : List ℕ) (s m : Spec) → normal_form prefix root s ≡ Ok m → IsTrue m.nil → m.prefix_length ≡ 0
+unfolding normal_form
+normal_form-nil prefix root s m e n = resolve-nil (base prefix s) s m (own_components (base prefix s) root s.path) e n
+
+-- a chain of steps gives a value where each step does
+ok_of_bind : {A B E : Type 0} (r : Result A E) (f : A → Result B E) (b : B) → (r >>= f) ≡ Ok b → (a : A) × (r ≡ Ok a) × (f a ≡ Ok b)
+ok_of_bind (Ok a) f b h = (a, refl, h)
+ok_of_bind (Err e) f b h = cc
+
+ok_of_number : {A : Type 0} (n : ℕ) (r : Result A Fault) (a : A) → at_number n r ≡ Ok a → r ≡ Ok a
+ok_of_number n (Ok x) a h = cc
+ok_of_number n (Err e) a h = cc
+
+no_spec : NoNilPrefix []
+no_spec s c n = let no : ⊥ = omega (arith, c.1) in absurd no
+
+one_more : (x : Spec) (specs : List Spec) → (IsTrue x.nil → x.prefix_length ≡ 0) → NoNilPrefix specs → NoNilPrefix (x ∷ specs)
+one_more x specs p q s c = elim (Contains-cases x specs s c) [
+  | inl e ↦ subst (λ (y : Spec). IsTrue y.nil → y.prefix_length ≡ 0) e p
+  | inr d ↦ q s d
+]
+
+numbered_from-nil : (n : ℕ) (prefix root : List ℕ) (specs : List Spec) (ns : List Numbered) → numbered_from n prefix root specs ≡ Ok ns → NoNilPrefix (specs_of ns)
+numbered_from-nil n prefix root [] ns e = let same : [] ≡ ns = cc in subst (λ xs. NoNilPrefix (specs_of xs)) same no_spec
+numbered_from-nil n prefix root (s ∷ specs) ns e =
+    let first = ok_of_bind (at_number n (normal_form prefix root s)) _ ns e in
+    let others = ok_of_bind (numbered_from (n + 1) prefix root specs) _ ns first.2 in
+    let m : Numbered = record { number = n; spec = first.0 } in
+    let made : Ok (m ∷ others.0) ≡ Ok ns = others.2 in
+    let same : m ∷ others.0 ≡ ns = cc in
+    subst (λ xs. NoNilPrefix (specs_of xs)) same
+    (one_more first.0 (specs_of others.0) (normal_form-nil prefix root s first.0 (ok_of_number n (normal_form prefix root s) first.0 first.1)) (numbered_from-nil (n + 1) prefix root specs others.0 others.1))
+
+filtered-nil : (q : Numbered → Bool) (ns : List Numbered) → NoNilPrefix (specs_of ns) → NoNilPrefix (specs_of (filter q ns))
+filtered-nil q [] h = h
+filtered-nil q (n ∷ ns) h =
+    let ih = filtered-nil q ns (λ s c. h s (Contains-append_right (n.spec ∷ []) (specs_of ns) s c)) in
+    elim (cases_Bool (q n)) [
+      | inl e ↦ rw e (one_more n.spec (specs_of (filter q ns)) (h n.spec (Contains-append_left (n.spec ∷ []) (specs_of ns) n.spec (Contains-push [] n.spec))) ih)
+      | inr e ↦ rw e ih
+    ]
+
+ordered-nil : (ns : List Numbered) → NoNilPrefix (specs_of ns) → NoNilPrefix (specs_of (in_search_order ns))
+ordered-nil ns h s c =
+    let excludes = filter (λ n. is_exclude n.spec) ns in
+    let includes = filter (λ n. is_include n.spec) ns in
+    let d : Contains (specs_of excludes ++ specs_of includes) s = subst (λ xs. Contains xs s) (map-append (λ (n : Numbered). n.spec) excludes includes) c in
+    elim (Contains-append_cases (specs_of excludes) (specs_of includes) s d) [
+      | inl x ↦ filtered-nil (λ n. is_exclude n.spec) ns h s x
+      | inr x ↦ filtered-nil (λ n. is_include n.spec) ns h s x
+    ]
+
+-- a search is a list of numbered specs, put into search order
+search_of-numbered : (prefix root : List ℕ) (specs : List Spec) (search : List Numbered) → search_of prefix root specs ≡ Ok search → (ns : List Numbered) × (in_search_order ns ≡ search) × (numbered_from 0 prefix root (default_to_prefix prefix specs) ≡ Ok ns)
+unfolding search_of
+search_of-numbered prefix root specs search e =
+    let r = ok_of_bind (numbered_from 0 prefix root (default_to_prefix prefix specs)) _ search e in
+    let same : in_search_order r.0 ≡ search = cc in
+    (r.0, same, r.1)
+
+pub search_has_no_nil_prefix : (prefix root : List ℕ) (specs : List Spec) (search : List Numbered) → search_of prefix root specs ≡ Ok search → NoNilPrefix (specs_of search)
+search_has_no_nil_prefix prefix root specs search e =
+    let r = search_of-numbered prefix root specs search e in
+    subst (λ xs. NoNilPrefix (specs_of xs)) r.1 (ordered-nil r.0 (numbered_from-nil 0 prefix root (default_to_prefix prefix specs) r.0 r.2))
+
+-- ---- the search order
+
+-- filtered twice
+filter-filter : {X : Type 0} (p : X → Bool) (xs : List X) → filter p (filter p xs) ≡ filter p xs
+filter-filter p [] = refl
+filter-filter p (x ∷ xs) = elim (cases_Bool (p x)) [
+  | inl e ↦ rw (e, e) (ap (λ t. x ∷ t) (filter-filter p xs))
+  | inr e ↦ rw e (filter-filter p xs)
+]
+
+-- filtered for the opposite, nothing is left
+filter-opposite : {X : Type 0} (p q : X → Bool) → ((x : X) → q x ≡ not (p x)) → (xs : List X) → filter q (filter p xs) ≡ []
+filter-opposite p q h [] = refl
+filter-opposite p q h (x ∷ xs) = elim (cases_Bool (p x)) [
+  | inl e ↦ let n : q x ≡ false = h x ∙ ap not e in rw (e, n) (filter-opposite p q h xs)
+  | inr e ↦ rw e (filter-opposite p q h xs)
+]
+
+not-not : (b : Bool) → b ≡ not (not b)
+not-not true = refl
+not-not false = refl
+
+-- What is in search order stays as it is.
+pub in_search_order-twice : (ns : List Numbered) → in_search_order (in_search_order ns) ≡ in_search_order ns
+in_search_order-twice ns =
+    let ex : Numbered → Bool = λ n. is_exclude n.spec in
+    let inc : Numbered → Bool = λ n. is_include n.spec in
+    let a : filter ex (in_search_order ns) ≡ filter ex ns =
+    filter-append ex (filter ex ns) (filter inc ns) ∙ rw (filter-filter ex ns, filter-opposite inc ex (λ n. not-not (ex n)) ns) (append-nil (filter ex ns)) in
+    let b : filter inc (in_search_order ns) ≡ filter inc ns =
+    filter-append inc (filter ex ns) (filter inc ns) ∙ rw (filter-opposite ex inc (λ n. refl) ns, filter-filter inc ns) refl in
+    ap (λ t. t ++ filter inc (in_search_order ns)) a ∙ ap (λ t. filter ex ns ++ t) b
+
+-- So what `search_of` gives stands in search order.
+pub search_of-ordered : (prefix root : List ℕ) (specs : List Spec) (search : List Numbered) → search_of prefix root specs ≡ Ok search → in_search_order search ≡ search
+search_of-ordered prefix root specs search e =
+    let r = search_of-numbered prefix root specs search e in
+    ap in_search_order (sym r.1) ∙ (in_search_order-twice r.0 ∙ r.1)

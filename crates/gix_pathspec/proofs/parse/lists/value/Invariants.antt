@@ -1,7 +1,0 @@
-use Rattle.std.proofs.Common.{◌≡◌, drop}
-use Rattle.gix_pathspec.specs.AttributeLists.{value_of}
-use Rattle.gix_pathspec.proofs.ListProofs.{in_front, value_from}
-use Rattle.gix_pathspec.proofs.parse.lists.value.Given as goal
-
-abbrev pub invariant-loop-byte : goal.invariant-loop-byte
-invariant-loop-byte l = value_of l.fn.written ≡ in_front l.value.items (value_from l.fn.written l.escaped (drop l.byte-index l.fn.written))

@@ -1,7 +1,0 @@
-use Rattle.std.proofs.Common.{◌≡◌, take, drop}
-use Rattle.gix_pathspec.specs.Reading.{long_pieces_from}
-use Rattle.gix_pathspec.proofs.PiecesProofs.{backslashes, onto_all}
-use Rattle.gix_pathspec.proofs.parse.pieces.place_of_cut.Given as goal
-
-abbrev pub invariant-loop-at : goal.invariant-loop-at
-invariant-loop-at l = long_pieces_from 0 l.fn.long ≡ onto_all (take l.at l.fn.long) (long_pieces_from (backslashes l.escaped) (drop l.at l.fn.long))

@@ -1,7 +1,0 @@
-use Rattle.std.proofs.Common.{◌≡◌}
-use Rattle.pathspec_parts.specs.Components.{remaining_components}
-use Rattle.gix_pathspec.specs.NormalForm.{parent_dir_count}
-use Rattle.gix_pathspec.proofs.pattern.normalize.climbs.Given as goal
-
-abbrev pub invariant-loop-component : goal.invariant-loop-component
-invariant-loop-component l = parent_dir_count (remaining_components l.component-iterator) ≡ parent_dir_count (remaining_components l.fn.components)

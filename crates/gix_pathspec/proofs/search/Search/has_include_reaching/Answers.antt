@@ -1,0 +1,15 @@
+-- The numbers of the specs don't count.
+use Rattle.std.proofs.Common.{◌∙◌, ap, rules, tests, ◌&&◌}
+use Rattle.std.proofs.lemmas.Iterator.{YieldsList-from_slice}
+use Rattle.std.proofs.lemmas.Iterator.Search.{any_from_yields_List}
+use Rattle.gix_pathspec.specs.Specs.{is_include}
+use Rattle.gix_pathspec.specs.Pruning.{reaches}
+use Rattle.gix_pathspec.proofs.SpecListProofs.{list_any-specs}
+use Rattle.gix_pathspec.proofs.search.Search.has_include_reaching.Goals as goal
+
+pub returns : goal.returns
+returns c =
+    any_from_yields_List (λ n. is_include n.spec && reaches n.spec c.args.path.now c.args.is_dir) _ _ c.any.result c.any.ensures.ran
+    (YieldsList-from_slice c.args.self.now.specs (c.iter.ensures.rest ∙ (c.deref.ensures.value ∙ ap (λ v. v.specs) c.self.view_is)))
+    (λ x b q k. search (rules, tests))
+    ∙ list_any-specs (λ s. is_include s && reaches s c.args.path.now c.args.is_dir) c.args.self.now.specs

@@ -1,0 +1,60 @@
+-- What a search finds for a path, and where.
+use Rattle.std.specs.Prelude.{◌≡◌, ℕ, ◌<◌, Bool, false, List, length, find, slice_get, if◌then◌else◌, Option, Some, None, unwrap_or}
+use Rattle.std.specs.List.{list_any}
+use Rattle.std.specs.Option.{option_and_then}
+use Rattle.gix_pathspec.specs.declared.search.MatchKind.{MatchKind}
+use Rattle.gix_pathspec.specs.declared.search.MatchKind.TheVariants.{Always}
+use Rattle.gix_pathspec.specs.declared.search.found.Match.{Match}
+use Rattle.gix_pathspec.specs.declared.search.found.MatchPlace.{MatchPlace}
+use Rattle.gix_pathspec.specs.declared.search.found.MatchPlace.TheVariants.{Spec as AtSpec, Nil as AtNil}
+use Rattle.gix_pathspec.specs.Attributes.{Table}
+use Rattle.gix_pathspec.specs.Specs.{Spec, is_include}
+use Rattle.gix_pathspec.specs.Patterns.{pattern_spec}
+use Rattle.gix_pathspec.specs.Reading.{nil_spec}
+use Rattle.gix_pathspec.specs.Matching.{fit, has_attributes, spec_matches}
+use Rattle.gix_pathspec.specs.Search.{Numbered, Answer, specs_of, answer_with}
+
+-- Whether a path counts as a directory: where that is not known, it does not.
+abbrev pub is_directory : Option Bool → Bool
+is_directory is_dir = unwrap_or is_dir false
+
+-- how a spec matches a path: it fits in this way, and the look-up says what it lists
+unfoldable pub matched_kind : Table → Spec → List ℕ → Bool → Option MatchKind
+matched_kind table s path is_dir = if has_attributes table s path is_dir then fit s path is_dir else None
+
+-- the first spec in search order that matches the path
+abbrev pub first_match : Table → List Numbered → List ℕ → Bool → Option Numbered
+first_match table search path is_dir = find (λ n. spec_matches table n.spec path is_dir) search
+
+-- The first spec that matches the path stands at this place, and it matches in this way.
+pub record IsFirstMatch (table : Table) (search : List Numbered) (path : List ℕ) (is_dir : Bool) (place : ℕ) (kind : MatchKind) : Type 0 where
+  pub within : place < length search
+  pub first : first_match table search path is_dir ≡ slice_get search place
+  pub fits : option_and_then (λ n. fit n.spec path is_dir) (slice_get search place) ≡ Some kind
+
+-- It is the first match, or there is none.
+abbrev pub IsFirstFound : Table → List Numbered → List ℕ → Bool → Option (ℕ × MatchKind) → Type 0
+IsFirstFound table search path is_dir None = first_match table search path is_dir ≡ None
+IsFirstFound table search path is_dir (Some found) = IsFirstMatch table search path is_dir found.0 found.1
+
+-- the place lies in the search
+abbrev pub IsWithin : List Numbered → MatchPlace → Type 0
+IsWithin search (AtSpec place kind) = place < length search
+IsWithin search (AtNil number) = Unit {0}
+
+-- the answer that a place stands for
+abbrev pub answer_of_place : List Numbered → MatchPlace → Option Answer
+answer_of_place search (AtSpec place kind) = option_and_then (λ n. answer_with n (Some kind)) (slice_get search place)
+answer_of_place search (AtNil number) = Some (record { pattern = nil_spec; number = number; kind = Always })
+
+-- the answer that what was found stands for
+abbrev pub answer_at : List Numbered → Option MatchPlace → Option Answer
+answer_at search found = option_and_then (answer_of_place search) found
+
+-- the answer that a match is
+abbrev pub match_view : Match → Answer
+match_view m = record { pattern = pattern_spec m.pattern.now; number = m.sequence_number; kind = m.kind }
+
+-- what settles a path that no spec matches: the nil pattern where there is no include, and else nothing
+abbrev pub default_match : List Numbered → Option MatchPlace
+default_match search = if list_any is_include (specs_of search) then None else Some (AtNil (length search))

@@ -1,0 +1,12 @@
+-- The includes for which pruning is exact.
+use Rattle.std.specs.Prelude.{Bool, not, ◌&&◌}
+use Rattle.gix_pathspec.specs.Bytes.{is_empty}
+use Rattle.gix_pathspec.specs.Specs.{Spec, is_include, ignores_case, has_wildcard, prefix_directory}
+
+-- no wildcard, and no prefix directory without case
+abbrev pub is_plain_but_for_attributes : Spec → Bool
+is_plain_but_for_attributes s = is_include s && not (has_wildcard s) && not (ignores_case s && not (is_empty (prefix_directory s)))
+
+-- A plain include has no wildcard, no attributes, and no prefix directory without case.
+abbrev pub is_plain : Spec → Bool
+is_plain s = is_plain_but_for_attributes s && is_empty s.attributes

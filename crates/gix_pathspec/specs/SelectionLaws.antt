@@ -1,0 +1,41 @@
+-- What is promised of what a search selects, as facts that contracts can cite.
+use Rattle.std.specs.Prelude.{◌≡◌, ◌≢◌, ◌↔◌, ℕ, Bool, List, [], Option, IsTrue, IsFalse, Contains}
+use Rattle.std.specs.List.Sorted.{IsPermutation}
+use Rattle.gix_pathspec.specs.Bytes.{fold_case, begins_with}
+use Rattle.gix_pathspec.specs.Attributes.{Table}
+use Rattle.gix_pathspec.specs.Specs.{Spec, ignores_case}
+use Rattle.gix_pathspec.specs.Matching.{fits, is_chosen, IsChosen}
+use Rattle.gix_pathspec.specs.Prefixes.{stem, head, common_prefix}
+use Rattle.gix_pathspec.specs.Search.{Numbered, Answer, specs_of, selects}
+
+-- The test gives just what the statement about the set of specs says.
+abbrev pub ChosenIsTest : Type 0
+ChosenIsTest = (table : Table) (specs : List Spec) (path : List ℕ) (is_dir : Bool) → IsTrue (is_chosen table specs path is_dir) ↔ IsChosen table specs path is_dir
+
+-- The order of the specs doesn't matter.
+abbrev pub OrderIsFree : Type 0
+OrderIsFree = (table : Table) (specs others : List Spec) (path : List ℕ) (is_dir : Bool) → IsPermutation specs others → IsChosen table specs path is_dir → IsChosen table others path is_dir
+
+-- The answer for a path that is not empty selects it just where it is chosen: no exclude matches it, and some include does or there is none.
+abbrev pub SelectsChosen : Table → List Numbered → List ℕ → Bool → Option Answer → Type 0
+SelectsChosen table search path is_dir given = path ≢ [] → IsTrue (selects given) ↔ IsChosen table (specs_of search) path is_dir
+
+-- The answer for a path that is not empty selects it only where it begins with the common prefix.
+abbrev pub SelectsCommon : List Numbered → List ℕ → Option Answer → Type 0
+SelectsCommon search path given = path ≢ [] → IsTrue (selects given) → IsTrue (begins_with path (common_prefix (specs_of search)))
+
+-- What a spec fits begins with its head.
+abbrev pub FittedBeginsHead : Type 0
+FittedBeginsHead = (s : Spec) (path : List ℕ) (is_dir : Bool) → IsTrue (fits s path is_dir) → IsTrue (begins_with path (head s))
+
+-- Unless the spec is nil, it begins with the stem too, without case where the spec has none.
+abbrev pub FittedBeginsStem : Type 0
+FittedBeginsStem = (s : Spec) (path : List ℕ) (is_dir : Bool) → IsFalse s.nil → IsTrue (fits s path is_dir) → IsTrue (begins_with (fold_case (ignores_case s) path) (fold_case (ignores_case s) (stem s)))
+
+-- Every chosen path begins with the common prefix.
+abbrev pub ChosenBeginsCommon : Type 0
+ChosenBeginsCommon = (table : Table) (specs : List Spec) (path : List ℕ) (is_dir : Bool) → path ≢ [] → IsChosen table specs path is_dir → IsTrue (begins_with path (common_prefix specs))
+
+-- A nil spec has no prefix directory. So it is in each search.
+abbrev pub NoNilPrefix : List Spec → Type 0
+NoNilPrefix specs = (s : Spec) → Contains specs s → IsTrue s.nil → s.prefix_length ≡ 0

@@ -1,0 +1,196 @@
+//! Which directories can hold a path that a search matches.
+ghost use Rattle.std.specs.Prelude.{◌≡◌, ◌&&◌, ◌||◌, not};
+ghost use Rattle.std.specs.List.{list_any};
+ghost use Rattle.bstr.specs.BStr.{bstr_bytes};
+ghost use Rattle.gix_pathspec.specs.Attributes.{Table};
+ghost use Rattle.gix_pathspec.specs.Bytes.{is_empty, fold_case};
+ghost use Rattle.gix_pathspec.specs.Specs.{is_include, ignores_case, wants_directory, has_wildcard};
+ghost use Rattle.gix_pathspec.specs.Prefixes.{stem};
+ghost use Rattle.gix_pathspec.specs.Pruning.{takes_only_below, leads_to, reaches, agree, is_total_exclude, is_reached, can_match};
+ghost use Rattle.gix_pathspec.specs.PruningLaws.{PruningIsSafe, FilePruningIsSafe, PrunedIsNotChosen, FilePrunedIsNotChosen, PruningIsSharp, PruningIsSharpForFits, PruningIsNear};
+
+use crate::MagicSignature;
+use crate::search::Search;
+use crate::search::spec::CompiledSpec;
+use crate::search::texts::{begins_with, is_below, is_same_text};
+use bitflags::Flags;
+use bstr::BStr;
+
+impl Search {
+    ghost use Rattle.gix_pathspec.specs.Prefixes.{common_prefix};
+    ghost use Rattle.gix_pathspec.specs.Search.{specs_of};
+
+    /// Whether something at or below this path can match (gix-pathspec's call of this name). A walk that skips what
+    /// this denies loses no path that the search selects.
+    ///
+    /// It is so where there are no specs or the path is empty. Otherwise the path and the common prefix agree as far as
+    /// both go, no exclude takes every path, and some include's stem and the path lead to one another, or there is no
+    /// include. Where the path is that of a file, say so by `is_dir`: a spec that wants a directory is then asked only
+    /// for what lies below it.
+    ///
+    /// It looks at each byte of the path and of each stem a fixed number of times by spec, and takes no memory.
+    pub fn can_match_relative_path(&self, path: BStr<'_>, is_dir: Option<bool>) -> bool
+        ensures answer { result ≡ can_match (specs_of self.now.specs) (bstr_bytes path.entry)
+            is_dir }
+        // Where the answer is no, no include fits anything there, or an exclude takes all paths.
+        ensures safe { PruningIsSafe (specs_of self.now.specs) }
+        ensures file_safe { FilePruningIsSafe (specs_of self.now.specs) }
+        // So nothing there is chosen.
+        ensures pruned { (table : Table) → PrunedIsNotChosen table (specs_of self.now.specs) }
+        ensures file_pruned { (table : Table)
+            → FilePrunedIsNotChosen table (specs_of self.now.specs) }
+        // Of plain includes, where the answer is yes, some path there is taken.
+        ensures sharp { (table : Table) → PruningIsSharp table (specs_of self.now.specs) }
+        ensures sharp_for_fits { PruningIsSharpForFits (specs_of self.now.specs) }
+        // Of any specs, where it is yes, some include is near, if there is one.
+        ensures near { PruningIsNear (specs_of self.now.specs) }
+    {
+        // The proof reads here that no nil spec has a prefix directory.
+        let _ = &self.specs;
+        self.can_match(path.as_bytes(), is_dir)
+    }
+
+    /// Whether something at or below this path can match.
+    fn can_match(&self, path: &[u8], is_dir: Option<bool>) -> bool
+        ensures { result ≡ can_match (specs_of self.now.specs) path.now is_dir }
+    {
+        self.takes_unasked(path) || self.may_match(path, is_dir)
+    }
+
+    /// Whether a question about this path needs no look at the specs: there are none, or the path is empty.
+    pub(super) fn takes_unasked(&self, path: &[u8]) -> bool
+        ensures { result ≡ is_empty (specs_of self.now.specs) || is_empty path.now }
+    {
+        self.specs.is_empty() || path.is_empty()
+    }
+
+    /// Whether the path and the common prefix agree as far as both go.
+    pub(super) fn agrees_with_common_prefix(&self, path: &[u8]) -> bool
+        ensures { result ≡ agree path.now (common_prefix (specs_of self.now.specs)) }
+    {
+        agree(path, self.common_prefix().as_bytes())
+    }
+
+    /// Whether something at or below this path can match, where there are specs and the path isn't empty.
+    fn may_match(&self, path: &[u8], is_dir: Option<bool>) -> bool
+        ensures { let specs = specs_of self.now.specs in result
+            ≡ (agree path.now (common_prefix specs)
+            && not (list_any is_total_exclude specs)
+            && is_reached specs path.now is_dir) }
+    {
+        self.agrees_with_common_prefix(path)
+            && !self.has_total_exclude()
+            && (self.has_include_reaching(path, is_dir) || !self.has_include())
+    }
+
+    /// Whether an exclude takes every path.
+    fn has_total_exclude(&self) -> bool
+        ensures { result ≡ list_any is_total_exclude (specs_of self.now.specs) }
+    {
+        self.specs.iter().any(|spec| spec.is_total_exclude())
+    }
+
+    /// Whether some include reaches the path.
+    fn has_include_reaching(&self, path: &[u8], is_dir: Option<bool>) -> bool
+        ensures { result ≡ list_any (λ s. is_include s && reaches s path.now is_dir)
+            (specs_of self.now.specs) }
+    {
+        self.specs
+            .iter()
+            .any(|spec| spec.is_include() && spec.reaches(path, is_dir))
+    }
+
+    /// Whether some spec puts paths in.
+    pub(super) fn has_include(&self) -> bool
+        ensures { result ≡ list_any is_include (specs_of self.now.specs) }
+    {
+        self.specs.iter().any(|spec| spec.is_include())
+    }
+}
+
+/// Whether two texts agree as far as both go.
+fn agree(left: &[u8], right: &[u8]) -> bool
+    ensures { result ≡ agree left.now right.now }
+{
+    begins_with(left, right, false) || begins_with(right, left, false)
+}
+
+impl CompiledSpec {
+    /// The bytes of the spec's path.
+    pub(super) fn path(&self) -> &[u8]
+        ensures { result.now ≡ self.now.spec.path }
+    {
+        self.pattern().path().as_bytes()
+    }
+
+    /// The path before its first wildcard byte; of a nil spec the whole path.
+    pub(super) fn stem(&self) -> &[u8]
+        ensures { result.now ≡ stem self.now.spec }
+    {
+        &self.path()[..self.stem]
+    }
+
+    /// Whether the spec has a wildcard. It looks at no byte.
+    pub(super) fn has_wildcard(&self) -> bool
+        ensures { result ≡ has_wildcard self.now.spec }
+    {
+        self.stem < self.path().len()
+    }
+
+    /// Whether ASCII case doesn't count.
+    pub(super) fn ignores_case(&self) -> bool
+        ensures { result ≡ ignores_case self.now.spec }
+    {
+        self.pattern().signature.contains(MagicSignature::ICASE)
+    }
+
+    /// Whether the spec takes only directories and what lies below them.
+    pub(super) fn wants_directory(&self) -> bool
+        ensures { result ≡ wants_directory self.now.spec }
+    {
+        self.pattern()
+            .signature
+            .contains(MagicSignature::MUST_BE_DIR)
+    }
+
+    /// Whether this is an exclude that takes every path.
+    pub(super) fn is_total_exclude(&self) -> bool
+        ensures { result ≡ is_total_exclude self.now.spec }
+    {
+        !self.is_include()
+            && self.pattern().always_matches()
+            && self.pattern().attributes.is_empty()
+    }
+
+    /// Whether the spec reaches the path: it always matches, or its stem and the path lead to one another.
+    fn reaches(&self, path: &[u8], is_dir: Option<bool>) -> bool
+        ensures { result ≡ reaches self.now.spec path.now is_dir }
+    {
+        if self.pattern().always_matches() {
+            true
+        } else if self.takes_only_below(is_dir) {
+            is_below(path, self.path(), self.ignores_case())
+        } else {
+            leads_to(self.stem(), self.has_wildcard(), path, self.ignores_case())
+        }
+    }
+
+    /// Whether the spec, asked of a file, takes only what lies below its path.
+    fn takes_only_below(&self, is_dir: Option<bool>) -> bool
+        ensures { result ≡ takes_only_below self.now.spec is_dir }
+    {
+        is_dir == Some(false) && self.wants_directory() && !self.has_wildcard()
+    }
+}
+
+/// Whether a stem and a path lead to one another: one of them lies below the other or they are one, or the path goes on
+/// after a stem that a wildcard follows.
+fn leads_to(stem: &[u8], has_wildcard: bool, path: &[u8], ignore_case: bool) -> bool
+    ensures { result ≡ leads_to (fold_case ignore_case stem.now) has_wildcard
+        (fold_case ignore_case path.now) }
+{
+    is_below(stem, path, ignore_case)
+        || is_same_text(path, stem, ignore_case)
+        || is_below(path, stem, ignore_case)
+        || has_wildcard && begins_with(path, stem, ignore_case)
+}

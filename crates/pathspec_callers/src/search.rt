@@ -1,0 +1,34 @@
+//! Callers of the search of `gix_pathspec`.
+ghost use Rattle.std.specs.Prelude.{◌≡◌, ◌≢◌, ◌↔◌, [], IfOk, IsTrue};
+ghost use Rattle.bstr.specs.BStr.{bstr_bytes};
+ghost use Rattle.pathspec_callers.specs.Selections.{IsChosenFile, HoldsNothing};
+
+use bstr::BStr;
+use gix_pathspec::Search;
+use gix_pathspec::attributes::LookUp;
+
+/// Whether a search selects a file.
+///
+/// # Errors
+/// The fault of the look-up.
+pub fn is_selected<L: LookUp>(
+    search: &mut Search,
+    file: BStr<'_>,
+    look_up: &mut L,
+) -> Result<bool, L::Fault>
+    ensures chosen { bstr_bytes file.entry ≢ [] → IfOk result (λ selected. IsTrue selected
+        ↔ IsChosenFile (L.table look_up.old) search.old (bstr_bytes file.entry)) }
+    ensures same { search.new ≡ search.old }
+{
+    match search.find_match(file, Some(false), look_up)? {
+        Some(place) => Ok(!search.match_at(place).is_excluded()),
+        None => Ok(false),
+    }
+}
+
+/// Whether a walker may skip a directory: then nothing at or below it is chosen, whatever a look-up says.
+pub fn may_skip(search: &Search, directory: BStr<'_>) -> bool
+    ensures { IsTrue result → HoldsNothing search.now (bstr_bytes directory.entry) }
+{
+    !search.can_match_relative_path(directory, Some(true))
+}

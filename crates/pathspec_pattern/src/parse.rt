@@ -1,0 +1,145 @@
+//! Reading the text of a pathspec (gitglossary, "pathspec").
+ghost use Rattle.std.specs.Prelude.{◌≡◌, [], ◌∷◌, bytes_eq, codes, if◌then◌else◌, IfOk, IfErr};
+ghost use Rattle.std.specs.List.{list_any};
+ghost use Rattle.pathspec_parts.specs.Bytes.{colon, first_is, is_one_of};
+ghost use Rattle.pathspec_pattern.specs.Errors.{Computes, IsAnswer, IsMemory, IsMemoryOr};
+ghost use Rattle.pathspec_pattern.specs.Signatures.{signature_bits};
+ghost use Rattle.pathspec_pattern.specs.Reading.{Reads, IsRefused, reading, magic_reading, magic_of, short_bits, spec_of, is_colon, OneCut, ReadingIsExact};
+ghost use Rattle.pathspec_pattern.specs.Patterns.{pattern_spec};
+
+mod cut;
+mod lists;
+mod magic;
+mod pieces;
+#[cfg(test)]
+mod tests;
+
+use crate::{Defaults, Error, MagicSignature, Pattern};
+use bitflags::Flags;
+use cut::Cut;
+pub use lists::attributes;
+use magic::Magic;
+use pathspec_parts::path;
+use std::alloc::Global;
+
+/// Reads the text of a pathspec: `:` alone, a path, or a path after `:`, short magic (`/`, `^`, `!`, and a `:` that
+/// may end it) and long magic (`(top,icase,..)`). Long magic may say `top`, `icase`, `exclude`, `literal`, `glob`,
+/// `attr`, which asks for nothing, and once `attr:` with a list of attributes (see [`attributes`]). The defaults say
+/// what a text gets that says nothing of it.
+///
+/// It looks at each byte a fixed number of times. It takes memory for the path, for the attributes with their names
+/// and values, or for the bytes that an error carries.
+///
+/// # Errors
+/// [`Error::Empty`] for the empty text, [`Error::UnimplementedShort`] for a byte of short magic that git keeps
+/// free, [`Error::MissingParen`] for `(` without `)`; for the first piece of long magic at fault
+/// [`Error::InvalidKeyword`], [`Error::LiteralWithGlob`] where it picks a second mode, [`Error::SecondAttributes`]
+/// where it is a second list, or the error of its list, as [`attributes`] gives it; [`Error::Memory`].
+pub fn parse(alloc: Global, input: &[u8], defaults: Defaults) -> Result<Pattern, Error>
+    ensures reads { IfOk result (λ p. Reads defaults input.now (pattern_spec p)) }
+    ensures refused { IfErr result (λ e. IsMemoryOr e (IsRefused defaults input.now)) }
+    // The same by the function that other definitions stand on.
+    ensures exact { Computes pattern_spec (reading defaults input.now) result }
+    // A text has at most one cut, and the relation and the function say the same of each text.
+    ensures grammar { OneCut × ReadingIsExact }
+{
+    pattern_of(alloc, input, defaults)
+}
+
+/// The pattern that a text says.
+fn pattern_of(alloc: Global, input: &[u8], defaults: Defaults) -> Result<Pattern, Error>
+    ensures { Computes pattern_spec (reading defaults input.now) result }
+{
+    if input.is_empty() {
+        return Err(Error::Empty);
+    }
+    if defaults.literal {
+        return Pattern::from_literal(alloc, input, defaults.signature);
+    }
+    if !begins_with_colon(input) {
+        return Pattern::with_body(alloc, defaults, Magic::none(alloc), input);
+    }
+    if is_lone_colon(input) {
+        return Ok(Pattern::nil(alloc));
+    }
+    pattern_with_magic(alloc, input, defaults)
+}
+
+/// The pattern that a text says, which begins with `:` and doesn't end there.
+fn pattern_with_magic(alloc: Global, text: &[u8], defaults: Defaults) -> Result<Pattern, Error>
+    ensures { Computes pattern_spec (magic_reading defaults text.now) result }
+{
+    let cut = cut::cut_text(alloc, text)?;
+    let magic = magic_of(alloc, &cut)?;
+    Pattern::with_body(alloc, defaults, magic, cut.body)
+}
+
+/// What the magic of a cut says.
+#[tactic(auto, unfolding(crate::specs::Reading::magic_of))]
+fn magic_of(alloc: Global, cut: &Cut<'_>) -> Result<Magic, Error>
+    ensures { IsAnswer (magic_of cut.now) result }
+{
+    let short = Magic {
+        signature: signature_of(cut.short),
+        mode: None,
+        attributes: Vec::new(alloc),
+    };
+    magic::after_long(alloc, short, cut.long.unwrap_or(&[]))
+}
+
+/// Whether the text is `:` alone.
+fn is_lone_colon(input: &[u8]) -> bool
+    ensures { result ≡ bytes_eq input.now (colon ∷ []) }
+{
+    input == b":".as_slice()
+}
+
+/// Whether the text begins with `:`.
+fn begins_with_colon(input: &[u8]) -> bool
+    ensures { result ≡ first_is is_colon input.now }
+{
+    matches!(input, [b':', ..])
+}
+
+/// What short magic asks for: `/` the top, `^` and `!` an exclude.
+fn signature_of(short: &[u8]) -> MagicSignature
+    ensures { signature_bits result ≡ short_bits short.now }
+{
+    let mut signature = MagicSignature::empty();
+    signature.set(MagicSignature::TOP, short.contains(&b'/'));
+    signature.set(MagicSignature::EXCLUDE, holds_exclude(short));
+    signature
+}
+
+/// Whether short magic holds `^` or `!`.
+fn holds_exclude(short: &[u8]) -> bool
+    ensures { result ≡ list_any (is_one_of (codes "^!")) short.now }
+{
+    short.iter().any(|byte| matches!(*byte, b'^' | b'!'))
+}
+
+impl Pattern {
+    /// The spec that magic and a body say.
+    #[tactic(auto, unfolding(crate::specs::Reading::spec_of))]
+    fn with_body(
+        alloc: Global,
+        defaults: Defaults,
+        magic: Magic,
+        body: &[u8],
+    ) -> Result<Pattern, Error>
+        ensures ok { IfOk result (λ p. pattern_spec p ≡ spec_of defaults magic body.now) }
+        ensures err { IfErr result IsMemory }
+    {
+        let (path, wants_directory) = path::strip_last_slash(body);
+        let mut directory = MagicSignature::empty();
+        directory.set(MagicSignature::MUST_BE_DIR, wants_directory);
+        Ok(Pattern {
+            path: Vec::from_slice(alloc, path)?,
+            signature: defaults.signature.union(magic.signature).union(directory),
+            search_mode: magic.mode.unwrap_or(defaults.search_mode),
+            attributes: magic.attributes,
+            nil: false,
+            prefix_length: 0,
+        })
+    }
+}

@@ -1,0 +1,241 @@
+//! Lists of attributes, as `attr:` takes them (gitglossary, "pathspec").
+ghost use Rattle.std.specs.Prelude.{◌≡◌, map, vec_items, Some, IsTrue, IsFalse, IfOk, IfErr, OnErr};
+ghost use Rattle.pathspec_parts.specs.AttributeNames.{name_bytes};
+ghost use Rattle.pathspec_parts.specs.AttributeStates.{state_view, assignment_view};
+ghost use Rattle.pathspec_pattern.specs.Faults.Fault.{InvalidValueByte};
+ghost use Rattle.pathspec_pattern.specs.Errors.{fault_of, Computes};
+ghost use Rattle.pathspec_pattern.specs.AttributeLists.{name_of, is_value_byte, value_of, assignment_with_state, assignment_with_value, assignment_of, assignments_of};
+
+use super::pieces::is_escape;
+use crate::{Error, error};
+use pathspec_parts::attributes::{Assignment, Name, State};
+use pathspec_parts::split;
+use std::alloc::Global;
+
+/// Reads a list of attributes, as `attr:` takes it (gitglossary, "pathspec"): parts between spaces, of which empty ones
+/// don't count. `name` sets an attribute, `-name` unsets it and `!name` leaves it unspecified. `name=value`, cut at its
+/// first `=`, gives it a value of ASCII letters, digits, `,`, `-` and `_`, in which a backslash stands for the byte
+/// after it.
+///
+/// It looks at each byte a fixed number of times, and takes memory for the assignments with their names and values, or
+/// for the bytes that an error carries.
+///
+/// # Errors
+/// [`Error::EmptyAttributes`] for the empty list; for the first part at fault [`Error::InvalidValueByte`] or
+/// [`Error::TrailingEscape`], which tell of its value, and only then [`Error::InvalidName`]; [`Error::Memory`].
+pub fn attributes(alloc: Global, list: &[u8]) -> Result<Vec<Assignment>, Error>
+    ensures { Computes (λ vec. map assignment_view vec.items) (assignments_of list.now) result }
+{
+    if list.is_empty() {
+        return Err(Error::EmptyAttributes);
+    }
+    let mut assignments = Vec::new(alloc);
+    let mut rest = list;
+    while !rest.is_empty() {
+        let (part, others) = split::at_first(rest, b' ');
+        if !part.is_empty() {
+            assignments.push(assignment(alloc, part)?)?;
+        }
+        rest = others;
+    }
+    Ok(assignments)
+}
+
+/// The assignment that a part of a list says.
+fn assignment(alloc: Global, part: &[u8]) -> Result<Assignment, Error>
+    ensures { Computes assignment_view (assignment_of part.now) result }
+{
+    if let Some(name) = part.strip_prefix(b"!") {
+        return assignment_of_state(alloc, State::Unspecified, name);
+    }
+    if let Some(name) = part.strip_prefix(b"-") {
+        return assignment_of_state(alloc, State::Unset, name);
+    }
+    if !part.contains(&b'=') {
+        return assignment_of_state(alloc, State::Set, part);
+    }
+    let (name, written) = split::at_first(part, b'=');
+    assignment_of_value(alloc, name, written)
+}
+
+/// The assignment of a value to a name. The value is read before the name.
+fn assignment_of_value(alloc: Global, name: &[u8], written: &[u8]) -> Result<Assignment, Error>
+    ensures { Computes assignment_view (assignment_with_value name.now written.now) result }
+{
+    let value = value(alloc, written)?;
+    assignment_of_state(alloc, State::Value(value), name)
+}
+
+/// The assignment of a state to a name.
+fn assignment_of_state(alloc: Global, state: State, bytes: &[u8]) -> Result<Assignment, Error>
+    ensures { Computes assignment_view (assignment_with_state (state_view state) bytes.now) result }
+{
+    Ok(Assignment {
+        name: name(alloc, bytes)?,
+        state,
+    })
+}
+
+/// The name of these bytes.
+fn name(alloc: Global, bytes: &[u8]) -> Result<Name, Error>
+    ensures { Computes name_bytes (name_of bytes.now) result }
+{
+    match Name::from_bytes(alloc, bytes)? {
+        Some(name) => Ok(name),
+        None => Err(Error::InvalidName(error::to_vec(alloc, bytes)?)),
+    }
+}
+
+/// The value that these bytes write.
+fn value(alloc: Global, written: &[u8]) -> Result<Vec<u8>, Error>
+    ensures { Computes vec_items (value_of written.now) result }
+{
+    let mut value = Vec::new(alloc);
+    let mut escaped = false;
+    for byte in written {
+        escaped = is_escape(*byte, escaped);
+        if !escaped {
+            value.push(value_byte(*byte)?)?;
+        }
+    }
+    if escaped {
+        return Err(Error::TrailingEscape(error::to_vec(alloc, written)?));
+    }
+    Ok(value)
+}
+
+/// The byte, if a value may hold it.
+fn value_byte(byte: u8) -> Result<u8, Error>
+    ensures ok { IfOk result (λ b. (b ≡ byte) × IsTrue (is_value_byte byte)) }
+    ensures err { IfErr result (λ e. fault_of e ≡ Some (InvalidValueByte byte)) }
+    ensures refused { OnErr result (IsFalse (is_value_byte byte)) }
+{
+    if is_value_byte(byte) {
+        Ok(byte)
+    } else {
+        Err(Error::InvalidValueByte(byte))
+    }
+}
+
+/// Whether a value may hold the byte.
+fn is_value_byte(byte: u8) -> bool
+    ensures { result ≡ is_value_byte byte }
+{
+    byte.is_ascii_alphanumeric() || matches!(byte, b',' | b'-' | b'_')
+}
+
+#[cfg(test)]
+mod tests {
+    use super::*;
+    use pathspec_parts::attributes::StateRef;
+    use std::alloc::AllocError;
+    use std::process::Abort;
+    use std::test::Fail;
+
+    /// Tells an assignment, as in `a is set; `.
+    fn tell(told: &mut Vec<u8>, assignment: &Assignment) -> Result<(), AllocError> {
+        told.extend_from_slice(assignment.name.as_bytes().as_bytes())?;
+        told.extend_from_slice(b" is ")?;
+        told.extend_from_slice(match assignment.state.as_ref() {
+            StateRef::Set => b"set",
+            StateRef::Unset => b"unset",
+            StateRef::Value(value) => value,
+            StateRef::Unspecified => b"unspecified",
+        })?;
+        told.extend_from_slice(b"; ")?;
+        Ok(())
+    }
+
+    /// Tells what a list says.
+    fn told(alloc: Global, list: &str) -> Result<Vec<u8>, Error> {
+        let mut told = Vec::new(alloc);
+        for assignment in &attributes(alloc, list.as_bytes())? {
+            tell(&mut told, assignment)?;
+        }
+        Ok(told)
+    }
+
+    /// Asserts each row: a list, and what it says.
+    fn assert_told(rt: &impl Abort, alloc: Global, rows: &[(&str, &str)]) -> Result<(), Error> {
+        for (list, want) in rows {
+            let told = told(alloc, list)?;
+            assert_eq!(rt; told.as_slice(), want.as_bytes(), "{list}");
+        }
+        Ok(())
+    }
+
+    #[test]
+    #[rattlefmt::skip]
+    fn parts_of_a_list_say_assignments(rt: HostRuntime) -> Result<(), Error> {
+        const ROWS: &[(&str, &str)] = &[
+            ("a -b !c d=v", "a is set; b is unset; c is unspecified; d is v; "),
+            (" ", ""),
+            ("  ", ""),
+            (" a  b ", "a is set; b is set; "),
+            ("a=x\\,y", "a is x,y; "),
+            ("a=\\x\\-\\_\\9", "a is x-_9; "),
+            ("a=one b=", "a is one; b is ; "),
+            ("=v", " is v; "),
+            ("=", " is ; "),
+            ("!", " is unspecified; "),
+            ("-", " is unset; "),
+            ("-1", "1 is unset; "),
+            ("a a", "a is set; a is set; "),
+            ("A.b-c_9", "A.b-c_9 is set; "),
+        ];
+        assert_told(&rt, rt.alloc(), ROWS)
+    }
+
+    /// Asserts each row: a list, and its fault.
+    fn assert_faults(rt: &impl Abort, alloc: Global, rows: &[(&str, Error)]) {
+        for (list, want) in rows {
+            let fault = attributes(alloc, list.as_bytes()).err();
+            assert_eq!(rt; fault.as_ref(), Some(want), "{list}");
+        }
+    }
+
+    #[test]
+    fn the_first_part_at_fault_is_told(rt: HostRuntime) {
+        let rows = [
+            ("", Error::EmptyAttributes),
+            ("a=b=c", Error::InvalidValueByte(b'=')),
+            ("a=x\\\\", Error::InvalidValueByte(b'\\')),
+            ("a=é", Error::InvalidValueByte(195)),
+            ("a=. -", Error::InvalidValueByte(b'.')),
+            ("b!=.", Error::InvalidValueByte(b'.')),
+        ];
+        assert_faults(&rt, rt.alloc(), &rows);
+    }
+
+    /// Asserts each row: a list, the kind of its fault, and the bytes that the fault carries.
+    fn assert_refused(
+        rt: &impl Abort,
+        alloc: Global,
+        rows: &[(&str, &str, &str)],
+    ) -> Result<(), Fail> {
+        for (list, kind, bytes) in rows {
+            let Err(fault) = attributes(alloc, list.as_bytes()) else {
+                return Err("read".into());
+            };
+            assert_eq!(rt; fault.kind(), *kind, "{list}");
+            assert_eq!(rt; fault.carried(), Some(bytes.as_bytes()), "{list}");
+        }
+        Ok(())
+    }
+
+    #[test]
+    fn the_first_part_at_fault_is_told_with_its_bytes(rt: HostRuntime) -> Result<(), Fail> {
+        const ROWS: &[(&str, &str, &str)] = &[
+            ("--1", "InvalidName", "-1"),
+            ("!a=b", "InvalidName", "a=b"),
+            ("!-a", "InvalidName", "-a"),
+            ("-x=\\", "InvalidName", "x=\\"),
+            ("b!=v", "InvalidName", "b!"),
+            ("a\tb", "InvalidName", "a\tb"),
+            ("a=x\\", "TrailingEscape", "x\\"),
+            ("a=x\\ b=.", "TrailingEscape", "x\\"),
+            ("a b! c=.", "InvalidName", "b!"),
+        ];
+        assert_refused(&rt, rt.alloc(), ROWS)
+    }
+}

@@ -1,0 +1,556 @@
+//! Normalising: the path of a pathspec from the top of the repository, without `.` and `..`.
+ghost use Rattle.std.specs.Prelude.{◌≡◌, ◌≢◌, ◌∷◌, [], ◌++◌, ◌==◌, ◌≤◌, ◌-◌, not, length, min, take, if◌then◌else◌, is_some, IsTrue, IfSome, IfOk, IfErr, OnOk, OnErr};
+ghost use Rattle.std.specs.Option.{option_map};
+ghost use Rattle.bstr.specs.BStr.{bstr_bytes};
+ghost use Rattle.pathspec_parts.specs.Bytes.{slash};
+ghost use Rattle.pathspec_parts.specs.Paths.{join_names, is_parent_dir, is_clean_prefix};
+ghost use Rattle.pathspec_parts.specs.Components.{remaining_components};
+ghost use Rattle.pathspec_pattern.specs.Errors.{IsMemory, Computes};
+ghost use Rattle.pathspec_pattern.specs.NormalForm.{IsNormal, base, base_names, own_components, is_inside, parent_dir_count, kept, directory_count, stays_empty, resolved};
+ghost use Rattle.pathspec_pattern.specs.Heights.{ClimbByHeight, SurvivorsByHeight, KeptIsLeastHeight};
+ghost use Rattle.pathspec_pattern.specs.Resolving.{base_of, IsLeft, IsPushed};
+ghost use Rattle.pathspec_pattern.specs.LongText.{AddsBytes};
+
+use crate::{Error, MagicSignature, Pattern, error};
+use bitflags::Flags;
+use bstr::BStr;
+use pathspec_parts::path::{self, Components, Stack};
+use std::alloc::{AllocError, Global};
+
+/// What a path stands on.
+#[derive(Clone, Copy)]
+enum Base<'p> {
+    /// The root of the repository: the path is absolute.
+    Root,
+    /// A prefix that isn't empty, by its components.
+    Prefix(Components<'p>),
+    /// The top of the repository.
+    Top,
+}
+
+/// A path's own components, and what is left of them on what the path stands on, with each `..` resolved.
+#[derive(Drop)]
+struct Walk<'p> {
+    base: Base<'p>,
+    own: Components<'p>,
+    stack: Stack<'p>,
+    ghost left: { IsLeft (base_of base) (remaining_components own) stack },
+}
+
+/// What normalising changes.
+#[derive(Drop)]
+struct Resolved {
+    path: Vec<u8>,
+    nil: bool,
+    prefix_length: usize,
+}
+
+impl Pattern {
+    ghost use Rattle.pathspec_pattern.specs.Patterns.{pattern_spec, pattern_normal_form};
+    ghost use Rattle.pathspec_pattern.specs.Resolving.{resolved_spec};
+
+    /// Normalises the path to what it means from the top of the repository, when it is given in the directory `prefix`
+    /// of a repository that lies at `root`. The prefix must be clean: names joined by single slashes, or empty.
+    ///
+    /// An absolute path loses the root's components. A relative one gets the prefix in front, unless the pattern has
+    /// [`MagicSignature::TOP`]. Then each `..` takes off the component before it, and what is left is joined by
+    /// slashes. Where nothing is left, the root itself becomes an empty path, and an empty path stays empty if no prefix
+    /// stands in front of it; any other becomes the path `.` of a pattern that is nil.
+    ///
+    /// The new [`Pattern::prefix_directory`] has the names of the prefix that the path never climbs above, and of an
+    /// absolute path all its names. The last name of the new path is no part of it, unless the pattern has
+    /// [`MagicSignature::MUST_BE_DIR`]: of `/r/a/b` in the root `/r` it is `a`. A nil pattern has none.
+    ///
+    /// It looks at each byte of the path, of the prefix and of the root a fixed number of times, and takes as much
+    /// memory as they are long, and some for each component.
+    ///
+    /// # Errors
+    /// [`Error::OutsideRoot`] for an absolute path that doesn't lie in the root or whose root isn't absolute,
+    /// [`Error::LeavesRepository`] for a path that climbs above the top, both with the path as it was;
+    /// [`Error::Memory`]. The pattern is then as it was.
+    pub fn normalize(&mut self, prefix: BStr<'_>, root: BStr<'_>) -> Result<&mut Pattern, Error>
+        requires { IsTrue (is_clean_prefix (bstr_bytes prefix)) }
+        ensures same { IfOk result (λ p. p.ghost_name ≡ self.entry.ghost_name) }
+        ensures form { Computes (λ p. pattern_spec p.now)
+            (pattern_normal_form prefix.entry root.entry self.entry.now) result }
+        ensures idempotent { IfOk result (λ p. IsNormal (pattern_spec p.now)) }
+    {
+        self.resolve(prefix, root)?;
+        Ok(self)
+    }
+
+    /// As [`Pattern::normalize`], for a caller who goes on with the pattern also after an error.
+    ///
+    /// # Errors
+    /// Those of [`Pattern::normalize`]; the pattern is then as it was.
+    pub fn resolve(&mut self, prefix: BStr<'_>, root: BStr<'_>) -> Result<(), Error>
+        requires { IsTrue (is_clean_prefix (bstr_bytes prefix)) }
+        ensures form { Computes (λ _. pattern_spec self.new)
+            (pattern_normal_form prefix.entry root.entry self.old) result }
+        ensures unchanged { OnErr result (pattern_spec self.new ≡ pattern_spec self.old) }
+        ensures idempotent { OnOk result (IsNormal (pattern_spec self.new)) }
+        // In the words of heights: when a path leaves, which names survive, and how many are kept.
+        ensures by_heights { ClimbByHeight × SurvivorsByHeight × KeptIsLeastHeight }
+    {
+        let resolved = self.resolved(prefix, root)?;
+        self.path = resolved.path;
+        self.nil = resolved.nil;
+        self.prefix_length = resolved.prefix_length;
+        Ok(())
+    }
+
+    /// What normalising changes.
+    fn resolved(&self, prefix: BStr<'_>, root: BStr<'_>) -> Result<Resolved, Error>
+        requires { IsTrue (is_clean_prefix (bstr_bytes prefix)) }
+        ensures { Computes (resolved_spec (pattern_spec self.now))
+            (pattern_normal_form prefix.entry root.entry self.now) result }
+    {
+        let alloc = *self.path.allocator();
+        let base = self.base(prefix);
+        let Some(own) = self.own_components(base, root) else {
+            return Err(Error::OutsideRoot(error::to_vec(alloc, self.path.as_slice())?));
+        };
+        let Some(walk) = Walk::new(alloc, base, own)? else {
+            return Err(Error::LeavesRepository(error::to_vec(alloc, self.path.as_slice())?));
+        };
+        self.resolved_along(&walk)
+    }
+
+    /// What the path stands on, where it is given in the directory `prefix`.
+    fn base<'p>(&self, prefix: BStr<'p>) -> Base<'p>
+        ensures { base_of result ≡ base (bstr_bytes prefix.entry) (pattern_spec self.now) }
+    {
+        if path::is_absolute(self.path()) {
+            Base::Root
+        } else if prefix.as_bytes().is_empty() || self.signature.contains(MagicSignature::TOP) {
+            Base::Top
+        } else {
+            Base::Prefix(path::components(prefix))
+        }
+    }
+
+    /// The path's own components: on the root those after the root's, or None if it doesn't lie there.
+    fn own_components(&self, base: Base<'_>, root: BStr<'_>) -> Option<Components<'_>>
+        ensures { option_map remaining_components result
+            ≡ own_components (base_of base.entry) (bstr_bytes root.entry)
+            (pattern_spec self.now).path }
+    {
+        match base {
+            Base::Root => path::strip_root(self.path(), root),
+            Base::Prefix(_) | Base::Top => Some(path::components(self.path())),
+        }
+    }
+
+    /// What a walk makes of the pattern.
+    fn resolved_along(&self, walk: &Walk<'_>) -> Result<Resolved, Error>
+        ensures ok { IfOk result (λ r. resolved_spec (pattern_spec self.now) r
+            ≡ resolved (base_of walk.now.base) (pattern_spec self.now)
+            (remaining_components walk.now.own) walk.now.stack.names) }
+        ensures err { IfErr result IsMemory }
+    {
+        if !walk.stack.is_empty() {
+            return self.with_names(walk);
+        }
+        let alloc = *self.path.allocator();
+        if self.stays_empty(walk) {
+            return Ok(self.empty());
+        }
+        Ok(Resolved {
+            path: error::to_vec(alloc, b".")?,
+            nil: true,
+            prefix_length: 0,
+        })
+    }
+
+    /// Whether a path of which nothing is left stays an empty path: it is the root itself, without `..`, or it was
+    /// empty and stands on the top.
+    fn stays_empty(&self, walk: &Walk<'_>) -> bool
+        ensures { result ≡ stays_empty (base_of walk.now.base) (pattern_spec self.now)
+            (remaining_components walk.now.own) }
+    {
+        match walk.base {
+            Base::Root => !climbs(walk.own),
+            Base::Prefix(_) => false,
+            Base::Top => self.path.is_empty(),
+        }
+    }
+
+    /// What at least one name makes of the pattern.
+    fn with_names(&self, walk: &Walk<'_>) -> Result<Resolved, Error>
+        requires { walk.now.stack.names ≢ [] }
+        ensures ok { IfOk result (λ r. resolved_spec (pattern_spec self.now) r
+            ≡ resolved (base_of walk.now.base) (pattern_spec self.now)
+            (remaining_components walk.now.own) walk.now.stack.names) }
+        ensures err { IfErr result IsMemory }
+    {
+        let mut path = Vec::new(*self.path.allocator());
+        let count = self.directory_count(walk);
+        write_names(&mut path, &walk.stack, 0, count)?;
+        let prefix_length = if self.nil { 0 } else { path.len() };
+        write_names(&mut path, &walk.stack, count, walk.stack.len())?;
+        Ok(Resolved {
+            path,
+            nil: self.nil,
+            prefix_length,
+        })
+    }
+
+    /// How many of the names are the prefix directory: the kept ones, without the last of all unless a directory is
+    /// wanted.
+    fn directory_count(&self, walk: &Walk<'_>) -> usize
+        ensures count { result ≡ directory_count (base_of walk.now.base) (pattern_spec self.now)
+            (remaining_components walk.now.own) walk.now.stack.names }
+        ensures within { result ≤ length walk.now.stack.names }
+    {
+        let most = if self.signature.contains(MagicSignature::MUST_BE_DIR) {
+            walk.stack.len()
+        } else {
+            walk.stack.len().saturating_sub(1)
+        };
+        walk.kept().min(most)
+    }
+
+    /// The pattern with an empty path. It takes no memory.
+    fn empty(&self) -> Resolved
+        ensures { resolved_spec (pattern_spec self.now) result
+            ≡ record (pattern_spec self.now) { path = []; prefix_length = 0 } }
+    {
+        Resolved {
+            path: Vec::new(*self.path.allocator()),
+            nil: self.nil,
+            prefix_length: 0,
+        }
+    }
+}
+
+impl<'p> Base<'p> {
+    /// The names that a path stands on.
+    fn names(self) -> Components<'p>
+        ensures { remaining_components result ≡ base_names (base_of self.entry) }
+    {
+        match self {
+            Base::Prefix(names) => names,
+            Base::Root | Base::Top => path::components(BStr::new(b"")),
+        }
+    }
+}
+
+impl<'p> Walk<'p> {
+    /// Walks a path's own components from what it stands on, or gives None where they climb out.
+    ///
+    /// # Errors
+    /// Memory runs out.
+    fn new(
+        alloc: Global,
+        base: Base<'p>,
+        own: Components<'p>,
+    ) -> Result<Option<Walk<'p>>, AllocError>
+        requires { parent_dir_count (base_names (base_of base)) ≡ 0 }
+        ensures inside { IfOk result (λ walk. is_some walk
+            ≡ is_inside (base_of base.entry) (remaining_components own.entry)) }
+        ensures parts { IfOk result (λ walk. IfSome walk (λ w.
+            (w.base ≡ base.entry) × (w.own ≡ own.entry))) }
+    {
+        let mut stack = Stack::new(alloc);
+        if !push_components(&mut stack, base.names())? {
+            return Ok(None);
+        }
+        stack.mark();
+        if !push_components(&mut stack, own)? {
+            return Ok(None);
+        }
+        Ok(Some(Walk { base, own, stack }))
+    }
+
+    /// How many of the names are kept for the prefix directory: on a prefix as many as it has names that the path
+    /// never climbs above, on the root all.
+    fn kept(&self) -> usize
+        ensures count { result
+            ≡ kept (base_of self.now.base) (remaining_components self.now.own) self.now.stack.names }
+        ensures within { result ≤ length self.now.stack.names }
+    {
+        match self.base {
+            Base::Root => self.stack.len(),
+            Base::Prefix(_) | Base::Top => self.stack.least(),
+        }
+    }
+}
+
+/// Whether some component is `..`.
+fn climbs(components: Components<'_>) -> bool
+    ensures { result ≡ not (parent_dir_count (remaining_components components.entry) == 0) }
+{
+    for component in components {
+        if is_parent_dir(component) {
+            return true;
+        }
+    }
+    false
+}
+
+/// Whether a component is `..`.
+fn is_parent_dir(component: BStr<'_>) -> bool
+    ensures { result ≡ is_parent_dir (bstr_bytes component.entry) }
+{
+    component.as_bytes() == b"..".as_slice()
+}
+
+/// Pushes components on a stack, where `..` pops a name. Answers whether there always was one to pop.
+fn push_components<'p>(
+    stack: &mut Stack<'p>,
+    components: Components<'p>,
+) -> Result<bool, AllocError>
+    requires names { parent_dir_count stack.old.names ≡ 0 }
+    requires least { stack.old.least ≤ length stack.old.names }
+    ensures { IfOk result (IsPushed stack.old (remaining_components components.entry) stack.new) }
+{
+    for component in components {
+        if !push_component(stack, component)? {
+            return Ok(false);
+        }
+    }
+    Ok(true)
+}
+
+/// Pushes a component on a stack, or pops a name for `..`. Answers whether there was one to pop.
+fn push_component<'p>(stack: &mut Stack<'p>, component: BStr<'p>) -> Result<bool, AllocError>
+    requires names { parent_dir_count stack.old.names ≡ 0 }
+    requires least { stack.old.least ≤ length stack.old.names }
+    ensures { IfOk result (IsPushed stack.old (bstr_bytes component.entry ∷ []) stack.new) }
+{
+    if is_parent_dir(component) {
+        return Ok(stack.pop());
+    }
+    stack.push(component)?;
+    Ok(true)
+}
+
+/// Writes the names on a stack from one place to another after those before them, with a slash between each two.
+fn write_names(
+    path: &mut Vec<u8>,
+    stack: &Stack<'_>,
+    first: usize,
+    end: usize,
+) -> Result<(), AllocError>
+    requires order { first ≤ end }
+    requires within { end ≤ length stack.now.names }
+    requires before { path.old.items ≡ join_names (take first stack.now.names) }
+    ensures { OnOk result (path.new.items ≡ join_names (take end stack.now.names)) }
+{
+    for place in first..end {
+        if let Some(name) = stack.get(place) {
+            write_name(path, place, name)?;
+        }
+    }
+    Ok(())
+}
+
+/// Writes the name that has this place, with a slash in front where it isn't the first.
+fn write_name(path: &mut Vec<u8>, place: usize, name: BStr<'_>) -> Result<(), AllocError>
+    ensures { AddsBytes path.old.items path.new.items
+        (if place == 0 then bstr_bytes name.entry else slash ∷ bstr_bytes name.entry) result }
+{
+    if place > 0 {
+        path.push(b'/')?;
+    }
+    path.extend_from_slice(name.as_bytes())?;
+    Ok(())
+}
+
+#[cfg(test)]
+mod tests {
+    use super::*;
+    use crate::Defaults;
+    use std::process::Abort;
+    use std::test::Fail;
+
+    /// A prefix or a root, a text, and what its normal form has: its path, its prefix directory, and whether it is nil.
+    type Row<'r> = (&'r str, &'r str, &'r str, &'r str, bool);
+
+    /// Asserts the parts of a normal form.
+    fn assert_normal(rt: &impl Abort, normal: &Pattern, row: &Row<'_>) {
+        let (_, text, path, directory, nil) = row;
+        assert_eq!(rt; normal.path().as_bytes(), path.as_bytes(), "path of {text}");
+        assert_eq!(rt;
+            normal.prefix_directory().as_bytes(),
+            directory.as_bytes(),
+            "prefix directory of {text}"
+        );
+        assert_eq!(rt; normal.is_nil(), *nil, "nil of {text}");
+    }
+
+    /// Asserts each row, of a prefix.
+    fn assert_in_prefixes(rt: &impl Abort, alloc: Global, rows: &[Row<'_>]) -> Result<(), Error> {
+        for row in rows {
+            let mut pattern = Pattern::from_bytes(alloc, row.1.as_bytes(), Defaults::default())?;
+            assert_in_prefix(rt, &mut pattern, row)?;
+        }
+        Ok(())
+    }
+
+    /// Asserts that the prefix gives the pattern this normal form, whose path stays.
+    fn assert_in_prefix(
+        rt: &impl Abort,
+        pattern: &mut Pattern,
+        row: &Row<'_>,
+    ) -> Result<(), Error> {
+        let text = row.1;
+        let (bits, mode) = (pattern.signature, pattern.search_mode);
+        let prefix = BStr::new(row.0.as_bytes());
+        assert!(rt; path::is_clean_prefix(prefix), "prefix of {text}");
+        let normal = pattern.normalize(prefix, BStr::new(b""))?;
+        assert_normal(rt, normal, row);
+        assert_eq!(rt; normal.signature, bits, "signature of {text}");
+        assert_eq!(rt; normal.search_mode, mode, "mode of {text}");
+        let again = normal.normalize(BStr::new(b""), BStr::new(b""))?;
+        assert_eq!(rt;
+            again.path().as_bytes(),
+            row.2.as_bytes(),
+            "path of {text}, again"
+        );
+        Ok(())
+    }
+
+    #[test]
+    #[rattlefmt::skip]
+    fn paths_are_resolved_from_the_prefix(rt: HostRuntime) -> Result<(), Error> {
+        const ROWS: &[Row<'_>] = &[
+            ("", "a", "a", "", false),
+            ("", "./c", "c", "", false),
+            ("", "a//", "a", "", false),
+            ("", "a/./b//c/.", "a/b/c", "", false),
+            ("", ":", "", "", true),
+            ("", "::", "", "", false),
+            ("", ".", ".", "", true),
+            ("", "./", ".", "", true),
+            ("", "/", "", "", false),
+            ("a/b", "../c", "a/c", "a", false),
+            ("a/b/c", "../../x/y/../z", "a/x/z", "a", false),
+            ("a", "..", ".", "", true),
+            ("sub", ".", "sub", "", false),
+            ("a", ":", "a", "", true),
+            ("a/b", ":", "a/b", "", true),
+            ("a", ":/b", "b", "", false),
+            ("a", ":(top)b/", "b", "", false),
+            ("a", "b", "a/b", "a", false),
+            ("a/b", "c/", "a/b/c", "a/b", false),
+            ("a/b", "./", "a/b", "a/b", false),
+            ("a/b", "../b/c", "a/b/c", "a", false),
+        ];
+        assert_in_prefixes(&rt, rt.alloc(), ROWS)
+    }
+
+    /// Asserts each row, of a root.
+    fn assert_in_roots(rt: &impl Abort, alloc: Global, rows: &[Row<'_>]) -> Result<(), Error> {
+        for row in rows {
+            let mut pattern = Pattern::from_bytes(alloc, row.1.as_bytes(), Defaults::default())?;
+            let normal = pattern.normalize(BStr::new(b"p"), BStr::new(row.0.as_bytes()))?;
+            assert_normal(rt, normal, row);
+        }
+        Ok(())
+    }
+
+    #[test]
+    #[rattlefmt::skip]
+    fn absolute_paths_are_resolved_from_the_root(rt: HostRuntime) -> Result<(), Error> {
+        const ROWS: &[Row<'_>] = &[
+            ("/r", "/r/a/b", "a/b", "a", false),
+            ("/r", "/r", "", "", false),
+            ("/r", "/r/a/..", ".", "", true),
+            ("/r", "/r/a/b/", "a/b", "a/b", false),
+            ("/r", "/r/a/../b", "b", "", false),
+            ("/", "/a", "a", "", false),
+        ];
+        assert_in_roots(&rt, rt.alloc(), ROWS)
+    }
+
+    /// A prefix, a root, a text, and the kind of its refusal.
+    type Refused<'r> = (&'r str, &'r str, &'r str, &'r str);
+
+    /// Asserts each row.
+    fn assert_rows_refused(
+        rt: &impl Abort,
+        alloc: Global,
+        rows: &[Refused<'_>],
+    ) -> Result<(), Fail> {
+        for row in rows {
+            let mut pattern = Pattern::from_bytes(alloc, row.2.as_bytes(), Defaults::default())?;
+            let before = pattern.try_clone()?;
+            assert_refused(rt, &mut pattern, &before, row)?;
+        }
+        Ok(())
+    }
+
+    /// Asserts that both calls refuse to normalise the pattern, and leave it as it was before.
+    fn assert_refused(
+        rt: &impl Abort,
+        pattern: &mut Pattern,
+        before: &Pattern,
+        row: &Refused<'_>,
+    ) -> Result<(), Fail> {
+        let (prefix, root, text, _) = row;
+        let (prefix, root) = (BStr::new(prefix.as_bytes()), BStr::new(root.as_bytes()));
+        assert!(rt; path::is_clean_prefix(prefix), "prefix of {text}");
+        let Err(error) = pattern.normalize(prefix, root) else {
+            return Err("normalised".into());
+        };
+        assert_told(rt, &error, before, row, "normalize");
+        assert_eq!(rt; &*pattern, before, "pattern after normalize {text}");
+        let Err(error) = pattern.resolve(prefix, root) else {
+            return Err("resolved".into());
+        };
+        assert_told(rt, &error, before, row, "resolve");
+        assert_eq!(rt; &*pattern, before, "pattern after resolve {text}");
+        Ok(())
+    }
+
+    /// Asserts that the refusal of a call is of the row's kind, and tells the path of the pattern before it.
+    fn assert_told(
+        rt: &impl Abort,
+        error: &Error,
+        before: &Pattern,
+        row: &Refused<'_>,
+        call: &str,
+    ) {
+        let (_, _, text, kind) = row;
+        assert_eq!(rt; error.kind(), *kind, "{call} {text}");
+        assert_eq!(rt;
+            error.carried(),
+            Some(before.path().as_bytes()),
+            "path of {call} {text}"
+        );
+    }
+
+    #[test]
+    #[rattlefmt::skip]
+    fn what_lies_outside_is_refused(rt: HostRuntime) -> Result<(), Fail> {
+        const ROWS: &[Refused<'_>] = &[
+            ("", "", "..", "LeavesRepository"),
+            ("", "", "./..", "LeavesRepository"),
+            ("a", "", "../..", "LeavesRepository"),
+            ("a", "", "../../a", "LeavesRepository"),
+            ("a", "", ":/..", "LeavesRepository"),
+            ("", "/r", "/r/..", "LeavesRepository"),
+            ("", "/rr", "/r/a/b", "OutsideRoot"),
+            ("", "", "/r/a/b", "OutsideRoot"),
+            ("", "r", "/r/a/b", "OutsideRoot"),
+        ];
+        assert_rows_refused(&rt, rt.alloc(), ROWS)
+    }
+
+    #[test]
+    fn a_literal_colon_is_a_path(rt: HostRuntime) -> Result<(), Fail> {
+        let defaults = Defaults {
+            literal: true,
+            ..Defaults::default()
+        };
+        let mut pattern = Pattern::from_bytes(rt.alloc(), b":", defaults)?;
+        let prefix = BStr::new(b"a");
+        assert!(rt; path::is_clean_prefix(prefix));
+        let normal = pattern.normalize(prefix, BStr::new(b""))?;
+        assert_eq!(rt; normal.path().as_bytes(), b"a/:".as_slice());
+        assert_eq!(rt; normal.prefix_directory().as_bytes(), b"a".as_slice());
+        assert!(rt; !normal.is_nil());
+        Ok(())
+    }
+}
