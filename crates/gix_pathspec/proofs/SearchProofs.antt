@@ -11,6 +11,7 @@ use Rattle.gix_pathspec.specs.Specs.{Spec, is_exclude, is_include}
 use Rattle.gix_pathspec.specs.NormalForm.{Base, base, own_components, components_to_resolve, is_inside, resolve, resolved, stays_empty, survivors, normal_form}
 use Rattle.gix_pathspec.specs.Search.{Numbered, specs_of, at_number, numbered_from, in_search_order, default_to_prefix, search_of}
 use Rattle.gix_pathspec.specs.SelectionLaws.{NoNilPrefix}
+use Rattle.pathspec_pattern.proofs.ResultProofs.{bind_ok}
 use Rattle.gix_pathspec.proofs.SelectedProofs.{Contains-cases}
 
 -- ---- the specs of a search
@@ -38,11 +39,6 @@ pub normal_form-nil : (prefix root : List ℕ) (s m : Spec) → normal_form pref
 unfolding normal_form
 normal_form-nil prefix root s m e n = resolve-nil (base prefix s) s m (own_components (base prefix s) root s.path) e n
 
--- a chain of steps gives a value where each step does
-ok_of_bind : {A B E : Type 0} (r : Result A E) (f : A → Result B E) (b : B) → (r >>= f) ≡ Ok b → (a : A) × (r ≡ Ok a) × (f a ≡ Ok b)
-ok_of_bind (Ok a) f b h = (a, refl, h)
-ok_of_bind (Err e) f b h = cc
-
 ok_of_number : {A : Type 0} (n : ℕ) (r : Result A Fault) (a : A) → at_number n r ≡ Ok a → r ≡ Ok a
 ok_of_number n (Ok x) a h = cc
 ok_of_number n (Err e) a h = cc
@@ -59,8 +55,8 @@ one_more x specs p q s c = elim (Contains-cases x specs s c) [
 numbered_from-nil : (n : ℕ) (prefix root : List ℕ) (specs : List Spec) (ns : List Numbered) → numbered_from n prefix root specs ≡ Ok ns → NoNilPrefix (specs_of ns)
 numbered_from-nil n prefix root [] ns e = let same : [] ≡ ns = cc in subst (λ xs. NoNilPrefix (specs_of xs)) same no_spec
 numbered_from-nil n prefix root (s ∷ specs) ns e =
-    let first = ok_of_bind (at_number n (normal_form prefix root s)) _ ns e in
-    let others = ok_of_bind (numbered_from (n + 1) prefix root specs) _ ns first.2 in
+    let first = bind_ok (at_number n (normal_form prefix root s)) _ ns e in
+    let others = bind_ok (numbered_from (n + 1) prefix root specs) _ ns first.2 in
     let m : Numbered = record { number = n; spec = first.0 } in
     let made : Ok (m ∷ others.0) ≡ Ok ns = others.2 in
     let same : m ∷ others.0 ≡ ns = cc in
@@ -90,7 +86,7 @@ ordered-nil ns h s c =
 search_of-numbered : (prefix root : List ℕ) (specs : List Spec) (search : List Numbered) → search_of prefix root specs ≡ Ok search → (ns : List Numbered) × (in_search_order ns ≡ search) × (numbered_from 0 prefix root (default_to_prefix prefix specs) ≡ Ok ns)
 unfolding search_of
 search_of-numbered prefix root specs search e =
-    let r = ok_of_bind (numbered_from 0 prefix root (default_to_prefix prefix specs)) _ search e in
+    let r = bind_ok (numbered_from 0 prefix root (default_to_prefix prefix specs)) _ search e in
     let same : in_search_order r.0 ≡ search = cc in
     (r.0, same, r.1)
 

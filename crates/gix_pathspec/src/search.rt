@@ -6,8 +6,6 @@ pub mod matching;
 mod patterns;
 mod pruning;
 mod spec;
-#[cfg(test)]
-mod tests;
 mod texts;
 
 use crate::Pattern;

@@ -59,6 +59,3 @@ fn is_wildcard(byte: u8) -> bool
 {
     matches!(byte, b'*' | b'?' | b'[' | b'\\')
 }
-
-#[cfg(test)]
-mod tests;

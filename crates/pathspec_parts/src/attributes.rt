@@ -50,6 +50,3 @@ pub trait LookUp {
         ensures ok_leaves_count { OnOk result (failures self.new ≡ failures self.old) }
         ensures err_counts { OnErr result (failures self.new ≡ next_count (failures self.old)) };
 }
-
-#[cfg(test)]
-mod tests;

@@ -24,23 +24,3 @@ fn place_of(bytes: &[u8], byte: u8) -> Option<usize>
 {
     bytes.find_byte(byte)
 }
-
-#[cfg(test)]
-mod tests {
-    use super::*;
-
-    #[test]
-    fn bytes_are_cut_at_the_first(rt: HostRuntime) {
-        for (bytes, front, rest) in [
-            ("", "", ""),
-            ("a", "a", ""),
-            ("/", "", ""),
-            ("a/b/c", "a", "b/c"),
-            ("//", "", "/"),
-        ] {
-            let (before, after) = at_first(bytes.as_bytes(), b'/');
-            assert_eq!(rt; before, front.as_bytes(), "{bytes}");
-            assert_eq!(rt; after, rest.as_bytes(), "{bytes}");
-        }
-    }
-}

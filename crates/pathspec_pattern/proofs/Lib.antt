@@ -1,3 +1,4 @@
+pub mod ResultProofs
 pub mod ReadingProofs
 pub mod JoinProofs
 pub mod NormalFormProofs

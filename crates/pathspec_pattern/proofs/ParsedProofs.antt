@@ -24,6 +24,7 @@ use Rattle.pathspec_pattern.specs.LongText.{long_text}
 use Rattle.pathspec_pattern.specs.RoundTrips.{is_expressible_state, is_set, is_expressible_assignment, IsExpressible, RoundTripIsExact, ParsedIsExpressible, ParsedRoundTrips}
 use Rattle.pathspec_pattern.proofs.ReadingProofs.{reading_is_exact}
 use Rattle.pathspec_pattern.proofs.RoundTripProofs.{round_trip}
+use Rattle.pathspec_pattern.proofs.ResultProofs.{bind_ok}
 
 -- ---- results
 
@@ -31,11 +32,6 @@ use Rattle.pathspec_pattern.proofs.RoundTripProofs.{round_trip}
 cond_ok : {A : Type 0} (t : Bool) (x y : A) (e : Fault) → cond t (Ok x) (Err e) ≡ Ok y → (t ≡ true) × (x ≡ y)
 cond_ok true x y e h = (refl, let q : x ≡ y = cc in q)
 cond_ok false x y e h = absurd (let q : ⊥ = cc in q)
-
--- what is made of a value is a value only where there was one
-bind_ok : {A B : Type 0} (r : Result A Fault) (f : A → Result B Fault) (y : B) → (r >>= f) ≡ Ok y → (x : A) × (r ≡ Ok x) × (f x ≡ Ok y)
-bind_ok (Ok x) f y h = (x, refl, h)
-bind_ok (Err e) f y h = absurd (let q : ⊥ = cc in q)
 
 -- equal results have equal values
 ok_same : {A : Type 0} (x y : A) → ◌≡◌ {A = Result A Fault} (Ok x) (Ok y) → x ≡ y

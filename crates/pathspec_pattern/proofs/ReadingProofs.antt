@@ -17,6 +17,7 @@ use Rattle.pathspec_pattern.specs.Specs.{Spec}
 use Rattle.pathspec_pattern.specs.Reading.{Cut, IsCut, text_of, cut_of, cut_end, cut_long, cut_paren, is_short, is_unimplemented, is_colon, end_mark, in_parentheses, holds_close, may_begin, magic_of, magic_reading, Magic, Reads, IsRefused, reading, spec_of, no_magic, nil_spec, literal_spec, OneCut, ReadingIsExact}
 use Rattle.pathspec_pattern.specs.Reading.Reads.{verbatim, nothing, plain, magic}
 use Rattle.pathspec_pattern.specs.Reading.IsRefused.{empty, short as short_fault, paren, piece}
+use Rattle.pathspec_pattern.proofs.ResultProofs.{bind_ok}
 
 -- ---- the front that passes a test
 
@@ -290,10 +291,6 @@ no_cut_stops text rest fault (unclosed false bs e n f) = rw e refl
 
 refused_cut_of : (short rest : List ℕ) (fault : Fault) → list_all is_short short ≡ true → NoCut (colon ∷ short ++ rest) rest fault → cut_of (colon ∷ short ++ rest) ≡ Err fault
 refused_cut_of short rest fault a h = cut_of-after short rest (record { all = a; stops = no_cut_stops (colon ∷ short ++ rest) rest fault h }) ∙ refused_end (colon ∷ short ++ rest) short rest fault h
-
-bind_ok : {A B E : Type 0} (r : Result A E) (f : A → Result B E) (y : B) → (r >>= f) ≡ Ok y → (x : A) × (r ≡ Ok x) × (f x ≡ Ok y)
-bind_ok (Ok x) f y h = (x, refl, h)
-bind_ok (Err e) f y h = absurd (let no : ⊥ = cc in no)
 
 bind_err : {A B E : Type 0} (r : Result A E) (f : A → Result B E) (e : E) → (r >>= f) ≡ Err e → (r ≡ Err e) ⊎ ((x : A) × (r ≡ Ok x) × (f x ≡ Err e))
 bind_err (Ok x) f e h = inr (x, refl, h)

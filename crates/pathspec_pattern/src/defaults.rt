@@ -14,33 +14,3 @@ pub struct Defaults {
     /// Texts aren't read: each is its own path, in mode [`SearchMode::Literal`].
     pub literal: bool,
 }
-
-#[cfg(test)]
-mod tests {
-    use super::*;
-    use crate::tests::assert_rising;
-    use bitflags::Flags;
-
-    #[test]
-    fn defaults_ask_for_nothing(rt: HostRuntime) {
-        let defaults = Defaults::default();
-        assert_eq!(rt; defaults.signature, MagicSignature::empty());
-        assert_eq!(rt; defaults.search_mode, SearchMode::ShellGlob);
-        assert!(rt; !defaults.literal);
-    }
-
-    #[test]
-    #[rattlefmt::skip]
-    fn defaults_are_compared_field_by_field(rt: HostRuntime) {
-        let rising = [
-            Defaults { signature: MagicSignature::empty(), search_mode: SearchMode::ShellGlob, literal: false },
-            Defaults { signature: MagicSignature::empty(), search_mode: SearchMode::ShellGlob, literal: true },
-            Defaults { signature: MagicSignature::empty(), search_mode: SearchMode::Literal, literal: false },
-            Defaults { signature: MagicSignature::empty(), search_mode: SearchMode::PathAwareGlob, literal: true },
-            Defaults { signature: MagicSignature::TOP, search_mode: SearchMode::ShellGlob, literal: false },
-            Defaults { signature: MagicSignature::TOP, search_mode: SearchMode::Literal, literal: false },
-            Defaults { signature: MagicSignature::ICASE, search_mode: SearchMode::ShellGlob, literal: false },
-        ];
-        assert_rising(&rt, &rising, &rising);
-    }
-}

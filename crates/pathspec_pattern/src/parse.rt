@@ -11,8 +11,6 @@ mod cut;
 mod lists;
 mod magic;
 mod pieces;
-#[cfg(test)]
-mod tests;
 
 use crate::{Defaults, Error, MagicSignature, Pattern};
 use bitflags::Flags;

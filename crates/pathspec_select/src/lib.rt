@@ -8,8 +8,6 @@ mod listing;
 mod options;
 mod program;
 mod refusal;
-#[cfg(test)]
-mod tests;
 mod words;
 
 pub use environment::Environment;

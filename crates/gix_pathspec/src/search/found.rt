@@ -199,6 +199,3 @@ fn first_match<L: LookUp>(
     }
     Ok(None)
 }
-
-#[cfg(test)]
-mod tests;

@@ -137,7 +137,7 @@ fn case_of(pattern: &Pattern) -> Case
 }
 
 /// Whether ASCII case doesn't count for the pattern.
-fn ignores_case(pattern: &Pattern) -> bool
+pub(super) fn ignores_case(pattern: &Pattern) -> bool
     ensures { result ≡ ignores_case (pattern_spec pattern.now) }
 {
     pattern.signature.contains(MagicSignature::ICASE)
@@ -237,96 +237,4 @@ fn is_same_state(left: StateRef<'_>, right: StateRef<'_>) -> bool
     ensures { result ≡ same_state (state_ref_view left.entry) (state_ref_view right.entry) }
 {
     left == right
-}
-
-#[cfg(test)]
-mod tests {
-    use super::*;
-    use crate::{Defaults, Error, parse};
-    use pathspec_parts::path::is_clean_prefix;
-    use std::alloc::Global;
-    use std::process::Abort;
-
-    /// A text, a path, whether the path is a directory, and how they match.
-    type Row<'r> = (&'r str, &'r str, bool, Option<MatchKind>);
-
-    /// Asserts that a pattern that is no glob matches a path so.
-    #[tactic(auto, using(crate::proofs::MatchingProofs::no_glob))]
-    fn assert_kind(rt: &impl Abort, pattern: &Pattern, row: &Row<'_>) {
-        let (text, path, is_dir, want) = row;
-        assert!(rt; !pattern.is_glob(), "{text}");
-        assert_eq!(rt;
-            match_kind(pattern, &mut None, BStr::new(path.as_bytes()), *is_dir),
-            *want,
-            "{text} on {path}"
-        );
-    }
-
-    /// Asserts how the pattern of each text matches, given in this directory.
-    fn assert_kinds(
-        rt: &impl Abort,
-        alloc: Global,
-        prefix: &str,
-        rows: &[Row<'_>],
-    ) -> Result<(), Error> {
-        let prefix = BStr::new(prefix.as_bytes());
-        assert!(rt; is_clean_prefix(prefix));
-        for row in rows {
-            let mut pattern = parse::parse(alloc, row.0.as_bytes(), Defaults::default())?;
-            pattern.resolve(prefix, BStr::new(b""))?;
-            assert_kind(rt, &pattern, row);
-        }
-        Ok(())
-    }
-
-    #[test]
-    fn specs_match_paths_in_three_ways(rt: HostRuntime) -> Result<(), Error> {
-        const ROWS: &[Row<'_>] = &[
-            ("dir", "dirt", false, None),
-            ("dir", "dir/a", false, Some(MatchKind::Prefix)),
-            ("dir", "dir", false, Some(MatchKind::Verbatim)),
-            ("dir", "DIR", false, None),
-            ("dir", "di", false, None),
-            ("dir/", "dir", false, None),
-            ("dir/", "dir", true, Some(MatchKind::Verbatim)),
-            ("dir/", "dir/a", false, Some(MatchKind::Prefix)),
-            (":!a", "a/x", false, Some(MatchKind::Prefix)),
-            (":", "q", false, Some(MatchKind::Always)),
-            ("::", "q", true, Some(MatchKind::Always)),
-            (":(literal)a*", "a*", false, Some(MatchKind::Verbatim)),
-            (":(literal)a*", "ab", false, None),
-            (":(literal)a*", "a*/x", false, Some(MatchKind::Prefix)),
-        ];
-        assert_kinds(&rt, rt.alloc(), "", ROWS)
-    }
-
-    #[test]
-    fn case_may_not_count(rt: HostRuntime) -> Result<(), Error> {
-        const ROWS: &[Row<'_>] = &[
-            (":(icase)Ab/C", "aB/c", false, Some(MatchKind::Verbatim)),
-            (":(icase)Ab/C", "AB/c/D", false, Some(MatchKind::Prefix)),
-            (":(icase)Ab/C", "ab/cc", false, None),
-        ];
-        assert!(rt; MatchKind::Always < MatchKind::Prefix);
-        assert!(rt; MatchKind::Prefix < MatchKind::WildcardMatch);
-        assert!(rt; MatchKind::WildcardMatch < MatchKind::Verbatim);
-        assert_kinds(&rt, rt.alloc(), "", ROWS)
-    }
-
-    #[test]
-    fn case_counts_in_the_prefix_directory(rt: HostRuntime) -> Result<(), Error> {
-        const ROWS: &[Row<'_>] = &[
-            (":(icase)B", "a/b", false, Some(MatchKind::Verbatim)),
-            (":(icase)B", "A/b", false, None),
-            (":(icase)B", "a/b/c", false, Some(MatchKind::Prefix)),
-            (":(icase)B", "a", false, None),
-            (":(icase)B", "a", true, None),
-            (":(icase)./", "a", true, Some(MatchKind::Verbatim)),
-            (":(icase)./", "a", false, None),
-            (":(icase)./", "a/x", false, Some(MatchKind::Prefix)),
-            (":(icase)./", "A/x", false, None),
-            (":(icase)./", "ab", false, None),
-        ];
-        assert_kinds(&rt, rt.alloc(), "a", ROWS)
-    }
 }

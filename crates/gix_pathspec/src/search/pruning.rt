@@ -10,9 +10,9 @@ ghost use Rattle.gix_pathspec.specs.Pruning.{takes_only_below, leads_to, reaches
 ghost use Rattle.gix_pathspec.specs.PruningLaws.{PruningIsSafe, FilePruningIsSafe, PrunedIsNotChosen, FilePrunedIsNotChosen, PruningIsSharp, PruningIsSharpForFits, PruningIsNear};
 
 use crate::MagicSignature;
-use crate::search::Search;
 use crate::search::spec::CompiledSpec;
 use crate::search::texts::{begins_with, is_below, is_same_text};
+use crate::search::{Search, matching};
 use bitflags::Flags;
 use bstr::BStr;
 
@@ -141,7 +141,7 @@ impl CompiledSpec {
     pub(super) fn ignores_case(&self) -> bool
         ensures { result ≡ ignores_case self.now.spec }
     {
-        self.pattern().signature.contains(MagicSignature::ICASE)
+        matching::ignores_case(self.pattern())
     }
 
     /// Whether the spec takes only directories and what lies below them.

@@ -2,8 +2,7 @@
 ghost use Rattle.std.specs.Prelude.{◌≡◌, ◌≤◌, length, IfOk, IfErr};
 ghost use Rattle.gix_pathspec.specs.Errors.{IsMemory};
 
-use crate::{Error, MagicSignature, Pattern, SearchMode};
-use bitflags::Flags;
+use crate::{Error, Pattern, SearchMode};
 use pathspec_parts::attributes::{Case, Outcome};
 use pathspec_parts::glob::{Glob, Mode, Scratch, first_wildcard};
 use std::alloc::{AllocError, Global};
@@ -149,10 +148,10 @@ impl CompiledSpec {
     {
         if self.pattern.is_nil() {
             &[]
-        } else if self.pattern.signature.contains(MagicSignature::ICASE) {
+        } else if self.ignores_case() {
             self.pattern.prefix_directory().as_bytes()
         } else {
-            &self.pattern.path().as_bytes()[..self.stem]
+            self.stem()
         }
     }
 

@@ -94,34 +94,3 @@ impl<'a> Stack<'a> {
         self.least
     }
 }
-
-#[cfg(test)]
-mod tests {
-    use super::*;
-    use std::test::Fail;
-
-    #[test]
-    fn a_stack_knows_how_low_it_was(rt: HostRuntime) -> Result<(), Fail> {
-        let mut stack = Stack::new(rt.alloc());
-        assert!(rt; !stack.pop());
-        assert!(rt; stack.is_empty());
-        for name in ["a", "b", "c"] {
-            stack.push(BStr::new(name.as_bytes()))?;
-        }
-        assert_eq!(rt; stack.least(), 0);
-        stack.mark();
-        assert_eq!(rt; stack.least(), 3);
-        assert!(rt; stack.pop());
-        assert!(rt; stack.pop());
-        stack.push(BStr::new(b"d"))?;
-        assert_eq!(rt; stack.least(), 1);
-        assert_eq!(rt; stack.len(), 2);
-        assert!(rt;
-            stack
-                .get(1)
-                .is_some_and(|name| name.as_bytes() == b"d".as_slice())
-        );
-        assert!(rt; stack.get(2).is_none());
-        Ok(())
-    }
-}

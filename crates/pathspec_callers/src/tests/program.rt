@@ -1,5 +1,5 @@
 //! Runs of the whole program, over readers and writers that serve and that fail.
-use crate::{Environment, Refusal, run};
+use pathspec_select::{Environment, Refusal, run};
 use std::alloc::{AllocError, Global};
 use std::io::{self, ErrorKind, Read, Write};
 use std::process::Abort;
@@ -142,6 +142,11 @@ fn specs_are_read_in_a_prefix_and_a_root(rt: HostRuntime) -> Result<(), AllocErr
         ("--root /r /r/a", "a/x\nb\n", "a/x\n"),
         ("--root /r --prefix b /r/a", "a/x\nb/a\n", "a/x\n"),
         ("--root /r /r", "a/x\nb\n", "a/x\nb\n"),
+        ("--root /s --root /r /r/a", "a/x\nb\n", "a/x\n"),
+        ("--root --prefix x", "a\nx\n", "x\n"),
+        ("--root /r --prefix a --root /s/", "a/x\nb\n", "a/x\n"),
+        ("--prefix -- x", "--/x\nx\n", "--/x\n"),
+        ("a --prefix b", "--prefix\na\nb\nc\n", "--prefix\na\nb\n"),
     ];
     assert_written(&rt, rt.alloc(), ROWS)
 }
@@ -170,6 +175,12 @@ fn the_first_fault_is_refused_and_nothing_is_written(rt: HostRuntime) -> Result<
         ("--prefix ../a", "", 2, USAGE),
         ("--prefix a//", "", 2, USAGE),
         ("--prefix a --root", "", 2, USAGE),
+        ("--prefix / x", "", 2, USAGE),
+        ("--prefix /a x", "", 2, USAGE),
+        ("--prefix=a b", "", 2, USAGE),
+        ("--roots a", "", 2, USAGE),
+        ("--root --prefix --prefix", "", 2, USAGE),
+        ("--prefix a --prefix .. b", "", 2, USAGE),
         ("-x :#y", "/\n", 2, USAGE),
         ("a*", "a\n", 3, "spec 0: Unsupported"),
         ("../a", "a\n", 3, "spec 0: LeavesRepository"),

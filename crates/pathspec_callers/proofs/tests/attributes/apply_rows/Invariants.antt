@@ -1,7 +1,7 @@
 use Rattle.std.proofs.Common.{◌≡◌, take}
 use Rattle.pathspec_parts.specs.Outcomes.{names_of}
 use Rattle.pathspec_parts.specs.AttributeRows.{apply_rows, rows_of}
-use Rattle.pathspec_parts.proofs.attributes.tests.apply_rows.Given as goal
+use Rattle.pathspec_callers.proofs.tests.attributes.apply_rows.Given as goal
 
 abbrev pub invariant-loop-row : goal.invariant-loop-row
 invariant-loop-row l = record {

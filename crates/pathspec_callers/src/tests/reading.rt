@@ -1,8 +1,11 @@
 //! What texts say, and how they are refused.
-use super::*;
-use crate::SearchMode;
-use SearchMode::{Literal, PathAwareGlob, ShellGlob};
+use crate::tests::support::carried;
+use bitflags::Flags;
 use bstr::BStr;
+use gix_pathspec::SearchMode::{Literal, PathAwareGlob, ShellGlob};
+use gix_pathspec::parse::{attributes, parse};
+use gix_pathspec::{Defaults, Error, MagicSignature, Pattern, SearchMode};
+use std::alloc::Global;
 use std::process::Abort;
 use std::test::Fail;
 
@@ -183,7 +186,7 @@ fn assert_refused(rt: &impl Abort, alloc: Global, rows: &[(&str, &str, &str)]) -
             return Err("read".into());
         };
         assert_eq!(rt; error.kind(), *kind, "{text}");
-        assert_eq!(rt; error.carried(), Some(bytes.as_bytes()), "{text}");
+        assert_eq!(rt; carried(&error), Some(bytes.as_bytes()), "{text}");
     }
     Ok(())
 }

@@ -4,9 +4,10 @@ ghost use Rattle.pathspec_parts.specs.AttributeStates.{assignment_view};
 ghost use Rattle.pathspec_parts.specs.Outcomes.{names_of, states_of, unspecified, apply_assignments};
 ghost use Rattle.pathspec_parts.specs.AttributeRows.{apply_rows, rows_of, rows_reply};
 
-use super::*;
+use crate::tests::support::{assert_hashes, assert_rising};
+use bstr::BStr;
+use pathspec_parts::attributes::{Assignment, Case, LookUp, Name, Outcome, State, StateRef};
 use std::alloc::{AllocError, Global};
-use std::hash::{DefaultHasher, Hash, Hasher};
 use std::process::Abort;
 use std::test::Fail;
 
@@ -155,9 +156,21 @@ fn outcome(alloc: Global) -> Result<Outcome, Fail> {
     Ok(Outcome::for_assignments(alloc, &listed)?)
 }
 
+/// Asserts each row: a text, and whether it is a name.
+fn assert_names(rt: &impl Abort, alloc: Global, rows: &[(&str, bool)]) -> Result<(), Fail> {
+    for (text, want) in rows {
+        let found = Name::from_bytes(alloc, text.as_bytes())?;
+        assert_eq!(rt; found.is_some(), *want, "{text}");
+        if let Some(found) = found {
+            assert_eq!(rt; found.as_bytes().as_bytes(), text.as_bytes(), "{text}");
+        }
+    }
+    Ok(())
+}
+
 #[test]
 fn names_are_letters_digits_and_three_marks(rt: HostRuntime) -> Result<(), Fail> {
-    let rows = [
+    const ROWS: &[(&str, bool)] = &[
         ("a", true),
         ("", true),
         ("a-b", true),
@@ -169,44 +182,7 @@ fn names_are_letters_digits_and_three_marks(rt: HostRuntime) -> Result<(), Fail>
         ("é", false),
         ("a!", false),
     ];
-    for (text, want) in rows {
-        let found = Name::from_bytes(rt.alloc(), text.as_bytes())?;
-        assert_eq!(rt; found.is_some(), want, "{text}");
-        if let Some(found) = found {
-            assert_eq!(rt; found.as_bytes().as_bytes(), text.as_bytes(), "{text}");
-            assert_eq!(rt; found, found.try_clone()?, "{text}");
-        }
-    }
-    Ok(())
-}
-
-fn hash_of<T: Hash>(value: &T) -> u64 {
-    let mut hasher = DefaultHasher::new();
-    value.hash(&mut hasher);
-    hasher.finish()
-}
-
-/// Asserts that equality, order and hash go by the places of the values, in two tables with equal
-/// values in rising order.
-fn assert_rising<T: Ord + Hash + Debug>(rt: &impl Abort, values: &[T], others: &[T]) {
-    for (place, value) in values.iter().enumerate() {
-        for (other_place, other) in others.iter().enumerate() {
-            let want = place.cmp(&other_place);
-            assert_eq!(rt; value.cmp(other), want, "{value:?} and {other:?}");
-            assert_eq!(rt;
-                value.partial_cmp(other),
-                Some(want),
-                "{value:?} and {other:?}"
-            );
-            assert_eq!(rt;
-                value == other,
-                place == other_place,
-                "{value:?} and {other:?}"
-            );
-            let hash_alike = hash_of(value) == hash_of(other);
-            assert_eq!(rt; hash_alike, place == other_place, "{value:?} and {other:?}");
-        }
-    }
+    assert_names(&rt, rt.alloc(), ROWS)
 }
 
 #[test]
@@ -219,6 +195,7 @@ fn names_are_compared_by_their_bytes(rt: HostRuntime) -> Result<(), Fail> {
         names.push(own)?;
     }
     assert_rising(&rt, &names, &copies);
+    assert_hashes(&rt, &names, &copies);
     Ok(())
 }
 
@@ -241,11 +218,13 @@ fn states_are_compared_by_variant_and_then_by_value(rt: HostRuntime) -> Result<(
         owned.push(own)?;
     }
     assert_rising(&rt, &owned, &copies);
+    assert_hashes(&rt, &owned, &copies);
     let mut lent = Vec::new(rt.alloc());
     for state in &owned {
         lent.push(state.as_ref())?;
     }
     assert_rising(&rt, &states, &lent);
+    assert_hashes(&rt, &states, &lent);
     Ok(())
 }
 
@@ -266,6 +245,7 @@ fn assignments_are_compared_by_name_and_then_by_state(rt: HostRuntime) -> Result
         assignments.push(own)?;
     }
     assert_rising(&rt, &assignments, &copies);
+    assert_hashes(&rt, &assignments, &copies);
     Ok(())
 }
 

@@ -1,21 +1,10 @@
 //! Rows on what a search tells before any path is matched.
-use crate::{Defaults, Pattern, Search, parse};
+use crate::tests::support::search_of;
 use bstr::BStr;
-use pathspec_parts::path::is_clean_prefix;
+use gix_pathspec::Pattern;
 use std::alloc::Global;
 use std::process::Abort;
 use std::test::Fail;
-
-/// The search of these texts, given in this directory of a repository without a root.
-fn search_of(rt: &impl Abort, alloc: Global, texts: &[&str], prefix: &str) -> Result<Search, Fail> {
-    let prefix = BStr::new(prefix.as_bytes());
-    assert!(rt; is_clean_prefix(prefix));
-    let mut patterns = Vec::new(alloc);
-    for text in texts {
-        patterns.push(parse::parse(alloc, text.as_bytes(), Defaults::default())?)?;
-    }
-    Ok(Search::from_specs(alloc, patterns, Some(prefix), BStr::new(b""))?)
-}
 
 /// Asks whether something at or below each path can match.
 fn can_match(

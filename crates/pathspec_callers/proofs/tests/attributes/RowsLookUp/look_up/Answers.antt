@@ -3,7 +3,7 @@ use Rattle.std.proofs.Common.{◌≡◌, ℕ, true, ap, ◌∙◌, List}
 use Rattle.pathspec_parts.specs.Outcomes.{NamedState, names_of, states_of, unspecified, reset_states, reply_of}
 use Rattle.pathspec_parts.specs.AttributeRows.{Row, apply_rows, rows_of}
 use Rattle.pathspec_parts.proofs.OutcomeProofs.{reset_places}
-use Rattle.pathspec_parts.proofs.attributes.tests.RowsLookUp.look_up.Goals as goal
+use Rattle.pathspec_callers.proofs.tests.attributes.RowsLookUp.look_up.Goals as goal
 
 replied : (rows given : List Row) (path question_of : List ℕ) (places new : List NamedState) → new ≡ apply_rows path places given → path ≡ question_of → given ≡ rows → places ≡ reset_states places
     → reply_of true new ≡ record { found = true; states = states_of (apply_rows question_of (unspecified (names_of places)) rows) }

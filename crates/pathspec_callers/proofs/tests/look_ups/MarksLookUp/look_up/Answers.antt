@@ -3,7 +3,7 @@ use Rattle.std.proofs.Common.{◌≡◌, ℕ, true, cond, ap, ◌∙◌, List, b
 use Rattle.pathspec_parts.specs.Attributes.State.{Set}
 use Rattle.pathspec_parts.specs.Outcomes.{NamedState, unspecified, names_of, reset_states, reply_of, set_state}
 use Rattle.pathspec_parts.proofs.OutcomeProofs.{reset_places}
-use Rattle.gix_pathspec.proofs.search.found.tests.MarksLookUp.look_up.Goals as goal
+use Rattle.pathspec_callers.proofs.tests.look_ups.MarksLookUp.look_up.Goals as goal
 
 -- the places of this path once they are marked
 abbrev marked : List ℕ → List NamedState → List NamedState

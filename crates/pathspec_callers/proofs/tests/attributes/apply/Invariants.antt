@@ -1,7 +1,7 @@
 use Rattle.std.proofs.Common.{◌≡◌, map, take}
 use Rattle.pathspec_parts.specs.AttributeStates.{assignment_view}
 use Rattle.pathspec_parts.specs.Outcomes.{names_of, apply_assignments}
-use Rattle.pathspec_parts.proofs.attributes.tests.apply.Given as goal
+use Rattle.pathspec_callers.proofs.tests.attributes.apply.Given as goal
 
 abbrev pub invariant-loop-assignment : goal.invariant-loop-assignment
 invariant-loop-assignment l = record {

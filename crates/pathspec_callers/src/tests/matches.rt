@@ -1,107 +1,12 @@
 //! Rows on which spec settles a path.
-ghost use Rattle.std.specs.Prelude.{◌≡◌, true, bytes_eq, codes, if◌then◌else◌, OnOk};
-ghost use Rattle.pathspec_parts.specs.Attributes.{next_count};
-ghost use Rattle.pathspec_parts.specs.Attributes.State.{Set};
-ghost use Rattle.pathspec_parts.specs.Outcomes.{names_of, states_of, unspecified, set_state};
-
-use super::*;
-use crate::{Defaults, parse};
-use bstr::BString;
-use pathspec_parts::attributes::{Case, Outcome, StateRef};
-use pathspec_parts::path::is_clean_prefix;
-use std::alloc::{AllocError, Global};
-use std::fmt::Debug;
-use std::hash::{DefaultHasher, Hash, Hasher};
+use crate::tests::look_ups::Marks;
+use crate::tests::support::{assert_hashes, assert_rising, search_of};
+use bstr::{BStr, BString};
+use gix_pathspec::search::{Match, MatchKind, MatchPlace};
+use gix_pathspec::{Defaults, Pattern, Search};
+use std::alloc::Global;
 use std::process::Abort;
 use std::test::Fail;
-
-/// A question that failed.
-#[derive(Debug, Drop)]
-struct Failed;
-
-/// A look-up that sets the attribute `gen` of the path `x`, and counts what it is asked.
-#[derive(Drop)]
-struct Marks {
-    /// How many questions it answers before one fails.
-    left: u64,
-    asked: u64,
-    failed: u64,
-}
-
-impl Marks {
-    fn new() -> Marks {
-        Marks::failing_after(u64::MAX)
-    }
-
-    fn failing_after(left: u64) -> Marks {
-        Marks {
-            left,
-            asked: 0,
-            failed: 0,
-        }
-    }
-
-    fn fail(&mut self) -> Failed
-        ensures { self.new.failed ≡ next_count self.old.failed }
-    {
-        self.left = u64::MAX;
-        self.failed = self.failed.saturating_add(1);
-        Failed
-    }
-}
-
-impl LookUp for Marks {
-    type Fault = Failed;
-
-    ghost table = { λ _ q. record {
-      found = true;
-      states = states_of
-          (if bytes_eq q.path (codes "x") then set_state (unspecified q.names) (codes "gen") Set else unspecified q.names);
-    } };
-
-    ghost failures = { λ it. it.failed };
-
-    fn look_up(
-        &mut self,
-        path: BStr<'_>,
-        _case: Case,
-        _is_dir: bool,
-        out: &mut Outcome,
-    ) -> Result<bool, Failed> {
-        self.asked = self.asked.saturating_add(1);
-        if self.left == 0 {
-            return Err(self.fail());
-        }
-        self.left -= 1;
-        match mark(path.as_bytes(), out) {
-            Ok(()) => Ok(true),
-            Err(AllocError) => Err(self.fail()),
-        }
-    }
-}
-
-/// Sets the attribute `gen` of the path `x`.
-fn mark(path: &[u8], out: &mut Outcome) -> Result<(), AllocError>
-    ensures ok { OnOk result (out.new
-        ≡ (if bytes_eq path.now (codes "x") then set_state out.old (codes "gen") Set else out.old)) }
-    ensures names { names_of out.new ≡ names_of out.old }
-{
-    if path == b"x".as_slice() {
-        out.set(b"gen", StateRef::Set)?;
-    }
-    Ok(())
-}
-
-/// The search of these texts, given in this directory of a repository without a root.
-fn search_of(rt: &impl Abort, alloc: Global, texts: &[&str], prefix: &str) -> Result<Search, Fail> {
-    let prefix = BStr::new(prefix.as_bytes());
-    assert!(rt; is_clean_prefix(prefix));
-    let mut patterns = Vec::new(alloc);
-    for text in texts {
-        patterns.push(parse::parse(alloc, text.as_bytes(), Defaults::default())?)?;
-    }
-    Ok(Search::from_specs(alloc, patterns, Some(prefix), BStr::new(b""))?)
-}
 
 /// Texts, the directory that they are given in, a path, whether it is a directory, and the number and the kind of the
 /// match.
@@ -168,6 +73,10 @@ fn the_first_spec_that_matches_settles_a_path(rt: HostRuntime) -> Result<(), Fai
         (&[".x", "."], "", "q", false, Some((1, MatchKind::Always))),
         (&[".x", "."], "", ".x", false, Some((0, MatchKind::Verbatim))),
         (&["a/b", "a/c"], "", "a", false, None),
+        (&["a", ":!b", "/r/c", ":!d"], "", "a", false, Some((0, MatchKind::Verbatim))),
+        (&["a", ":!b", "/r/c", ":!d"], "", "b", false, Some((1, MatchKind::Verbatim))),
+        (&["a", ":!b", "/r/c", ":!d"], "", "c", false, Some((2, MatchKind::Verbatim))),
+        (&["a", ":!b", "/r/c", ":!d"], "", "d", false, Some((3, MatchKind::Verbatim))),
     ];
     assert_each_found(&rt, rt.alloc(), ROWS)
 }
@@ -203,6 +112,64 @@ fn assert_kinds(rt: &impl Abort, alloc: Global, rows: &[KindRow<'_>]) -> Result<
         assert_kind(rt, alloc, row)?;
     }
     Ok(())
+}
+
+/// A text, a path, whether the path is a directory, and how the spec matches it.
+type PathRow<'r> = (&'r str, &'r str, bool, Option<MatchKind>);
+
+/// Asserts how each spec matches, given in this directory.
+fn assert_kinds_in(
+    rt: &impl Abort,
+    alloc: Global,
+    prefix: &str,
+    rows: &[PathRow<'_>],
+) -> Result<(), Fail> {
+    for (text, path, is_dir, want) in rows {
+        let want = want.map(|kind| (0, kind));
+        assert_found(rt, alloc, &(&[*text], prefix, *path, *is_dir, want))?;
+    }
+    Ok(())
+}
+
+#[test]
+fn specs_match_paths_in_four_ways(rt: HostRuntime) -> Result<(), Fail> {
+    const ROWS: &[PathRow<'_>] = &[
+        ("dir", "dirt", false, None),
+        ("dir", "dir/a", false, Some(MatchKind::Prefix)),
+        ("dir", "dir", false, Some(MatchKind::Verbatim)),
+        ("dir", "DIR", false, None),
+        ("dir", "di", false, None),
+        ("dir/", "dir", false, None),
+        ("dir/", "dir", true, Some(MatchKind::Verbatim)),
+        ("dir/", "dir/a", false, Some(MatchKind::Prefix)),
+        (":!a", "a/x", false, Some(MatchKind::Prefix)),
+        (":", "q", false, Some(MatchKind::Always)),
+        ("::", "q", true, Some(MatchKind::Always)),
+        (":(literal)a*", "a*", false, Some(MatchKind::Verbatim)),
+        (":(literal)a*", "ab", false, None),
+        (":(literal)a*", "a*/x", false, Some(MatchKind::Prefix)),
+        (":(icase)Ab/C", "aB/c", false, Some(MatchKind::Verbatim)),
+        (":(icase)Ab/C", "AB/c/D", false, Some(MatchKind::Prefix)),
+        (":(icase)Ab/C", "ab/cc", false, None),
+    ];
+    assert_kinds_in(&rt, rt.alloc(), "", ROWS)
+}
+
+#[test]
+fn case_counts_in_the_prefix_directory(rt: HostRuntime) -> Result<(), Fail> {
+    const ROWS: &[PathRow<'_>] = &[
+        (":(icase)B", "a/b", false, Some(MatchKind::Verbatim)),
+        (":(icase)B", "A/b", false, None),
+        (":(icase)B", "a/b/c", false, Some(MatchKind::Prefix)),
+        (":(icase)B", "a", false, None),
+        (":(icase)B", "a", true, None),
+        (":(icase)./", "a", true, Some(MatchKind::Verbatim)),
+        (":(icase)./", "a", false, None),
+        (":(icase)./", "a/x", false, Some(MatchKind::Prefix)),
+        (":(icase)./", "A/x", false, None),
+        (":(icase)./", "ab", false, None),
+    ];
+    assert_kinds_in(&rt, rt.alloc(), "a", ROWS)
 }
 
 #[test]
@@ -389,37 +356,6 @@ fn a_match_that_is_lent_leaves_the_search(rt: HostRuntime) -> Result<(), Fail> {
     assert_asked(&rt, &mut search, "x", spec_at(1, MatchKind::Verbatim), 2)
 }
 
-fn hash_of<T: Hash>(value: &T) -> u64 {
-    let mut hasher = DefaultHasher::new();
-    value.hash(&mut hasher);
-    hasher.finish()
-}
-
-/// Asserts that two values are ordered as their places are.
-fn assert_order<T: Ord + Hash + Debug>(
-    rt: &impl Abort,
-    places: (usize, usize),
-    value: &T,
-    other: &T,
-) {
-    let (place, other_place) = places;
-    assert_eq!(rt;
-        value.cmp(other),
-        place.cmp(&other_place),
-        "{value:?} and {other:?}"
-    );
-    assert_eq!(rt;
-        value == other,
-        place == other_place,
-        "{value:?} and {other:?}"
-    );
-    assert_eq!(rt;
-        hash_of(value) == hash_of(other),
-        place == other_place,
-        "{value:?} and {other:?}"
-    );
-}
-
 /// A match with these fields.
 fn match_of(pattern: &Pattern, sequence_number: usize, kind: MatchKind) -> Match<'_> {
     Match {
@@ -441,14 +377,26 @@ fn rising<'a>(low: &'a Pattern, high: &'a Pattern) -> [Match<'a>; 4] {
 
 #[test]
 fn matches_are_compared_field_by_field(rt: HostRuntime) -> Result<(), Fail> {
-    let low = parse::parse(rt.alloc(), b"a", Defaults::default())?;
-    let high = parse::parse(rt.alloc(), b"b", Defaults::default())?;
+    let low = Pattern::from_bytes(rt.alloc(), b"a", Defaults::default())?;
+    let high = Pattern::from_bytes(rt.alloc(), b"b", Defaults::default())?;
     let (low_copy, high_copy) = (low.try_clone()?, high.try_clone()?);
-    for (place, value) in rising(&low, &high).iter().enumerate() {
-        for (other_place, other) in rising(&low_copy, &high_copy).iter().enumerate() {
-            assert_order(&rt, (place, other_place), value, other);
-        }
+    let (values, others) = (rising(&low, &high), rising(&low_copy, &high_copy));
+    assert_rising(&rt, &values, &others);
+    assert_hashes(&rt, &values, &others);
+    for value in &values {
         assert_eq!(rt; value.clone()?, *value);
     }
     Ok(())
+}
+
+#[test]
+fn kinds_are_ordered_by_their_variants(rt: HostRuntime) {
+    let rising = [
+        MatchKind::Always,
+        MatchKind::Prefix,
+        MatchKind::WildcardMatch,
+        MatchKind::Verbatim,
+    ];
+    assert_rising(&rt, &rising, &rising);
+    assert_hashes(&rt, &rising, &rising);
 }

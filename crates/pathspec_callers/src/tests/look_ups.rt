@@ -1,0 +1,86 @@
+//! A look-up for tests.
+ghost use Rattle.std.specs.Prelude.{◌≡◌, true, bytes_eq, codes, if◌then◌else◌, OnOk};
+ghost use Rattle.pathspec_parts.specs.Attributes.{next_count};
+ghost use Rattle.pathspec_parts.specs.Attributes.State.{Set};
+ghost use Rattle.pathspec_parts.specs.Outcomes.{names_of, states_of, unspecified, set_state};
+
+use bstr::BStr;
+use pathspec_parts::attributes::{Case, LookUp, Outcome, StateRef};
+use std::alloc::AllocError;
+
+/// A question that failed.
+#[derive(Debug, Drop)]
+pub(super) struct Failed;
+
+/// A look-up that sets the attribute `gen` of the path `x`, and counts what it is asked.
+#[derive(Drop)]
+pub(super) struct Marks {
+    /// How many questions it answers before one fails.
+    left: u64,
+    pub(super) asked: u64,
+    pub(super) failed: u64,
+}
+
+impl Marks {
+    pub(super) fn new() -> Marks {
+        Marks::failing_after(u64::MAX)
+    }
+
+    pub(super) fn failing_after(left: u64) -> Marks {
+        Marks {
+            left,
+            asked: 0,
+            failed: 0,
+        }
+    }
+
+    fn fail(&mut self) -> Failed
+        ensures { self.new.failed ≡ next_count self.old.failed }
+    {
+        self.left = u64::MAX;
+        self.failed = self.failed.saturating_add(1);
+        Failed
+    }
+}
+
+impl LookUp for Marks {
+    type Fault = Failed;
+
+    ghost table = { λ _ q. record {
+      found = true;
+      states = states_of
+          (if bytes_eq q.path (codes "x") then set_state (unspecified q.names) (codes "gen") Set else unspecified q.names);
+    } };
+
+    ghost failures = { λ it. it.failed };
+
+    fn look_up(
+        &mut self,
+        path: BStr<'_>,
+        _case: Case,
+        _is_dir: bool,
+        out: &mut Outcome,
+    ) -> Result<bool, Failed> {
+        self.asked = self.asked.saturating_add(1);
+        if self.left == 0 {
+            return Err(self.fail());
+        }
+        self.left -= 1;
+        match mark(path.as_bytes(), out) {
+            Ok(()) => Ok(true),
+            Err(AllocError) => Err(self.fail()),
+        }
+    }
+}
+
+/// Sets the attribute `gen` of the path `x`.
+fn mark(path: &[u8], out: &mut Outcome) -> Result<(), AllocError>
+    ensures ok { OnOk result (out.new
+        ≡ (if bytes_eq path.now (codes "x") then set_state out.old (codes "gen") Set else out.old)) }
+    ensures names { names_of out.new ≡ names_of out.old }
+{
+    if path == b"x".as_slice() {
+        out.set(b"gen", StateRef::Set)?;
+    }
+    Ok(())
+}

@@ -1,0 +1,30 @@
+//! The examples of the repository's README.
+use bstr::BStr;
+use gix_pathspec::{Defaults, Pattern, Search};
+use pathspec_parts::attributes::Case;
+use pathspec_parts::glob::{Glob, Mode, Scratch};
+use std::test::Fail;
+
+#[test]
+fn the_search_of_the_readme_runs(rt: HostRuntime) -> Result<(), Fail> {
+    let alloc = rt.alloc();
+    let mut specs = Vec::new(alloc);
+    specs.push(Pattern::from_bytes(alloc, b":(glob)src/**/*.rs", Defaults::default())?)?;
+    specs.push(Pattern::from_bytes(alloc, b":!src/generated/**", Defaults::default())?)?;
+    let search = Search::from_specs(alloc, specs, None, BStr::new(b""))?;
+    assert!(rt; search.can_match_relative_path(BStr::new(b"src"), Some(true)));
+    assert!(rt; !search.can_match_relative_path(BStr::new(b"docs"), Some(true)));
+    Ok(())
+}
+
+#[test]
+fn the_glob_of_the_readme_runs(rt: HostRuntime) -> Result<(), Fail> {
+    let alloc = rt.alloc();
+    let glob = Glob::compile(alloc, b"src/**/*.rs", Mode::PathAware)?;
+    let mut scratch = Scratch::for_tokens(alloc, glob.tokens())?;
+    if glob.fits(&scratch) {
+        assert!(rt; glob.matches(b"src/parse/cut.rs", Case::Sensitive, &mut scratch));
+        assert!(rt; !glob.matches(b"src.rs", Case::Sensitive, &mut scratch));
+    }
+    Ok(())
+}
