@@ -1,3 +1,13 @@
 pub mod ComponentProofs
 pub mod OutcomeProofs
+pub mod TruthProofs
 mod PathRows
+pub mod EntryProofs
+pub mod TreeProofs
+mod TreeRows
+pub mod SeenProofs
+pub mod ListProofs
+pub mod LayoutProofs
+pub mod NodeProofs
+pub mod CursorProofs
+mod TruthRows

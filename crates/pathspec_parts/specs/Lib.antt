@@ -9,3 +9,9 @@ pub mod AttributeStates
 pub mod Outcomes
 pub mod AttributeRows
 pub mod Stacks
+pub mod Entries
+pub mod Trees
+pub mod Cursors
+pub mod TreeLayout
+pub mod TreeAnswers
+pub mod Truth

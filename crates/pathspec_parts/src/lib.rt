@@ -4,5 +4,7 @@
 pub mod attributes;
 pub mod path;
 pub mod split;
+pub mod tree;
+pub mod truth;
 
 pub use pathspec_glob as glob;

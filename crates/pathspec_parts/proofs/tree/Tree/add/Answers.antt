@@ -1,0 +1,56 @@
+use Rattle.std.proofs.Common.{◌≡◌, ℕ, ◌≤◌, ◌+◌, List, Bool, true, false, length, cond, not, nat_eq, sym, ap, ◌∙◌, arith}
+use Rattle.std.proofs.lemmas.Bool.{both_ways}
+use Rattle.std.proofs.lemmas.List.Sums.{count_by-le-length}
+use Rattle.pathspec_parts.specs.Entries.{Entry, own_call}
+use Rattle.pathspec_parts.specs.Trees.{TreeContents, tree_after}
+use Rattle.pathspec_parts.specs.TreeLayout.{tree_of_nodes, path_above, IsLayout}
+use Rattle.pathspec_parts.specs.declared.tree.Node.{Node}
+use Rattle.pathspec_parts.proofs.LayoutProofs.{IsNext, pushes}
+use Rattle.pathspec_parts.proofs.NodeProofs.{entries_count}
+use Rattle.pathspec_parts.proofs.tree.Tree.add.Goals as goal
+
+at_most_one : (b : Bool) (k : ℕ) → k ≡ cond b 1 0 → k ≤ 1
+at_most_one true k e = omega (arith, e)
+at_most_one false k e = omega (arith, e)
+
+pub overflow_add-self : goal.overflow_add-self
+overflow_add-self c =
+    let s = c.self.inside in
+    let count = entries_count s.names.items s.nodes.items s.stack.items s.longest s.directories c.self.invariant c.args.self.now c.self.view_is in
+    let less = count_by-le-length (λ (e : Entry). e.is_dir) (tree_of_nodes s.names.items s.nodes.items).entries in
+    let same = ap (λ (x : TreeContents). length x.entries) c.self.view_is in
+    let one = at_most_one c.args.is_dir c.one_if.result c.one_if.ensures in
+    omega (arith, one, less, same, count, c.self.invariant.directories_are, s.nodes.ok.0)
+
+-- the node of the new entry
+abbrev new_node : goal.After-self-2-1 → Node
+new_node c = record { name_end = c.len.result + length c.args.name.now; above = c.in-Some.above; end = c.first_end.result }
+
+next : (c : goal.After-self-2-1) → IsNext c.self.inside.names.items c.self.inside.nodes.items c.self.inside.longest c.self.inside.directories c.args.name.now c.args.is_dir (new_node c) c.max-self-inside.result (c.self.inside.directories + c.one_if.result)
+next c =
+    let s = c.self.inside in
+    record {
+      named = λ e. both_ways c.is_empty.result c.if-is_empty.false (c.is_empty.ensures ∙ ap (λ (t : List ℕ). nat_eq (length t) 0) e);
+      name_end = omega (arith, c.len.ensures, s.names.ok.0);
+      above = c.in-Some.ensures.above ∙ ap (λ (x : TreeContents). length (path_above x.open_directories)) (sym c.self.view_is);
+      end = c.first_end.ensures;
+      room = omega (arith, s.nodes.ok.0);
+      longer = omega (arith, c.max-self-inside.ensures);
+      long = omega (arith, c.max-self-inside.ensures, c.in-Some.ensures.length);
+      fits = omega (arith, c.max-self-inside.type_inv);
+      counted = ap (λ k. s.directories + k) c.one_if.ensures;
+    }
+
+both : (c : goal.After-self-2-1) → (IsLayout c.append.new.names.items c.append.new.nodes.items c.append.new.stack.items c.max-self-inside.result (c.self.inside.directories + c.one_if.result))
+    × (tree_of_nodes c.append.new.names.items c.append.new.nodes.items ≡ tree_after c.args.self.now (own_call c.args.is_dir c.args.name.now))
+both c =
+    let s = c.self.inside in
+    let r = pushes s.names.items s.nodes.items s.stack.items s.longest s.directories c.self.invariant c.args.name.now c.args.is_dir (new_node c) c.max-self-inside.result (c.self.inside.directories + c.one_if.result) (next c) c.append.new.names.items c.append.new.nodes.items c.append.new.stack.items
+    _ (c.is_err.ensures.negation ∙ ap not c.if-is_err.false) c.append.ensures.names c.append.ensures.nodes c.append.ensures.stack in
+    (r.0, r.1 ∙ ap (λ t. tree_after t (own_call c.args.is_dir c.args.name.now)) c.self.view_is)
+
+pub invariant_of-self-2 : goal.invariant_of-self-2
+invariant_of-self-2 c = (both c).0
+
+pub returns-clause-ok : goal.returns-clause-ok
+returns-clause-ok c = (both c).1

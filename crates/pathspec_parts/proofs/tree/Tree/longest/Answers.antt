@@ -1,0 +1,5 @@
+use Rattle.pathspec_parts.proofs.NodeProofs.{nested_of}
+use Rattle.pathspec_parts.proofs.tree.Tree.longest.Goals as goal
+
+pub returns-clause-nested : goal.returns-clause-nested
+returns-clause-nested c = let s = c.self.inside in nested_of s.names.items s.nodes.items s.stack.items s.longest s.directories c.self.invariant c.args.self.now c.self.view_is

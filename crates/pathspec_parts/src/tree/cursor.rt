@@ -1,0 +1,165 @@
+//! A cursor over a tree, the only way to its entries.
+ghost use Rattle.std.specs.Prelude.{◌≡◌, ◌<◌, ◌≤◌, ◌+◌, ◌↔◌, ℕ, false, Some, IsTrue, length, IfOk, Contains, vec_capacity};
+ghost use Rattle.std.specs.List.Sorted.{IsStrictlyIncreasing};
+ghost use Rattle.bstr.specs.BStr.{bstr_bytes};
+ghost use Rattle.pathspec_parts.specs.Bytes.{is_one_of};
+ghost use Rattle.pathspec_parts.specs.Trees.{IsNested};
+ghost use Rattle.pathspec_parts.specs.Cursors.{next_seen, IsNew, new_cursor, next_number, cursor_at, path_at, is_dir_at, after_enter, append_once};
+
+use super::Tree;
+use bstr::BStr;
+use std::alloc::{AllocError, Global};
+use std::marker::Model;
+
+/// A walk over the entries of a tree, which its caller steers: it goes into those directories that are entered.
+///
+/// It is the only way to the entries, so what it never gave was never looked at: its trail, [`Cursor::entered`], tells
+/// which directories were entered. It can't be copied.
+#[derive(Drop)]
+pub struct Cursor<'a> {
+    tree: &'a Tree,
+    /// The number of the entry at which it stands.
+    at: Option<usize>,
+    /// The number of the entry that comes next.
+    next: usize,
+    path: Vec<u8>,
+    entered: Vec<usize>,
+    is_new: bool,
+}
+
+impl<'a> Model for Cursor<'a> {
+    ghost use Rattle.std.specs.Prelude.{vec_capacity};
+    ghost use Rattle.pathspec_parts.specs.Cursors.{CursorContents, IsCursor};
+
+    ghost Value = { CursorContents };
+
+    ghost view = { λ c. record {
+      entries = c.tree.now.entries;
+      at = c.at;
+      entered = c.entered.items;
+      is_new = c.is_new;
+    } };
+
+    ghost invariant = { λ c. IsCursor c.tree.now.entries c.at c.next c.path.items c.entered.items c.is_new
+        (vec_capacity c.path) (vec_capacity c.entered) };
+}
+
+impl<'a> Cursor<'a> {
+    /// A cursor before the first entry. It reserves all that it needs, the bytes of the longest path and a number for
+    /// each directory: no later call takes memory.
+    ///
+    /// # Errors
+    /// Memory runs out.
+    pub fn new(alloc: Global, tree: &'a Tree) -> Result<Cursor<'a>, AllocError>
+        ensures { IfOk result (λ cursor. cursor ≡ new_cursor tree.now.entries) }
+    {
+        let path = Vec::with_capacity(alloc, tree.longest())?;
+        let entered = Vec::with_capacity(alloc, tree.directories())?;
+        Ok(Cursor {
+            tree,
+            at: None,
+            next: 0,
+            path,
+            entered,
+            is_new: true,
+        })
+    }
+
+    /// Goes to the next entry that doesn't lie in a directory that wasn't entered, and gives its number; nothing at the
+    /// end, where no entry stands.
+    ///
+    /// It looks at the bytes of the entry's name, and at no entry that it passes over.
+    pub fn next(&mut self) -> Option<usize>
+        ensures next { result ≡ next_seen self.old.entered (next_number self.old) self.old.entries }
+        ensures place { self.new ≡ cursor_at self.old result }
+        ensures nested { IsNested self.old.entries }
+    {
+        let place = self.next;
+        let tree = self.tree;
+        self.is_new = false;
+        if place >= tree.len() {
+            self.at = None;
+            self.path.clear();
+            return None;
+        }
+        tree.write_path(place, &mut self.path);
+        self.at = Some(place);
+        self.next = tree.end_of(place);
+        Some(place)
+    }
+
+    /// The path of the entry, its names joined by slashes; empty where no entry stands.
+    pub fn path(&self) -> BStr<'_>
+        ensures { bstr_bytes result ≡ path_at self.now }
+    {
+        BStr::new(&self.path)
+    }
+
+    /// Whether the entry is a directory; false where no entry stands.
+    pub fn is_dir(&self) -> bool
+        ensures { result ≡ is_dir_at self.now }
+    {
+        match self.at {
+            Some(place) => self.tree.is_dir(place),
+            None => false,
+        }
+    }
+
+    /// Enters the directory, so that the entries in it come next, and writes its number on the trail, once. It says
+    /// whether there is a directory: nothing changes at a file, and where no entry stands.
+    pub fn enter(&mut self) -> bool
+        ensures entered { self.new ≡ after_enter self.old }
+        ensures is_dir { result ≡ is_dir_at self.old }
+    {
+        let Some(place) = self.at else {
+            return false;
+        };
+        if !self.tree.is_dir(place) {
+            return false;
+        }
+        push_once(&mut self.entered, place);
+        self.next = place + 1;
+        true
+    }
+
+    /// The trail: the numbers of the directories that were entered, rising.
+    pub fn entered(&self) -> &[usize]
+        ensures { result.now ≡ self.now.entered }
+    {
+        &self.entered
+    }
+
+    /// Whether [`Cursor::next`] was never called.
+    pub fn is_new(&self) -> bool
+        ensures { IsTrue result ↔ IsNew self.now }
+    {
+        self.is_new
+    }
+}
+
+/// Puts a number after rising ones, none of which is greater, if it isn't there. It takes no memory.
+fn push_once(numbers: &mut Vec<usize>, number: usize)
+    requires rising { IsStrictlyIncreasing numbers.old.items }
+    requires below { (m : ℕ) → Contains numbers.old.items m → m < number + 1 }
+    requires room { is_one_of numbers.old.items number ≡ false
+        → length numbers.old.items < vec_capacity numbers.old }
+    ensures items { numbers.new.items ≡ append_once numbers.old.items (Some number) }
+    ensures room { vec_capacity numbers.old ≤ vec_capacity numbers.new }
+{
+    if has_last(numbers, number) {
+        return;
+    }
+    let _ = numbers.push(number);
+}
+
+/// Whether rising numbers, none of which is greater, have this one: it is the last then.
+fn has_last(numbers: &[usize], number: usize) -> bool
+    requires rising { IsStrictlyIncreasing numbers.now }
+    requires below { (m : ℕ) → Contains numbers.now m → m < number + 1 }
+    ensures { result ≡ is_one_of numbers.now number }
+{
+    match numbers.last() {
+        Some(last) => *last == number,
+        None => false,
+    }
+}

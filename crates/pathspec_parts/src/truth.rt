@@ -1,0 +1,123 @@
+//! Words of truth: what git takes for true or false (git help config, "Values").
+ghost use Rattle.std.specs.Prelude.{◌≡◌, bytes_eq, drop, min, IsTrue, ◌-◌, ◌^◌};
+ghost use Rattle.std.specs.List.{list_all, take_while, prefix_len};
+ghost use Rattle.std.specs.Char.{is_ascii_digit};
+ghost use Rattle.std.specs.Str.{str_to_ascii_lowercase};
+ghost use Rattle.pathspec_parts.specs.Truth.{truth_of, IsTruth, is_yes, is_no, is_unit, number_says, signed_says, decimal_value, fits_64};
+
+/// One more than the greatest number of `i64`, and what its least number has without its sign.
+const LIMIT: u64 = 1 << 63;
+
+/// What a word of truth says, or None for another word. True are `yes`, `on` and `true`, false are `no`, `off`,
+/// `false` and the empty word; so are numbers, where each but 0 is true: a sign or none, decimal digits, and a unit
+/// `k`, `m` or `g` or none. ASCII case doesn't count. The number without its unit has to lie in `i64`.
+///
+/// Nothing is trimmed. It looks at each byte a fixed number of times and takes no memory.
+pub fn parse_truth(text: &[u8]) -> Option<bool>
+    ensures value { result ≡ truth_of text.now }
+    ensures says { IsTruth text.now result }
+{
+    truth_of(text)
+}
+
+/// What a word of truth says.
+#[tactic(auto, unfolding(crate::specs::Truth::truth_of))]
+fn truth_of(word: &[u8]) -> Option<bool>
+    ensures { result ≡ truth_of word.now }
+{
+    if is_yes(word) {
+        Some(true)
+    } else if is_no(word) {
+        Some(false)
+    } else {
+        signed_truth(word)
+    }
+}
+
+/// Whether it is a word for true.
+fn is_yes(word: &[u8]) -> bool
+    ensures { result ≡ is_yes (str_to_ascii_lowercase word.now) }
+{
+    is_word(word, b"yes") || is_word(word, b"on") || is_word(word, b"true")
+}
+
+/// Whether it is a word for false.
+fn is_no(word: &[u8]) -> bool
+    ensures { result ≡ is_no (str_to_ascii_lowercase word.now) }
+{
+    is_word(word, b"no") || is_word(word, b"off") || is_word(word, b"false") || word.is_empty()
+}
+
+/// Whether two words are one but for ASCII case.
+fn is_word(word: &[u8], other: &[u8]) -> bool
+    ensures { result
+        ≡ bytes_eq (str_to_ascii_lowercase word.now) (str_to_ascii_lowercase other.now) }
+{
+    word.eq_ignore_ascii_case(other)
+}
+
+/// What a number says.
+fn signed_truth(word: &[u8]) -> Option<bool>
+    ensures { result ≡ signed_says (str_to_ascii_lowercase word.now) }
+{
+    match word {
+        [b'-', number @ ..] => number_truth(true, number),
+        [b'+', number @ ..] => number_truth(false, number),
+        _ => number_truth(false, word),
+    }
+}
+
+/// What a number says that stands after its sign.
+fn number_truth(negative: bool, number: &[u8]) -> Option<bool>
+    ensures { result ≡ number_says negative (str_to_ascii_lowercase number.now) }
+{
+    let (digits, unit) = split_digits(number);
+    let value = value_of(digits);
+    if digits.is_empty() || !is_unit(unit) || !fits(negative, value) {
+        return None;
+    }
+    Some(value != 0)
+}
+
+/// The digits that a text begins with, and what stands after them.
+fn split_digits(text: &[u8]) -> (&[u8], &[u8])
+    ensures digits { result.0.now ≡ take_while is_ascii_digit text.now }
+    ensures rest { result.1.now ≡ drop (prefix_len is_ascii_digit text.now) text.now }
+{
+    text.split_at(digit_count(text))
+}
+
+/// How many digits a text begins with.
+fn digit_count(text: &[u8]) -> usize
+    ensures { result ≡ prefix_len is_ascii_digit text.now }
+{
+    text.iter().take_while(|byte| byte.is_ascii_digit()).count()
+}
+
+/// Whether it is no letter, or one of `k`, `m` and `g`.
+fn is_unit(unit: &[u8]) -> bool
+    ensures { result ≡ is_unit (str_to_ascii_lowercase unit.now) }
+{
+    matches!(unit, [] | [b'k' | b'm' | b'g' | b'K' | b'M' | b'G'])
+}
+
+/// The number that digits write, or the greatest of 64 bits where it lies above that.
+fn value_of(digits: &[u8]) -> u64
+    requires { IsTrue (list_all is_ascii_digit digits.now) }
+    ensures { result ≡ min (decimal_value digits.now) (2 ^ 64 - 1) }
+{
+    let mut value: u64 = 0;
+    for digit in digits {
+        value = value
+            .saturating_mul(10)
+            .saturating_add(u64::from(digit - b'0'));
+    }
+    value
+}
+
+/// Whether a number with its sign lies in `i64`.
+fn fits(negative: bool, value: u64) -> bool
+    ensures { result ≡ fits_64 negative value }
+{
+    value < LIMIT || negative && value == LIMIT
+}
