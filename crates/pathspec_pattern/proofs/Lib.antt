@@ -18,3 +18,5 @@ pub mod ListProofs
 pub mod Asking
 mod ReadingRows
 mod NormalFormRows
+pub mod EnvironmentProofs
+mod EnvironmentRows

@@ -1,5 +1,5 @@
 -- What a clause reads of an `Error`.
-use Rattle.std.specs.Prelude.{◌≡◌, ℕ, List, codes, Option, Some, None, IfSome, Result, Ok, Err, MatchResult}
+use Rattle.std.specs.Prelude.{◌≡◌, ℕ, List, codes, Option, Some, None, IfSome, Result, Ok, Err, MatchResult, IsErrAnd}
 use Rattle.pathspec_pattern.specs.declared.error.Error.{Error}
 use Rattle.pathspec_pattern.specs.declared.error.Error.TheVariants as told
 use Rattle.pathspec_pattern.specs.Faults.{Fault}
@@ -37,6 +37,10 @@ Computes view computed result = MatchResult result (λ x. computed ≡ Ok (view 
 -- the same, where the value is shown as it is
 abbrev pub IsAnswer : {A : Type 0} → Result A Fault → Result A Error → Type 0
 IsAnswer computed result = Computes (λ x. x) computed result
+
+-- The same, where only the bytes of a fault take memory: the value that is computed, or where there is none its fault, or that memory ran out.
+abbrev pub IsAnswerOrFault : {A : Type 0} → Result A Fault → Result A Error → Type 0
+IsAnswerOrFault computed result = MatchResult result (λ x. computed ≡ Ok x) (λ e. IsErrAnd computed (λ fault. IsMemoryOr e (λ told_fault. told_fault ≡ fault)))
 
 -- the name of the variant
 abbrev pub kind_of : Error → List ℕ

@@ -5,6 +5,7 @@ pub use Rattle.pathspec_parts.specs.AttributeNames
 pub use Rattle.pathspec_parts.specs.AttributeStates
 pub use Rattle.pathspec_parts.specs.Outcomes
 pub use Rattle.pathspec_parts.specs.AttributeRows
+pub use Rattle.pathspec_parts.specs.Truth
 pub mod Results
 pub mod Faults
 pub mod Errors
@@ -19,3 +20,4 @@ pub mod NormalForm
 pub mod Patterns
 pub mod Heights
 pub mod Resolving
+pub mod Environment
