@@ -1,8 +1,13 @@
-//! A caller of `pathspec_select`.
-ghost use Rattle.std.specs.Prelude.{[], Some, map, string_bytes, IfOk};
+//! Callers of `pathspec_select`.
+ghost use Rattle.std.specs.Prelude.{◌≡◌, [], Some, map, string_bytes, IfOk};
+ghost use Rattle.gix_pathspec.specs.Search.{specs_of};
 ghost use Rattle.pathspec_select.specs.Choice.{WritesChosen};
+ghost use Rattle.pathspec_select.specs.Walks.{chosen_entries};
 
-use pathspec_select::{Environment, Refusal, run};
+use gix_pathspec::Search;
+use gix_pathspec::attributes::LookUp;
+use pathspec_parts::tree::{Cursor, Tree};
+use pathspec_select::{Environment, Refusal, SelectError, run, select};
 use std::alloc::Global;
 
 /// The lines of a listing that the words' specs choose.
@@ -22,4 +27,23 @@ pub fn chosen_lines(
     let mut lines = Vec::new(alloc);
     run(alloc, words, environment, &mut reader, &mut lines)?;
     Ok(lines)
+}
+
+/// The numbers of the entries of a tree that a search chooses.
+///
+/// # Errors
+/// Those of [`select`].
+pub fn chosen_entries<L: LookUp>(
+    alloc: Global,
+    tree: &Tree,
+    search: &mut Search,
+    look_up: &mut L,
+) -> Result<Vec<usize>, SelectError<L::Fault>>
+    ensures { IfOk result (λ given. given.items ≡ chosen_entries
+        (L.table look_up.old) (specs_of search.old.specs) tree.now.entries) }
+{
+    let Ok(mut cursor) = Cursor::new(alloc, tree) else {
+        return Err(SelectError::Memory);
+    };
+    select(alloc, &mut cursor, search, look_up)
 }

@@ -1,8 +1,24 @@
 pub mod ListingProofs
 pub mod WordProofs
 pub mod OptionProofs
+pub mod PlainOptionProofs
 mod OptionRows
+mod WordRows
+pub mod RowProofs
+pub mod EnvironmentProofs
+pub mod RequestProofs
 pub mod DeviceProofs
 pub mod FilterProofs
 pub mod ChosenProofs
 pub mod ProgramProofs
+pub mod WalkProofs
+pub mod EnteredProofs
+pub mod GoingProofs
+pub mod SelectProofs
+pub mod RecordProofs
+pub mod NameProofs
+pub mod SharedProofs
+pub mod AddingProofs
+pub mod ReadProofs
+mod ListingRows
+mod WalkRows

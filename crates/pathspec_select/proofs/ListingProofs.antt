@@ -10,11 +10,11 @@ use Rattle.pathspec_select.specs.Listing.{records, without_empty_end}
 
 module _ (p : ℕ → Bool) where
   -- the parts after the first
-  others : List ℕ → List (List ℕ)
+  pub others : List ℕ → List (List ℕ)
   others [] = []
   others (b ∷ bs) = cond (p b) (slice_split p bs) (others bs)
 
-  split-first : (bytes : List ℕ) → slice_split p bytes ≡ before_first p bytes ∷ others bytes
+  pub split-first : (bytes : List ℕ) → slice_split p bytes ≡ before_first p bytes ∷ others bytes
   unfolding others
   split-first [] = refl
   split-first (b ∷ bs) = elim (cases_Bool (p b)) [

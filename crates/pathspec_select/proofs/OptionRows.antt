@@ -3,11 +3,15 @@ use Rattle.std.proofs.Common.{◌≡◌, ℕ, refl, List, [], ◌∷◌, Result,
 use Rattle.std.specs.Prelude.{codes}
 use Rattle.pathspec_select.specs.WordFaults.{WordFault}
 use Rattle.pathspec_select.specs.WordFaults.WordFault.{Usage}
-use Rattle.pathspec_select.specs.Options.{Options, options_of}
+use Rattle.pathspec_select.specs.Options.{Options, ListAt, line_feed, options_of}
 
 -- a prefix, a root and the words of the specs
 abbrev asked : List ℕ → List ℕ → List (List ℕ) → Result Options WordFault
-asked prefix root texts = Ok (record { prefix = prefix; root = root; texts = texts })
+asked prefix root texts = Ok (record { prefix = prefix; root = root; separator = line_feed; lists = []; texts = texts })
+
+-- a separator, lists of attributes and the words of the specs
+abbrev asked_with : ℕ → List ListAt → List (List ℕ) → Result Options WordFault
+asked_with separator lists texts = Ok (record { prefix = []; root = []; separator = separator; lists = lists; texts = texts })
 
 no_word : options_of [] ≡ asked [] [] []
 unfolding options_of
@@ -61,7 +65,7 @@ end_of_options_is_an_argument : options_of (codes "--prefix" ∷ codes "--" ∷ 
 unfolding options_of
 end_of_options_is_an_argument = refl
 
-unknown_option : options_of (codes "-z" ∷ []) ≡ Err Usage
+unknown_option : options_of (codes "-y" ∷ []) ≡ Err Usage
 unfolding options_of
 unknown_option = refl
 
@@ -84,3 +88,33 @@ all_after_the_end_are_specs = refl
 empty_prefix : options_of (codes "--prefix" ∷ [] ∷ codes "x" ∷ []) ≡ asked [] [] (codes "x" ∷ [])
 unfolding options_of
 empty_prefix = refl
+
+nul_ends_records : options_of (codes "-z" ∷ codes "y z" ∷ []) ≡ asked_with 0 [] (codes "y z" ∷ [])
+unfolding options_of
+nul_ends_records = refl
+
+nul_takes_no_argument : options_of (codes "-z" ∷ codes "-z" ∷ []) ≡ asked_with 0 [] []
+unfolding options_of
+nul_takes_no_argument = refl
+
+joined_options_are_unknown : options_of (codes "-zz" ∷ []) ≡ Err Usage
+unfolding options_of
+joined_options_are_unknown = refl
+
+lists_count_in_their_order :
+    options_of (codes "--attr" ∷ codes "x" ∷ codes "gen" ∷ codes "--attr" ∷ codes "x" ∷ codes "-gen" ∷ codes "x" ∷ [])
+    ≡ asked_with line_feed (record { path = codes "x"; list = codes "gen" } ∷ record { path = codes "x"; list = codes "-gen" } ∷ []) (codes "x" ∷ [])
+unfolding options_of
+lists_count_in_their_order = refl
+
+list_takes_what_follows : options_of (codes "--attr" ∷ codes "--" ∷ codes "-z" ∷ codes "--" ∷ codes "a" ∷ []) ≡ asked_with line_feed (record { path = codes "--"; list = codes "-z" } ∷ []) (codes "a" ∷ [])
+unfolding options_of
+list_takes_what_follows = refl
+
+list_lacks_its_list : options_of (codes "--attr" ∷ codes "x" ∷ []) ≡ Err Usage
+unfolding options_of
+list_lacks_its_list = refl
+
+list_lacks_its_path : options_of (codes "--attr" ∷ []) ≡ Err Usage
+unfolding options_of
+list_lacks_its_path = refl

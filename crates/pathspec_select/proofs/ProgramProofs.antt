@@ -5,7 +5,7 @@ use Rattle.gix_pathspec.specs.Specs.{Spec}
 use Rattle.pathspec_select.specs.declared.refusal.Refusal.{Refusal}
 use Rattle.pathspec_select.specs.declared.refusal.Refusal.TheVariants as refusal
 use Rattle.pathspec_select.specs.WordFaults.{WordFault}
-use Rattle.pathspec_select.specs.Options.{options_of}
+use Rattle.pathspec_select.specs.PlainOptions.{options_of}
 use Rattle.pathspec_select.specs.Words.{specs_of_words}
 use Rattle.pathspec_select.specs.Refusals.{TellsWordFault, IsReadOrMemory}
 use Rattle.pathspec_select.specs.Program.{Refuses}
@@ -23,6 +23,7 @@ module _ (words : List (List ℕ)) (input known : Option (List ℕ)) where
   -- a fault of the words
   pub refuses-words : {A : Type 0} (r : Refusal) → TellsWordFault r (λ fault. specs_of_words words ≡ Err fault) → (options_of words ≡ Err WordFault.Usage → ◌≡◌ {A = Result A Refusal} (Err r) (Err refusal.Usage)) → Refuses words input known known r
   refuses-words refusal.Usage h o = (h, keeps-itself known)
+  refuses-words (refusal.Environment error) h o = ((h.0, h.1, h.2), keeps-itself known)
   refuses-words (refusal.Spec number error) h o = ((h.0, h.1, h.2), keeps-itself known)
   refuses-words (refusal.Unsupported number) h o = (h, keeps-itself known)
   refuses-words refusal.Read h o = absurd h
@@ -33,6 +34,7 @@ module _ (words : List (List ℕ)) (input known : Option (List ℕ)) where
   -- a failed read, or memory that ran out while reading
   pub refuses-reading : (specs : List Spec) (r : Refusal) → specs_of_words words ≡ Ok specs → IsReadOrMemory r → Refuses words input known known r
   refuses-reading specs refusal.Usage s h = absurd h
+  refuses-reading specs (refusal.Environment error) s h = absurd h
   refuses-reading specs (refusal.Spec number error) s h = absurd h
   refuses-reading specs (refusal.Unsupported number) s h = absurd h
   refuses-reading specs refusal.Read s h = (specs, s, keeps-itself known)

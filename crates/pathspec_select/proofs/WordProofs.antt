@@ -15,7 +15,7 @@ use Rattle.gix_pathspec.specs.Reading.{reading, no_defaults}
 use Rattle.pathspec_select.specs.declared.refusal.Refusal.{Refusal}
 use Rattle.pathspec_select.specs.declared.refusal.Refusal.TheVariants as refusal
 use Rattle.pathspec_select.specs.WordFaults.{SpecFault, WordFault}
-use Rattle.pathspec_select.specs.Options.{Options, options_of}
+use Rattle.pathspec_select.specs.PlainOptions.{Options, options_of}
 use Rattle.pathspec_select.specs.Words.{spec_result, numbered_result, try_map_from, parsed_word, if_supported, specs_of, specs_of_words}
 use Rattle.gix_pathspec.specs.Specs.{Spec}
 use Rattle.pathspec_select.specs.Refusals.{TellsWordFault}
@@ -39,8 +39,8 @@ pub no_defaults-is : (d : Defaults) → signature_bits d.signature ≡ 0 → d.s
 no_defaults-is d s m l = ap (λ bits. defaults_of bits d.search_mode d.literal) s ∙ (ap (λ mode. defaults_of 0 mode d.literal) m ∙ ap (λ literal. defaults_of 0 ShellGlob literal) l)
 
 -- what a word parses as
-pub parsed_word-is : (word text : List ℕ) (d : Defaults) → text ≡ word → d ≡ no_defaults → parsed_word word ≡ spec_result (reading d text)
-parsed_word-is word text d t e = rw (← t, e) refl
+pub parsed_word-is : (defaults : Defaults) (word text : List ℕ) → text ≡ word → parsed_word defaults word ≡ spec_result (reading defaults text)
+parsed_word-is defaults word text t = rw (← t) refl
 
 -- ---- one after the other
 
@@ -74,6 +74,7 @@ pushed view items more x e = rw (e, map-append) refl
 -- a refusal that tells one fault tells another where the one is the other
 pub tells-on : (r : Refusal) (P Q : WordFault → Type 0) → ((fault : WordFault) → P fault → Q fault) → TellsWordFault r P → TellsWordFault r Q
 tells-on refusal.Usage P Q f h = f WordFault.Usage h
+tells-on (refusal.Environment e) P Q f h = (h.0, h.1, f (WordFault.BadEnvironment h.0) h.2)
 tells-on (refusal.Spec number e) P Q f h = (h.0, h.1, f (WordFault.BadSpec number (SpecFault.Invalid h.0)) h.2)
 tells-on (refusal.Unsupported number) P Q f h = f (WordFault.BadSpec number SpecFault.Unsupported) h
 tells-on refusal.Read P Q f h = h

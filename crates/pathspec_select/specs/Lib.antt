@@ -16,8 +16,16 @@ pub mod Records
 pub mod WordFaults
 pub mod Options
 pub mod OptionWords
+pub mod PlainOptions
+pub mod PlainOptionWords
 pub mod Words
+pub mod Environment
+pub mod Rows
+pub mod Requests
 pub mod Refusals
 pub mod Filter
 pub mod Choice
 pub mod Program
+pub mod Walks
+pub mod SelectAnswers
+pub mod ListingAnswers

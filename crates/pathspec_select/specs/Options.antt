@@ -1,26 +1,61 @@
 -- What the options of a command line say, and which of its words are specs.
-use Rattle.std.specs.Prelude.{ℕ, Bool, true, false, List, [], ◌∷◌, length, codes, bytes_eq, nat_lt, if◌then◌else◌, Result, Ok, Err}
+use Rattle.std.specs.Prelude.{ℕ, List, [], ◌∷◌, ◌++◌, length, codes, bytes_eq, nat_lt, if◌then◌else◌, Result, Ok, Err}
 use Rattle.pathspec_parts.specs.Bytes.{begins_with}
 use Rattle.pathspec_parts.specs.Paths.{without_last_slash, is_clean_prefix}
 use Rattle.gix_pathspec.specs.Results.{◌>>=◌}
 use Rattle.pathspec_select.specs.WordFaults.{WordFault}
 use Rattle.pathspec_select.specs.WordFaults.WordFault.{Usage}
 
+-- ---- what options say
+
+-- a path, and the list of attributes that it is to have, as it is written
+pub record ListAt : Type 0 where
+  pub path : List ℕ
+  pub list : List ℕ
+
 -- what words ask for
 pub record Options : Type 0 where
   pub prefix : List ℕ
   pub root : List ℕ
+  -- the byte that ends a record
+  pub separator : ℕ
+  -- the lists of attributes, in their order
+  pub lists : List ListAt
   -- the words of the specs
   pub texts : List (List ℕ)
 
--- what a word says where options are read
+-- an option with its arguments
+pub data Setting : Type 0 where
+  -- the byte 0 ends a record
+  EndsByNul : Setting
+  -- specs are read in this directory
+  HasPrefix : (path : List ℕ) → Setting
+  -- the repository lies here
+  HasRoot : (path : List ℕ) → Setting
+  -- a path has this list of attributes
+  HasList : (path list : List ℕ) → Setting
+
+-- options with one more; an earlier prefix or root no longer counts
+abbrev pub with_setting : Setting → Options → Options
+with_setting EndsByNul options = record options { separator = 0 }
+with_setting (HasPrefix path) options = record options { prefix = path }
+with_setting (HasRoot path) options = record options { root = path }
+with_setting (HasList path list) options = record options { lists = options.lists ++ record { path = path; list = list } ∷ [] }
+
+-- ---- which words are options
+
+-- what a word says where an option may stand
 pub data OptionWord : Type 0 where
   -- the words after it are specs
   EndsOptions : OptionWord
+  -- the byte 0 ends a record
+  SaysNul : OptionWord
   -- the next word is the prefix
   NamesPrefix : OptionWord
   -- the next word is the root
   NamesRoot : OptionWord
+  -- the next two words are a path and a list of attributes
+  NamesList : OptionWord
   -- no option has this name
   IsUnknown : OptionWord
   -- it is a spec, and so are the words after it
@@ -30,46 +65,55 @@ pub data OptionWord : Type 0 where
 abbrev pub option_word : List ℕ → OptionWord
 option_word word =
     if bytes_eq word (codes "--") then EndsOptions
+    else if bytes_eq word (codes "-z") then SaysNul
     else if bytes_eq word (codes "--prefix") then NamesPrefix
     else if bytes_eq word (codes "--root") then NamesRoot
+    else if bytes_eq word (codes "--attr") then NamesList
     else if begins_with word (codes "-") then IsUnknown
     else BeginsSpecs
 
--- an option that takes the next word
-abbrev pub takes_argument : OptionWord → Bool
-takes_argument EndsOptions = false
-takes_argument NamesPrefix = true
-takes_argument NamesRoot = true
-takes_argument IsUnknown = false
-takes_argument BeginsSpecs = false
+-- what the next word is
+pub data Awaited : Type 0 where
+  -- an option or a spec
+  AnyWord : Awaited
+  -- an argument of this option
+  PrefixPath : Awaited
+  RootPath : Awaited
+  ListPath : Awaited
+  -- the list for this path
+  ListOf : (path : List ℕ) → Awaited
 
--- options with the argument of one more; an earlier argument of the same option no longer counts
-abbrev pub with_argument : OptionWord → List ℕ → Options → Options
-with_argument EndsOptions argument options = options
-with_argument NamesPrefix argument options = record options { prefix = argument }
-with_argument NamesRoot argument options = record options { root = argument }
-with_argument IsUnknown argument options = options
-with_argument BeginsSpecs argument options = options
+-- options, and what the words after them say, of which the first is awaited so
+abbrev pub options_after : Awaited → Options → List (List ℕ) → Result Options WordFault
+options_after AnyWord options [] = Ok (record options { texts = [] })
+options_after PrefixPath options [] = Err Usage
+options_after RootPath options [] = Err Usage
+options_after ListPath options [] = Err Usage
+options_after (ListOf path) options [] = Err Usage
+options_after PrefixPath options (word ∷ words) = options_after AnyWord (with_setting (HasPrefix word) options) words
+options_after RootPath options (word ∷ words) = options_after AnyWord (with_setting (HasRoot word) options) words
+options_after ListPath options (word ∷ words) = options_after (ListOf word) options words
+options_after (ListOf path) options (word ∷ words) = options_after AnyWord (with_setting (HasList path word) options) words
+options_after AnyWord options (word ∷ words) =
+    elim (option_word word) [
+      | EndsOptions ↦ Ok (record options { texts = words })
+      | SaysNul ↦ options_after AnyWord (with_setting EndsByNul options) words
+      | NamesPrefix ↦ options_after PrefixPath options words
+      | NamesRoot ↦ options_after RootPath options words
+      | NamesList ↦ options_after ListPath options words
+      | IsUnknown ↦ Err Usage
+      | BeginsSpecs ↦ Ok (record options { texts = word ∷ words })
+    ]
 
--- options with the words of the specs, at a word that takes no argument or lacks it
-abbrev pub with_specs : OptionWord → List ℕ → List (List ℕ) → Options → Result Options WordFault
-with_specs EndsOptions word words options = Ok (record options { texts = words })
-with_specs NamesPrefix word words options = Err Usage
-with_specs NamesRoot word words options = Err Usage
-with_specs IsUnknown word words options = Err Usage
-with_specs BeginsSpecs word words options = Ok (record options { texts = word ∷ words })
+-- ---- what words ask for
 
--- options, and what the words after them say
-abbrev pub options_after : Options → List (List ℕ) → Result Options WordFault
-options_after options [] = Ok options
-options_after options (word ∷ []) = with_specs (option_word word) word [] options
-options_after options (word ∷ next ∷ words) =
-    if takes_argument (option_word word) then options_after (with_argument (option_word word) next options) words
-    else with_specs (option_word word) word (next ∷ words) options
+-- the byte that ends a record where no option says otherwise
+abbrev pub line_feed : ℕ
+line_feed = 10
 
 -- before the first word
 abbrev pub no_options : Options
-no_options = record { prefix = []; root = []; texts = [] }
+no_options = record { prefix = []; root = []; separator = line_feed; lists = []; texts = [] }
 
 -- The prefix that an argument names: where it is longer than one byte, one slash at its end isn't part of it.
 abbrev pub prefix_of : List ℕ → List ℕ
@@ -81,4 +125,4 @@ with_clean_prefix options = if is_clean_prefix (prefix_of options.prefix) then O
 
 -- What words ask for. Options are read up to `--` or the first word that begins with no `-`.
 unfoldable pub options_of : List (List ℕ) → Result Options WordFault
-options_of words = options_after no_options words >>= with_clean_prefix
+options_of words = options_after AnyWord no_options words >>= with_clean_prefix

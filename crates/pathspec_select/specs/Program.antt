@@ -8,7 +8,7 @@ use Rattle.pathspec_select.specs.declared.refusal.Refusal.{Refusal}
 use Rattle.pathspec_select.specs.declared.refusal.Refusal.TheVariants as refusal
 use Rattle.pathspec_select.specs.Listing.{records, first_bad, output, table_of}
 use Rattle.pathspec_select.specs.WordFaults.{SpecFault, WordFault}
-use Rattle.pathspec_select.specs.Options.{options_of}
+use Rattle.pathspec_select.specs.PlainOptions.{options_of}
 use Rattle.pathspec_select.specs.Words.{specs_of_words}
 
 -- what ends a record
@@ -46,6 +46,7 @@ HasFault words fault = specs_of_words words ≡ Err fault
 -- It is told, and nothing before it occurred: the first fault of the words, a failed read, the first bad record, a failed write. Nothing is written before a fault, but for a write's, where a beginning of the full output was.
 abbrev pub Refuses : List (List ℕ) → Option (List ℕ) → Option (List ℕ) → Option (List ℕ) → Refusal → Type 0
 Refuses words input old new refusal.Usage = HasFault words WordFault.Usage × Keeps old new
+Refuses words input old new (refusal.Environment error) = ((fault : Fault) × (fault_of error ≡ Some fault) × HasFault words (WordFault.BadEnvironment fault)) × Keeps old new
 Refuses words input old new (refusal.Spec number error) = ((fault : Fault) × (fault_of error ≡ Some fault) × HasFault words (WordFault.BadSpec number (SpecFault.Invalid fault))) × Keeps old new
 Refuses words input old new (refusal.Unsupported number) = HasFault words (WordFault.BadSpec number SpecFault.Unsupported) × Keeps old new
 Refuses words input old new refusal.Read = AsksFor words (λ specs. Keeps old new)

@@ -1,6 +1,8 @@
 -- What a clause reads of a `Refusal`.
 use Rattle.std.specs.Prelude.{◌≡◌, ℕ, Some, MatchOption, Result, Ok, Err, MatchResult}
 use Rattle.pathspec_pattern.specs.declared.error.Error.{Error}
+use Rattle.gix_pathspec.specs.declared.search.init.BuildError.{BuildError}
+use Rattle.gix_pathspec.specs.declared.search.init.BuildError.TheVariants as build
 use Rattle.gix_pathspec.specs.Faults.{Fault}
 use Rattle.gix_pathspec.specs.Errors.{fault_of}
 use Rattle.pathspec_select.specs.declared.refusal.Refusal.{Refusal}
@@ -10,6 +12,7 @@ use Rattle.pathspec_select.specs.WordFaults.{SpecFault, WordFault}
 -- the exit status
 abbrev pub status_of : Refusal → ℕ
 status_of refusal.Usage = 2
+status_of (refusal.Environment error) = 3
 status_of (refusal.Spec number error) = 3
 status_of (refusal.Unsupported number) = 3
 status_of refusal.Read = 5
@@ -17,9 +20,10 @@ status_of (refusal.Line number) = 4
 status_of refusal.Write = 5
 status_of refusal.Memory = 6
 
--- The refusal tells this fault of the words, or that memory ran out.
+-- The refusal tells this fault of the words or of the environment, or that memory ran out.
 abbrev pub TellsWordFault : Refusal → (WordFault → Type 0) → Type 0
 TellsWordFault refusal.Usage P = P WordFault.Usage
+TellsWordFault (refusal.Environment error) P = (fault : Fault) × (fault_of error ≡ Some fault) × P (WordFault.BadEnvironment fault)
 TellsWordFault (refusal.Spec number error) P = (fault : Fault) × (fault_of error ≡ Some fault) × P (WordFault.BadSpec number (SpecFault.Invalid fault))
 TellsWordFault (refusal.Unsupported number) P = P (WordFault.BadSpec number SpecFault.Unsupported)
 TellsWordFault refusal.Read P = ⊥
@@ -31,17 +35,23 @@ TellsWordFault refusal.Memory P = Unit {0}
 abbrev pub ComputesWords : {A B : Type 0} → (A → B) → Result B WordFault → Result A Refusal → Type 0
 ComputesWords view computed result = MatchResult result (λ x. computed ≡ Ok (view x)) (λ e. TellsWordFault e (λ fault. computed ≡ Err fault))
 
--- The result is what is computed; the only fault and the only refusal is of the usage.
-abbrev pub ComputesOptions : {A : Type 0} → Result A WordFault → Result A Refusal → Type 0
-ComputesOptions computed result = MatchResult result (λ x. computed ≡ Ok x) (λ e. (e ≡ refusal.Usage) × (computed ≡ Err WordFault.Usage))
-
 -- The refusal is for this error of the spec with this number.
 abbrev pub RefusesError : ℕ → Error → Refusal → Type 0
 RefusesError number error refused = MatchOption (fault_of error) (refused ≡ refusal.Memory) (λ fault. refused ≡ refusal.Spec number error)
 
+-- The refusal is for this error of the environment.
+abbrev pub RefusesEnvironment : Error → Refusal → Type 0
+RefusesEnvironment error refused = MatchOption (fault_of error) (refused ≡ refusal.Memory) (λ fault. refused ≡ refusal.Environment error)
+
+-- The refusal is for this error of a search that is made.
+abbrev pub RefusesBuild : BuildError → Refusal → Type 0
+RefusesBuild (build.Spec number error) refused = refused ≡ refusal.Spec number error
+RefusesBuild build.Memory refused = refused ≡ refusal.Memory
+
 -- The refusal is what reading may end with: a failed read, or memory that ran out.
 abbrev pub IsReadOrMemory : Refusal → Type 0
 IsReadOrMemory refusal.Usage = ⊥
+IsReadOrMemory (refusal.Environment error) = ⊥
 IsReadOrMemory (refusal.Spec number error) = ⊥
 IsReadOrMemory (refusal.Unsupported number) = ⊥
 IsReadOrMemory refusal.Read = Unit {0}

@@ -1,4 +1,4 @@
--- Why words ask for nothing that can be done.
+-- Why words and the environment ask for nothing that can be done.
 use Rattle.std.specs.Prelude.{ℕ}
 use Rattle.gix_pathspec.specs.Faults.{Fault}
 
@@ -9,9 +9,11 @@ pub data SpecFault : Type 0 where
   -- it is of a kind that isn't matched yet
   Unsupported : SpecFault
 
--- why words do
+-- why words and the environment do
 pub data WordFault : Type 0 where
   -- the options are wrong
   Usage : WordFault
+  -- the environment has this fault
+  BadEnvironment : (fault : Fault) → WordFault
   -- the spec with this number, from 0, has this fault
   BadSpec : (number : ℕ) (fault : SpecFault) → WordFault

@@ -1,6 +1,7 @@
 -- The specs that the words of a command line ask for.
 use Rattle.std.specs.Prelude.{ℕ, ◌+◌, Bool, not, ◌&&◌, List, [], ◌∷◌, if◌then◌else◌, Result, Ok, Err}
 use Rattle.pathspec_parts.specs.Bytes.{is_empty}
+use Rattle.pathspec_pattern.specs.declared.defaults.Defaults.{Defaults}
 use Rattle.gix_pathspec.specs.Results.{◌>>=◌}
 use Rattle.gix_pathspec.specs.Faults.{Fault}
 use Rattle.gix_pathspec.specs.Specs.{Spec, is_glob}
@@ -10,7 +11,7 @@ use Rattle.gix_pathspec.specs.Search.{default_to_prefix}
 use Rattle.pathspec_select.specs.WordFaults.{SpecFault, WordFault}
 use Rattle.pathspec_select.specs.WordFaults.SpecFault.{Invalid, Unsupported}
 use Rattle.pathspec_select.specs.WordFaults.WordFault.{BadSpec}
-use Rattle.pathspec_select.specs.Options.{Options, options_of}
+use Rattle.pathspec_select.specs.PlainOptions.{Options, options_of}
 
 -- the same result, where a fault makes the spec invalid
 abbrev pub spec_result : {A : Type 0} → Result A Fault → Result A SpecFault
@@ -18,8 +19,8 @@ spec_result (Ok x) = Ok x
 spec_result (Err fault) = Err (Invalid fault)
 
 -- what a word parses as
-abbrev pub parsed_word : List ℕ → Result Spec SpecFault
-parsed_word word = spec_result (reading no_defaults word)
+abbrev pub parsed_word : Defaults → List ℕ → Result Spec SpecFault
+parsed_word defaults word = spec_result (reading defaults word)
 
 -- a spec that can be asked about paths: globs aren't matched yet, and nobody is asked for attributes
 unfoldable pub is_supported : Spec → Bool
@@ -44,8 +45,8 @@ try_map_from n step [] = Ok []
 try_map_from n step (x ∷ xs) = numbered_result n (step x) >>= λ y. try_map_from (n + 1) step xs >>= λ ys. Ok (y ∷ ys)
 
 -- what each word parses as, or the first fault
-abbrev pub parsed_words : List (List ℕ) → Result (List Spec) WordFault
-parsed_words words = try_map_from 0 parsed_word words
+abbrev pub parsed_words : Defaults → List (List ℕ) → Result (List Spec) WordFault
+parsed_words defaults words = try_map_from 0 (parsed_word defaults) words
 
 -- the normal form of each spec, or the first fault
 abbrev pub normalized_specs : List ℕ → List ℕ → List Spec → Result (List Spec) WordFault
@@ -53,7 +54,7 @@ normalized_specs prefix root specs = try_map_from 0 (normalized_spec prefix root
 
 -- The specs that options and the words after them ask for, or the first fault: every word is parsed before the first spec is normalised.
 abbrev pub specs_of : Options → Result (List Spec) WordFault
-specs_of options = parsed_words options.texts >>= λ specs. normalized_specs options.prefix options.root (default_to_prefix options.prefix specs)
+specs_of options = parsed_words no_defaults options.texts >>= λ specs. normalized_specs options.prefix options.root (default_to_prefix options.prefix specs)
 
 -- The specs that words ask for, or the first fault.
 unfoldable pub specs_of_words : List (List ℕ) → Result (List Spec) WordFault

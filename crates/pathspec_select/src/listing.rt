@@ -4,6 +4,11 @@ ghost use Rattle.std.specs.Iterator.{YieldsFirstRef, at_most};
 ghost use Rattle.pathspec_select.specs.Listing.{records, first_bad, is_bad, holds_two_slashes};
 ghost use Rattle.pathspec_select.specs.Records.{records_left, bytes_left};
 
+mod contents;
+mod entries;
+mod names;
+
+pub use contents::{Listing, ListingError, read};
 use pathspec_parts::split;
 
 /// The records of a listing in their order, without their separators. The last one may lack its separator.

@@ -1,85 +1,102 @@
 //! The options of the command line, which stand before the specs.
-ghost use Rattle.std.specs.Prelude.{◌≡◌, [], ◌∷◌, map, IfOk, IfErr, OnErr, IsTrue, string_bytes};
+ghost use Rattle.std.specs.Prelude.{◌≡◌, [], ◌∷◌, map, IfOk, IfErr, MatchResult, OnErr, IsTrue, string_bytes};
 ghost use Rattle.pathspec_parts.specs.Paths.{is_clean_prefix};
-ghost use Rattle.pathspec_select.specs.Options.{Options as OptionsView, no_options, option_word, options_after, prefix_of, with_clean_prefix, options_of};
-ghost use Rattle.pathspec_select.specs.OptionWords.{option_view};
-ghost use Rattle.pathspec_select.specs.Refusals.{ComputesOptions};
+ghost use Rattle.pathspec_select.specs.Options.{Options as OptionsView, no_options, option_word, with_setting, prefix_of, with_clean_prefix, options_of};
+ghost use Rattle.pathspec_select.specs.OptionWords.{option_view, setting_view, options_from, IsFirst, AreWrong, HasSettings, ShowsOptions, ComputesOptions};
 
 use crate::Refusal;
 use bstr::BStr;
 use pathspec_parts::path;
-use std::marker::Model;
 
-/// What the options say, and the words after them.
+/// What the options say but for lists of attributes, and the words after them.
 #[derive(Drop)]
 pub(crate) struct Options<'w> {
     pub(crate) prefix: &'w [u8],
     pub(crate) root: &'w [u8],
+    pub(crate) separator: u8,
     pub(crate) specs: &'w [String],
 }
 
-impl<'w> Model for Options<'w> {
-    ghost Value = { OptionsView };
-
-    ghost view = { λ o. record { prefix = o.prefix.now; root = o.root.now; texts = map string_bytes o.specs.now } };
-}
-
-/// What a word is, where options are read.
+/// What a word is, where an option may stand.
 #[derive(Drop)]
 enum OptionWord {
     EndsOptions,
+    SaysNul,
     NamesPrefix,
     NamesRoot,
+    NamesList,
     IsUnknown,
     BeginsSpecs,
 }
 
-/// What the words ask for. Options are read up to `--`, or up to the first word that begins with no `-`; a prefix
-/// or a root that is given later takes the place of an earlier one. It copies nothing.
+/// An option with its arguments.
+#[derive(Drop)]
+pub(crate) enum Setting<'w> {
+    /// The byte 0 ends a record.
+    EndsByNul,
+    /// Specs are read in this directory.
+    HasPrefix(&'w [u8]),
+    /// The repository lies here.
+    HasRoot(&'w [u8]),
+    /// A path has this list of attributes.
+    HasList(&'w [u8], &'w [u8]),
+}
+
+/// How words begin.
+#[derive(Drop)]
+pub(crate) enum Words<'w> {
+    /// With an option, and then the other words.
+    After(Setting<'w>, &'w [String]),
+    /// With the specs, which these words are.
+    Specs(&'w [String]),
+}
+
+/// The first option, or the specs that begin.
 ///
 /// # Errors
-/// [`Refusal::Usage`]: an option is unknown or lacks its argument, or the prefix isn't clean.
-pub(crate) fn options_from_words(words: &[String]) -> Result<Options<'_>, Refusal>
-    ensures options { ComputesOptions (options_of (map string_bytes words.now)) result }
-    ensures clean { IfOk result (λ options. IsTrue (is_clean_prefix options.prefix)) }
+/// [`Refusal::Usage`]: the option is unknown or lacks an argument.
+pub(crate) fn first_option(words: &[String]) -> Result<Words<'_>, Refusal>
+    ensures { MatchResult result (IsFirst (map string_bytes words.now))
+        (AreWrong (map string_bytes words.now)) }
 {
-    with_clean_prefix(unchecked_options(words)?)
-}
-
-/// What the words ask for, where the prefix may be any argument.
-fn unchecked_options(words: &[String]) -> Result<Options<'_>, Refusal>
-    ensures { ComputesOptions (options_after no_options (map string_bytes words.now)) result }
-{
-    let mut options = Options {
-        prefix: b"",
-        root: b"",
-        specs: words,
+    let Some((word, rest)) = words.split_first() else {
+        return Ok(Words::Specs(words));
     };
-    while let Some((word, rest)) = options.specs.split_first() {
-        match option_word(word.as_bytes()) {
-            OptionWord::EndsOptions => {
-                options.specs = rest;
-                return Ok(options);
-            }
-            OptionWord::NamesPrefix => (options.prefix, options.specs) = argument(rest)?,
-            OptionWord::NamesRoot => (options.root, options.specs) = argument(rest)?,
-            OptionWord::IsUnknown => return Err(Refusal::Usage),
-            OptionWord::BeginsSpecs => return Ok(options),
+    match option_word(word.as_bytes()) {
+        OptionWord::EndsOptions => Ok(Words::Specs(rest)),
+        OptionWord::SaysNul => Ok(Words::After(Setting::EndsByNul, rest)),
+        OptionWord::NamesPrefix => {
+            let (path, rest) = argument(rest)?;
+            Ok(Words::After(Setting::HasPrefix(path), rest))
         }
+        OptionWord::NamesRoot => {
+            let (path, rest) = argument(rest)?;
+            Ok(Words::After(Setting::HasRoot(path), rest))
+        }
+        OptionWord::NamesList => {
+            let (path, rest) = argument(rest)?;
+            let (list, rest) = argument(rest)?;
+            Ok(Words::After(Setting::HasList(path, list), rest))
+        }
+        OptionWord::IsUnknown => Err(Refusal::Usage),
+        OptionWord::BeginsSpecs => Ok(Words::Specs(words)),
     }
-    Ok(options)
 }
 
-/// What a word is, where options are read.
+/// What a word is, where an option may stand.
 fn option_word(word: &[u8]) -> OptionWord
     ensures { option_view result ≡ option_word word.now }
 {
     if word == b"--".as_slice() {
         OptionWord::EndsOptions
+    } else if word == b"-z".as_slice() {
+        OptionWord::SaysNul
     } else if word == b"--prefix".as_slice() {
         OptionWord::NamesPrefix
     } else if word == b"--root".as_slice() {
         OptionWord::NamesRoot
+    } else if word == b"--attr".as_slice() {
+        OptionWord::NamesList
     } else if word.starts_with(b"-") {
         OptionWord::IsUnknown
     } else {
@@ -100,10 +117,67 @@ fn argument(words: &[String]) -> Result<(&[u8], &[String]), Refusal>
     }
 }
 
+/// What the words ask for, but for lists of attributes. Options are read up to `--`, or up to the first word that begins
+/// with no `-`; a prefix or a root that is given later takes the place of an earlier one. It copies nothing.
+///
+/// # Errors
+/// [`Refusal::Usage`]: an option is unknown or lacks an argument, or the prefix isn't clean.
+pub(crate) fn options_from_words(words: &[String]) -> Result<Options<'_>, Refusal>
+    ensures options { ComputesOptions (options_of (map string_bytes words.now)) result }
+    ensures clean { IfOk result (λ options. IsTrue (is_clean_prefix options.prefix.now)) }
+{
+    with_clean_prefix(unchecked_options(words)?)
+}
+
+/// What the words ask for, where the prefix may be any argument.
+fn unchecked_options(words: &[String]) -> Result<Options<'_>, Refusal>
+    ensures { ComputesOptions (options_from no_options (map string_bytes words.now)) result }
+{
+    let mut options = Options {
+        prefix: b"",
+        root: b"",
+        separator: b'\n',
+        specs: words,
+    };
+    loop {
+        match first_option(options.specs)? {
+            Words::Specs(specs) => return Ok(Options { specs, ..options }),
+            Words::After(setting, rest) => options = with_setting(options, setting, rest),
+        }
+    }
+}
+
+/// The options with one more, and the words after it.
+fn with_setting<'w>(options: Options<'w>, setting: Setting<'w>, specs: &'w [String]) -> Options<'w>
+    ensures settings { (viewed : OptionsView) → HasSettings options.entry viewed
+        → HasSettings result (with_setting (setting_view setting.entry) viewed) }
+    ensures specs { result.specs.now ≡ specs.now }
+{
+    match setting {
+        Setting::EndsByNul => Options {
+            separator: 0,
+            specs,
+            ..options
+        },
+        Setting::HasPrefix(prefix) => Options {
+            prefix,
+            specs,
+            ..options
+        },
+        Setting::HasRoot(root) => Options {
+            root,
+            specs,
+            ..options
+        },
+        Setting::HasList(..) => Options { specs, ..options },
+    }
+}
+
 /// The options with the prefix that their argument names, if it is clean.
 fn with_clean_prefix(options: Options<'_>) -> Result<Options<'_>, Refusal>
-    ensures options { ComputesOptions (with_clean_prefix options.entry) result }
-    ensures clean { IfOk result (λ cleaned. IsTrue (is_clean_prefix cleaned.prefix)) }
+    ensures options { (viewed : OptionsView) → ShowsOptions options.entry viewed
+        → ComputesOptions (with_clean_prefix viewed) result }
+    ensures clean { IfOk result (λ cleaned. IsTrue (is_clean_prefix cleaned.prefix.now)) }
 {
     let prefix = prefix_of(options.prefix);
     if !path::is_clean_prefix(BStr::new(prefix)) {

@@ -7,9 +7,12 @@ use std::alloc::AllocError;
 /// Why the program ends without having done all. Its text is the line for standard error.
 #[derive(Debug, Drop, PartialEq, Eq, thiserror::Error)]
 pub enum Refusal {
-    /// An option is unknown or lacks its argument, or the prefix isn't clean.
+    /// An option is unknown or lacks an argument, the prefix isn't clean, or a list of attributes can't be read.
     #[error("usage: pathspec-select [-z] [--prefix P] [--root R] [--attr PATH LIST]... [--] [SPEC...]")]
     Usage,
+    /// The environment is at fault: a variable is no word of truth, or globs are both asked for and not.
+    #[error("environment: {}", .0.kind())]
+    Environment(Error),
     /// A spec is at fault; specs are numbered from 0.
     #[error("spec {}: {}", .0, .1.kind())]
     Spec(usize, Error),
@@ -39,7 +42,7 @@ impl Refusal {
     {
         match self {
             Refusal::Usage => 2,
-            Refusal::Spec(..) | Refusal::Unsupported(_) => 3,
+            Refusal::Environment(_) | Refusal::Spec(..) | Refusal::Unsupported(_) => 3,
             Refusal::Line(_) => 4,
             Refusal::Read | Refusal::Write => 5,
             Refusal::Memory => 6,

@@ -2,15 +2,16 @@
 ghost use Rattle.std.specs.Prelude.{◌≡◌, Err, map, IfOk, IfErr, OnOk, IsTrue, string_bytes};
 ghost use Rattle.pathspec_parts.specs.Paths.{is_clean_prefix};
 ghost use Rattle.gix_pathspec.specs.Patterns.{pattern_spec};
+ghost use Rattle.gix_pathspec.specs.Reading.{no_defaults};
 ghost use Rattle.gix_pathspec.specs.Search.{default_to_prefix};
 ghost use Rattle.pathspec_select.specs.WordFaults.{WordFault};
-ghost use Rattle.pathspec_select.specs.Options.{options_of};
+ghost use Rattle.pathspec_select.specs.PlainOptions.{options_of};
 ghost use Rattle.pathspec_select.specs.Words.{parsed_word, parsed_words, is_supported, normalized_spec, normalized_specs, numbered_result, specs_of, specs_of_words};
 ghost use Rattle.pathspec_select.specs.Refusals.{ComputesWords, RefusesError};
 ghost use Rattle.pathspec_select.specs.Filter.{AreSupported};
 
 use crate::Refusal;
-use crate::options::{self, Options};
+use crate::plain_options::{self, Options};
 use bstr::BStr;
 use gix_pathspec::{Defaults, Error, MagicSignature, Pattern, parse};
 use std::alloc::Global;
@@ -27,7 +28,7 @@ pub(crate) fn specs(alloc: Global, words: &[String]) -> Result<Vec<Pattern>, Ref
         → result ≡ Err Refusal.Usage }
     ensures supported { IfOk result (λ ps. AreSupported ps.items) }
 {
-    specs_of(alloc, &options::options_from_words(words)?)
+    specs_of(alloc, &plain_options::options_from_words(words)?)
 }
 
 /// The specs that options and the words after them ask for.
@@ -36,7 +37,7 @@ fn specs_of(alloc: Global, options: &Options<'_>) -> Result<Vec<Pattern>, Refusa
     ensures specs { ComputesWords (λ ps. map pattern_spec ps.items) (specs_of options.now) result }
     ensures supported { IfOk result (λ ps. AreSupported ps.items) }
 {
-    let parsed = parse_words(alloc, options.specs)?;
+    let parsed = parse_without_defaults(alloc, options.specs)?;
     let mut patterns = default_to_prefix(alloc, parsed, options.prefix)?;
     normalize_all(patterns.as_mut_slice(), options.prefix, options.root)?;
     Ok(patterns)
@@ -64,14 +65,26 @@ fn default_to_prefix(
     Ok(patterns)
 }
 
-/// The spec of each word.
-fn parse_words(alloc: Global, texts: &[String]) -> Result<Vec<Pattern>, Refusal>
+/// The spec of each word, under defaults that ask for nothing.
+fn parse_without_defaults(alloc: Global, texts: &[String]) -> Result<Vec<Pattern>, Refusal>
     ensures { ComputesWords (λ ps. map pattern_spec ps.items)
-        (parsed_words (map string_bytes texts.now)) result }
+        (parsed_words no_defaults (map string_bytes texts.now)) result }
+{
+    parse_words(alloc, texts, Defaults::default())
+}
+
+/// The spec of each word, under the defaults.
+pub(crate) fn parse_words(
+    alloc: Global,
+    texts: &[String],
+    defaults: Defaults,
+) -> Result<Vec<Pattern>, Refusal>
+    ensures { ComputesWords (λ ps. map pattern_spec ps.items)
+        (parsed_words defaults (map string_bytes texts.now)) result }
 {
     let mut patterns = Vec::new(alloc);
     for (number, text) in texts.iter().enumerate() {
-        let pattern = parse_word(alloc, number, text)?;
+        let pattern = parse_word(alloc, number, text, defaults)?;
         if patterns.push(pattern).is_err() {
             return Err(Refusal::Memory);
         }
@@ -80,11 +93,16 @@ fn parse_words(alloc: Global, texts: &[String]) -> Result<Vec<Pattern>, Refusal>
 }
 
 /// The spec of the word with this number.
-fn parse_word(alloc: Global, number: usize, text: &String) -> Result<Pattern, Refusal>
+fn parse_word(
+    alloc: Global,
+    number: usize,
+    text: &String,
+    defaults: Defaults,
+) -> Result<Pattern, Refusal>
     ensures { ComputesWords pattern_spec
-        (numbered_result number (parsed_word (string_bytes text.now))) result }
+        (numbered_result number (parsed_word defaults (string_bytes text.now))) result }
 {
-    match parse::parse(alloc, text.as_bytes(), Defaults::default()) {
+    match parse::parse(alloc, text.as_bytes(), defaults) {
         Ok(pattern) => Ok(pattern),
         Err(error) => Err(refusal_of(number, error)),
     }

@@ -1,12 +1,11 @@
 //! Names, states and outcomes by tables, and three look-ups.
-ghost use Rattle.std.specs.Prelude.{◌≡◌, true, map, OnOk};
-ghost use Rattle.pathspec_parts.specs.AttributeStates.{assignment_view};
-ghost use Rattle.pathspec_parts.specs.Outcomes.{names_of, states_of, unspecified, apply_assignments};
-ghost use Rattle.pathspec_parts.specs.AttributeRows.{apply_rows, rows_of, rows_reply};
+ghost use Rattle.std.specs.Prelude.{true};
+ghost use Rattle.pathspec_parts.specs.Outcomes.{states_of, unspecified};
 
 use crate::tests::support::{assert_hashes, assert_rising};
 use bstr::BStr;
-use pathspec_parts::attributes::{Assignment, Case, LookUp, Name, Outcome, State, StateRef};
+use pathspec_parts::attributes::{Assignment, Case, LookUp, Name, Outcome, StateRef};
+use pathspec_select::Rows;
 use std::alloc::{AllocError, Global};
 use std::process::Abort;
 use std::test::Fail;
@@ -67,71 +66,12 @@ impl LookUp for FailsAt {
     }
 }
 
-/// Rows of a path and its assignments, which count in their order.
-#[derive(Drop)]
-struct Rows {
-    rows: Vec<(Vec<u8>, Vec<Assignment>)>,
-    failed: u64,
-}
-
-impl LookUp for Rows {
-    type Fault = AllocError;
-
-    ghost table = { λ it. rows_reply (rows_of it.rows.items) };
-
-    ghost failures = { λ it. it.failed };
-
-    fn look_up(
-        &mut self,
-        path: BStr<'_>,
-        _case: Case,
-        _is_dir: bool,
-        out: &mut Outcome,
-    ) -> Result<bool, AllocError> {
-        match apply_rows(&self.rows, path.as_bytes(), out) {
-            Ok(()) => Ok(true),
-            Err(refused) => {
-                self.failed = self.failed.saturating_add(1);
-                Err(refused)
-            }
-        }
-    }
-}
-
-/// Applies each row of this path.
-fn apply_rows(
-    rows: &[(Vec<u8>, Vec<Assignment>)],
-    path: &[u8],
-    out: &mut Outcome,
-) -> Result<(), AllocError>
-    ensures ok { OnOk result (out.new ≡ apply_rows path.now out.old (rows_of rows.now)) }
-    ensures names { names_of out.new ≡ names_of out.old }
-{
-    for row in rows {
-        if row.0.as_slice() == path {
-            apply(&row.1, out)?;
-        }
-    }
-    Ok(())
-}
-
-/// Sets each assignment.
-fn apply(assignments: &[Assignment], out: &mut Outcome) -> Result<(), AllocError>
-    ensures ok { OnOk result (out.new
-        ≡ apply_assignments out.old (map assignment_view assignments.now)) }
-    ensures names { names_of out.new ≡ names_of out.old }
-{
-    for assignment in assignments {
-        out.set(
-            assignment.name.as_bytes().as_bytes(),
-            assignment.state.as_ref(),
-        )?;
-    }
-    Ok(())
-}
-
 /// Asks a look-up through its bound.
-fn ask<L: LookUp>(look_up: &mut L, path: &str, out: &mut Outcome) -> Result<bool, L::Fault> {
+pub(super) fn ask<L: LookUp>(
+    look_up: &mut L,
+    path: &str,
+    out: &mut Outcome,
+) -> Result<bool, L::Fault> {
     out.reset();
     look_up.look_up(BStr::new(path.as_bytes()), Case::Sensitive, false, out)
 }
@@ -310,10 +250,7 @@ fn rows_set_what_their_path_assigns(rt: HostRuntime) -> Result<(), Fail> {
     let alloc = rt.alloc();
     let (none, unset) = (StateRef::Unspecified, StateRef::Unset);
     let mut found = outcome(alloc)?;
-    let mut rows = Rows {
-        rows: Vec::new(alloc),
-        failed: 0,
-    };
+    let mut rows = Rows::new(alloc);
     for (path, text, state) in [
         ("x", "a", StateRef::Set),
         ("y", "b", unset),
@@ -322,8 +259,7 @@ fn rows_set_what_their_path_assigns(rt: HostRuntime) -> Result<(), Fail> {
     ] {
         let mut assignments = Vec::new(alloc);
         assignments.push(assignment(alloc, text, state)?)?;
-        rows.rows
-            .push((Vec::from_slice(alloc, path.as_bytes())?, assignments))?;
+        rows.push(path.as_bytes(), assignments)?;
     }
     for (path, want) in [
         ("x", [unset, none, unset]),
@@ -333,6 +269,5 @@ fn rows_set_what_their_path_assigns(rt: HostRuntime) -> Result<(), Fail> {
         assert!(rt; ask(&mut rows, path, &mut found)?, "{path}");
         assert!(rt; holds(&found, want), "{path}");
     }
-    assert_eq!(rt; rows.failed, 0);
     Ok(())
 }

@@ -1,4 +1,5 @@
 //! Runs of the whole program, over readers and writers that serve and that fail.
+use crate::tests::support::{USAGE, words_of};
 use pathspec_select::{Environment, Refusal, run};
 use std::alloc::{AllocError, Global};
 use std::io::{self, ErrorKind, Read, Write};
@@ -13,9 +14,6 @@ struct Ending {
     written: Vec<u8>,
 }
 
-const USAGE: &str =
-    "usage: pathspec-select [-z] [--prefix P] [--root R] [--attr PATH LIST]... [--] [SPEC...]";
-
 fn no_environment() -> Environment {
     Environment {
         literal: None,
@@ -23,17 +21,6 @@ fn no_environment() -> Environment {
         glob: None,
         noglob: None,
     }
-}
-
-/// The words of a line, between spaces.
-fn words_of(alloc: Global, line: &str) -> Result<Vec<String>, AllocError> {
-    let mut words = Vec::new(alloc);
-    for word in line.split(' ') {
-        if !word.is_empty() {
-            words.push(String::from_str(alloc, word)?)?;
-        }
-    }
-    Ok(words)
 }
 
 fn status_of(outcome: &Result<(), Refusal>) -> u8 {

@@ -2,7 +2,7 @@
 use bstr::BStr;
 use gix_pathspec::{BuildError, Defaults, Error, Pattern, Search};
 use pathspec_parts::path::is_clean_prefix;
-use std::alloc::Global;
+use std::alloc::{AllocError, Global};
 use std::fmt::Debug;
 use std::hash::{DefaultHasher, Hash, Hasher};
 use std::process::Abort;
@@ -97,4 +97,19 @@ fn hash_of<T: Hash>(value: &T) -> u64 {
     let mut hasher = DefaultHasher::new();
     value.hash(&mut hasher);
     hasher.finish()
+}
+
+/// The line of a wrong use.
+pub(super) const USAGE: &str =
+    "usage: pathspec-select [-z] [--prefix P] [--root R] [--attr PATH LIST]... [--] [SPEC...]";
+
+/// The words of a line, between spaces.
+pub(super) fn words_of(alloc: Global, line: &str) -> Result<Vec<String>, AllocError> {
+    let mut words = Vec::new(alloc);
+    for word in line.split(' ') {
+        if !word.is_empty() {
+            words.push(String::from_str(alloc, word)?)?;
+        }
+    }
+    Ok(words)
 }

@@ -11,4 +11,6 @@ returns-in_err-unchecked_options-clause-options c =
     rw (p.1, p.2) (e.0, options-fault (map string_bytes c.args.words.now) _ e.1)
 
 pub returns-clause-options : goal.returns-clause-options
-returns-clause-options c = rw (options-read (map string_bytes c.args.words.now) _ c.in_ok-unchecked_options.ensures) c.with_clean_prefix.ensures.options
+returns-clause-options c =
+    let read = c.in_ok-unchecked_options.ensures in
+    rw (options-read (map string_bytes c.args.words.now) read.0 read.1) (c.with_clean_prefix.ensures.options read.0 read.2)

@@ -5,4 +5,4 @@ use Rattle.pathspec_select.proofs.WordProofs.{onto}
 use Rattle.pathspec_select.proofs.words.parse_words.Given as goal
 
 abbrev pub invariant-loop-number : goal.invariant-loop-number
-invariant-loop-number l = parsed_words (map string_bytes l.texts) ≡ onto (map pattern_spec l.patterns.items) (try_map_from l.number parsed_word (map string_bytes (drop l.number l.texts)))
+invariant-loop-number l = parsed_words l.defaults (map string_bytes l.texts) ≡ onto (map pattern_spec l.patterns.items) (try_map_from l.number (parsed_word l.defaults) (map string_bytes (drop l.number l.texts)))

@@ -1,0 +1,228 @@
+-- The names in a record, before and after its last slash.
+use Rattle.std.proofs.Common.{◌≡◌, ℕ, ◌+◌, ◌-◌, ◌<◌, Bool, true, false, ◌||◌, ◌&&◌, cond, refl, sym, ◌∙◌, ap, subst, inl, inr, List, [], ◌∷◌, ◌++◌, length, get_or, take, drop, arith, append_assoc, Some, None}
+use Rattle.std.proofs.lemmas.Bool.{cases_Bool, eqb-true, false_from_ne_true}
+use Rattle.std.proofs.lemmas.Bool.Decides.{nat_tests}
+use Rattle.std.proofs.Math.Numerals.{one-add}
+use Rattle.std.proofs.lemmas.List.{take_at, drop_at, length_push, length-drop, take-append-drop, take-append-le, drop-append-le, take_more, get_or-drop}
+use Rattle.std.proofs.lemmas.List.Elements.{All-push, All-from_get_or}
+use Rattle.std.proofs.lemmas.List.Splits.{slice_split_none, slice_split-cons_yes, length-slice_split}
+use Rattle.std.proofs.Math.Seq.{take-append_seam, drop-append_seam}
+use Rattle.std.specs.Prelude.{◌≢◌, All}
+use Rattle.std.specs.List.{slice_split, onto_first, before_first}
+use Rattle.bstr.specs.Find.{IsLastByte, is_byte}
+use Rattle.pathspec_parts.specs.Bytes.{slash, is_empty, first_is, begins_with}
+use Rattle.pathspec_parts.specs.Paths.{is_slash, pieces, ends_with_slash, without_last_slash}
+use Rattle.pathspec_select.specs.Listing.{without_empty_end, record_path, record_names, parent_names, own_names, is_bad, holds_two_slashes}
+use Rattle.pathspec_select.specs.ListingAnswers.{directory_names, has_empty_name}
+use Rattle.pathspec_select.proofs.ListingProofs.{others, split-first}
+use Rattle.pathspec_select.proofs.RecordProofs.{last_cases}
+
+-- ---- parts
+
+onto_first-append : (x : ℕ) (parts more : List (List ℕ)) → 0 < length parts → onto_first x (parts ++ more) ≡ onto_first x parts ++ more
+onto_first-append x [] more l = absurd (omega (arith, l))
+onto_first-append x (part ∷ parts) more l = refl
+
+-- the parts around an element that passes
+slice_split-seam : (p : ℕ → Bool) (xs : List ℕ) (y : ℕ) (ys : List ℕ) → p y ≡ true → slice_split p (xs ++ y ∷ ys) ≡ slice_split p xs ++ slice_split p ys
+slice_split-seam p [] y ys h = slice_split-cons_yes p y ys h
+slice_split-seam p (x ∷ xs) y ys h =
+    let more = slice_split-seam p xs y ys h in
+    elim (cases_Bool (p x)) [
+      | inl t ↦ rw t (ap (λ parts. [] ∷ parts) more)
+      | inr f ↦ rw f (ap (onto_first x) more ∙ onto_first-append x (slice_split p xs) (slice_split p ys) (omega (arith, length-slice_split p xs)))
+    ]
+
+without_empty_end-push : (parts : List (List ℕ)) → without_empty_end (parts ++ [] ∷ []) ≡ parts
+without_empty_end-push [] = refl
+without_empty_end-push (x ∷ []) = refl
+without_empty_end-push (x ∷ y ∷ xs) = ap (λ parts. x ∷ parts) (without_empty_end-push (y ∷ xs))
+
+-- a path that is empty, or has a slash at its end
+pub data IsClosed : List ℕ → Type 0 where
+  empty : IsClosed []
+  after_slash : (front : List ℕ) → IsClosed (front ++ slash ∷ [])
+
+-- the parts of such a path and a name
+pieces-closed : (path name : List ℕ) → IsClosed path → All (λ b. is_slash b ≡ false) name → pieces (path ++ name) ≡ directory_names path ++ name ∷ []
+pieces-closed _ name empty none = slice_split_none is_slash name none
+pieces-closed _ name (after_slash front) none =
+    let names : directory_names (front ++ slash ∷ []) ≡ pieces front = ap without_empty_end (slice_split-seam is_slash front slash [] refl) ∙ without_empty_end-push (pieces front) in
+    ap pieces (append_assoc front (slash ∷ []) name) ∙ (slice_split-seam is_slash front slash name refl ∙ (ap (λ t. pieces front ++ t) (slice_split_none is_slash name none) ∙ ap (λ t. t ++ name ∷ []) (sym names)))
+
+-- ---- a last byte
+
+ends_with_slash-push : (front : List ℕ) (b : ℕ) → ends_with_slash (front ++ b ∷ []) ≡ is_slash b
+ends_with_slash-push front b =
+    let at : length (front ++ b ∷ []) - 1 ≡ length front = omega (arith, length_push front b) in
+    rw (at, drop-append_seam front (b ∷ [])) (grind (arith, nat_tests))
+
+without_last_slash-push : (front : List ℕ) (b : ℕ) → without_last_slash (front ++ b ∷ []) ≡ cond (is_slash b) front (front ++ b ∷ [])
+without_last_slash-push front b =
+    let at : length (front ++ b ∷ []) - 1 ≡ length front = omega (arith, length_push front b) in
+    ap (λ t. cond t (take (length (front ++ b ∷ []) - 1) (front ++ b ∷ [])) (front ++ b ∷ [])) (ends_with_slash-push front b)
+    ∙ ap (λ t. cond (is_slash b) t (front ++ b ∷ [])) (ap (λ n. take n (front ++ b ∷ [])) at ∙ take-append_seam front (b ∷ []))
+
+-- ---- a record that is cut
+
+-- its path is that of its directory and its name
+pub record NamesAre (text path name : List ℕ) : Type 0 where
+  pub parents : directory_names path ≡ parent_names text
+  pub own : own_names text ≡ name ∷ []
+
+names_are : (text path name : List ℕ) → IsClosed path → All (λ b. is_slash b ≡ false) name → record_path text ≡ path ++ name → NamesAre text path name
+names_are text path name closed none h =
+    let names = record_names text in
+    let e : names ≡ directory_names path ++ name ∷ [] = ap pieces h ∙ pieces-closed path name closed none in
+    let k : length (directory_names path) ≡ length names - 1 = omega (arith, ap length e, length_push (directory_names path) name) in
+    record {
+      parents = sym (ap (take (length names - 1)) e ∙ take_at (directory_names path) (name ∷ []) (length names - 1) k);
+      own = ap (drop (length names - 1)) e ∙ drop_at (directory_names path) (name ∷ []) (length names - 1) k;
+    }
+
+-- a record that is cut at its last slash before its last byte
+pub cut_names : (path middle : List ℕ) (b : ℕ) → IsClosed path → All (λ x. is_slash x ≡ false) middle → NamesAre ((path ++ middle) ++ b ∷ []) path (without_last_slash (middle ++ b ∷ []))
+cut_names path middle b closed none =
+    let text = (path ++ middle) ++ b ∷ [] in
+    let whole = without_last_slash-push (path ++ middle) b in
+    let last = without_last_slash-push middle b in
+    elim (cases_Bool (is_slash b)) [
+      | inl t ↦
+          let name : without_last_slash (middle ++ b ∷ []) ≡ middle = last ∙ ap (λ t. cond t middle (middle ++ b ∷ [])) t in
+          subst (NamesAre text path) (sym name) (names_are text path middle closed none (whole ∙ ap (λ t. cond t (path ++ middle) text) t))
+      | inr f ↦
+          let name : without_last_slash (middle ++ b ∷ []) ≡ middle ++ b ∷ [] = last ∙ ap (λ t. cond t middle (middle ++ b ∷ [])) f in
+          subst (NamesAre text path) (sym name) (names_are text path (middle ++ b ∷ []) closed (All-push (λ x. is_slash x ≡ false) middle b none f)
+          (whole ∙ (ap (λ t. cond t (path ++ middle) text) f ∙ append_assoc path middle (b ∷ []))))
+    ]
+
+-- ---- bad records
+
+-- the first part is empty where a slash begins the text with a slash after it
+first_part : (text : List ℕ) → is_empty (before_first is_slash text) ≡ first_is is_slash (text ++ slash ∷ [])
+first_part [] = refl
+first_part (b ∷ bs) = elim (cases_Bool (is_slash b)) [
+  | inl t ↦ rw t refl
+  | inr f ↦ rw (f, one-add) refl
+]
+
+has_empty_name-first : (text : List ℕ) → has_empty_name (pieces text) ≡ (first_is is_slash (text ++ slash ∷ []) || has_empty_name (drop 1 (pieces text)))
+has_empty_name-first text =
+    let parts = split-first is_slash text in
+    ap has_empty_name parts ∙ (ap (λ t. t || has_empty_name (others is_slash text)) (first_part text) ∙ ap (λ t. first_is is_slash (text ++ slash ∷ []) || has_empty_name (drop 1 t)) (sym parts))
+
+-- a later one, where it holds two in a row
+has_empty_name-later : (text : List ℕ) → has_empty_name (drop 1 (pieces text)) ≡ holds_two_slashes (text ++ slash ∷ [])
+has_empty_name-later [] = refl
+has_empty_name-later (b ∷ bs) = elim (cases_Bool (is_slash b)) [
+  | inl t ↦ rw t (has_empty_name-first bs ∙ ap (λ t. first_is is_slash (bs ++ slash ∷ []) || t) (has_empty_name-later bs))
+  | inr f ↦ rw f (ap has_empty_name (same_later (pieces bs)) ∙ has_empty_name-later bs)
+]
+  where
+    same_later : (parts : List (List ℕ)) → drop 1 (onto_first b parts) ≡ drop 1 parts
+    same_later [] = refl
+    same_later (part ∷ parts) = refl
+
+has_empty_name-pieces : (text : List ℕ) → has_empty_name (pieces text) ≡ (first_is is_slash (text ++ slash ∷ []) || holds_two_slashes (text ++ slash ∷ []))
+has_empty_name-pieces text = has_empty_name-first text ∙ ap (λ t. first_is is_slash (text ++ slash ∷ []) || t) (has_empty_name-later text)
+
+begins_with-slash : (text : List ℕ) → begins_with text (slash ∷ []) ≡ first_is is_slash text
+begins_with-slash [] = refl
+begins_with-slash (b ∷ bs) = grind (arith, nat_tests)
+
+first_is-push : (front : List ℕ) (b : ℕ) (more : List ℕ) → first_is is_slash ((front ++ b ∷ []) ++ more) ≡ first_is is_slash (front ++ b ∷ [])
+first_is-push [] b more = refl
+first_is-push (x ∷ front) b more = refl
+
+-- a slash after a last byte that is none
+holds_two_slashes-push : (front : List ℕ) (b : ℕ) → is_slash b ≡ false → holds_two_slashes ((front ++ b ∷ []) ++ slash ∷ []) ≡ holds_two_slashes (front ++ b ∷ [])
+holds_two_slashes-push [] b f = rw f refl
+holds_two_slashes-push (x ∷ front) b f =
+    ap (λ t. is_slash x && first_is is_slash ((front ++ b ∷ []) ++ slash ∷ []) || t) (holds_two_slashes-push front b f)
+    ∙ ap (λ t. is_slash x && t || holds_two_slashes (front ++ b ∷ [])) (first_is-push front b (slash ∷ []))
+
+is_bad-push : (front : List ℕ) (b : ℕ) → is_bad (front ++ b ∷ []) ≡ (first_is is_slash (front ++ b ∷ []) || holds_two_slashes (front ++ b ∷ []))
+is_bad-push [] b = ap (λ t. t || holds_two_slashes (b ∷ [])) (begins_with-slash (b ∷ []))
+is_bad-push (x ∷ front) b = ap (λ t. t || holds_two_slashes (x ∷ front ++ b ∷ [])) (begins_with-slash (x ∷ front ++ b ∷ []))
+
+has_empty_name-push : (front : List ℕ) (b : ℕ) → has_empty_name (record_names (front ++ b ∷ [])) ≡ is_bad (front ++ b ∷ [])
+has_empty_name-push front b = elim (cases_Bool (is_slash b)) [
+  | inl t ↦
+      let path : record_path (front ++ b ∷ []) ≡ front = without_last_slash-push front b ∙ ap (λ t. cond t front (front ++ b ∷ [])) t in
+      let same : slash ≡ b = sym (eqb-true b slash t) in
+      ap (λ x. has_empty_name (pieces x)) path ∙ (has_empty_name-pieces front ∙ (ap (λ x. first_is is_slash (front ++ x ∷ []) || holds_two_slashes (front ++ x ∷ [])) same ∙ sym (is_bad-push front b)))
+  | inr f ↦
+      let path : record_path (front ++ b ∷ []) ≡ front ++ b ∷ [] = without_last_slash-push front b ∙ ap (λ t. cond t front (front ++ b ∷ [])) f in
+      ap (λ x. has_empty_name (pieces x)) path ∙ (has_empty_name-pieces (front ++ b ∷ [])
+      ∙ (ap (λ t. t || holds_two_slashes ((front ++ b ∷ []) ++ slash ∷ [])) (first_is-push front b (slash ∷ []))
+      ∙ (ap (λ t. first_is is_slash (front ++ b ∷ []) || t) (holds_two_slashes-push front b f) ∙ sym (is_bad-push front b))))
+]
+
+-- A record is bad just where one of its names is empty.
+pub has_empty_name-record : (text : List ℕ) → has_empty_name (record_names text) ≡ is_bad text
+has_empty_name-record [] = refl
+has_empty_name-record (b ∷ bs) =
+    let c = last_cases (b ∷ bs) (omega arith) in
+    subst (λ t. has_empty_name (record_names t) ≡ is_bad t) (sym c.2) (has_empty_name-push c.0 c.1)
+
+-- ---- the last slash before the last byte
+
+cut_none : (within : List ℕ) (b : ℕ) → IsLastByte (is_byte slash) within None → NamesAre (within ++ b ∷ []) [] (without_last_slash (within ++ b ∷ []))
+cut_none within b h = cut_names [] within b empty (All-from_get_or (λ x. is_slash x ≡ false) within 0 (λ k low. false_from_ne_true _ (h k (omega arith) low)))
+
+cut_some : (within : List ℕ) (b i : ℕ) → IsLastByte (is_byte slash) within (Some i) → NamesAre (within ++ b ∷ []) (take (i + 1) within) (without_last_slash (drop (i + 1) within ++ b ∷ []))
+cut_some within b i h =
+    let inside : i < length within = h.0.high in
+    let here : get_or within i 0 ≡ slash = eqb-true (get_or within i 0) slash h.1 in
+    let closed : take (i + 1) within ≡ take i within ++ slash ∷ [] = take_more within i 0 inside ∙ ap (λ x. take i within ++ x ∷ []) here in
+    let none : All (λ x. is_slash x ≡ false) (drop (i + 1) within) = All-from_get_or (λ x. is_slash x ≡ false) (drop (i + 1) within) 0 (λ k low.
+    let there : get_or (drop (i + 1) within) k 0 ≡ get_or within ((i + 1) + k) 0 = get_or-drop (i + 1) within k 0 in
+    rw there (false_from_ne_true _ (h.0.after ((i + 1) + k) (omega arith) (omega (arith, low, length-drop (i + 1) within))))) in
+    subst (λ t. NamesAre (t ++ b ∷ []) (take (i + 1) within) (without_last_slash (drop (i + 1) within ++ b ∷ []))) (take-append-drop (i + 1) within)
+    (cut_names (take (i + 1) within) (drop (i + 1) within) b (subst IsClosed (sym closed) (after_slash (take i within))) none)
+
+-- a text is what stands before its last byte, and that byte
+with_last : (text : List ℕ) → text ≢ [] → (b : ℕ) × (take (length text - 1) text ++ b ∷ [] ≡ text)
+with_last [] h = absurd (h refl)
+with_last (x ∷ xs) h =
+    let c = last_cases (x ∷ xs) (omega arith) in
+    let at : length (x ∷ xs) - 1 ≡ length c.0 = omega (arith, ap length c.2, length_push c.0 c.1) in
+    (c.1, ap (λ t. t ++ c.1 ∷ []) (ap (λ n. take n (x ∷ xs)) at ∙ (ap (take (length c.0)) c.2 ∙ take-append_seam c.0 (c.1 ∷ []))) ∙ sym c.2)
+
+pub names_at_none : (text : List ℕ) → text ≢ [] → IsLastByte (is_byte slash) (take (length text - 1) text) None → NamesAre text (take 0 text) (without_last_slash (drop 0 text))
+names_at_none text some h =
+    let w = with_last text some in
+    subst (λ t. NamesAre t [] (without_last_slash t)) w.1 (cut_none (take (length text - 1) text) w.0 h)
+
+pub names_at_some : (text : List ℕ) (i : ℕ) → text ≢ [] → IsLastByte (is_byte slash) (take (length text - 1) text) (Some i) → NamesAre text (take (i + 1) text) (without_last_slash (drop (i + 1) text))
+names_at_some text i some h =
+    let w = with_last text some in
+    let within = take (length text - 1) text in
+    let inside : i < length within = h.0.high in
+    let path : take (i + 1) text ≡ take (i + 1) within = ap (take (i + 1)) (sym w.1) ∙ take-append-le (i + 1) within (w.0 ∷ []) (omega (arith, inside)) in
+    let name : drop (i + 1) text ≡ drop (i + 1) within ++ w.0 ∷ [] = ap (drop (i + 1)) (sym w.1) ∙ drop-append-le (i + 1) within (w.0 ∷ []) (omega (arith, inside)) in
+    subst (λ t. NamesAre text t (without_last_slash (drop (i + 1) text))) (sym path) (subst (λ t. NamesAre text (take (i + 1) within) (without_last_slash t)) (sym name)
+    (subst (λ t. NamesAre t (take (i + 1) within) (without_last_slash (drop (i + 1) within ++ w.0 ∷ []))) w.1 (cut_some within w.0 i h)))
+
+-- the same of the two parts
+pub names_moved : (text front back : List ℕ) (n m : ℕ) → n ≡ m → front ≡ take n text → back ≡ drop n text → NamesAre text (take m text) (without_last_slash (drop m text)) → NamesAre text front (without_last_slash back)
+names_moved text front back n m e f b h =
+    let there : take m text ≡ front = sym (f ∙ ap (λ k. take k text) e) in
+    let rest : drop m text ≡ back = sym (b ∙ ap (λ k. drop k text) e) in
+    subst (λ t. NamesAre text t (without_last_slash back)) there (subst (λ t. NamesAre text (take m text) (without_last_slash t)) rest h)
+
+-- ---- the path of a directory's record
+
+directory_names-push : (front : List ℕ) (b : ℕ) → is_slash b ≡ true → directory_names (front ++ b ∷ []) ≡ record_names (front ++ b ∷ [])
+directory_names-push front b t =
+    let same : slash ≡ b = sym (eqb-true b slash t) in
+    let path : record_path (front ++ b ∷ []) ≡ front = without_last_slash-push front b ∙ ap (λ t. cond t front (front ++ b ∷ [])) t in
+    subst (λ x. directory_names (front ++ x ∷ []) ≡ pieces front) same (ap without_empty_end (slice_split-seam is_slash front slash [] refl) ∙ without_empty_end-push (pieces front)) ∙ ap pieces (sym path)
+
+-- It names the directories that are open after it.
+pub directory_names-record : (text : List ℕ) → ends_with_slash text ≡ true → directory_names text ≡ record_names text
+directory_names-record [] t = let no_end : false ≡ true = t in cc
+directory_names-record (b ∷ bs) t =
+    let c = last_cases (b ∷ bs) (omega arith) in
+    let end : is_slash c.1 ≡ true = sym (ends_with_slash-push c.0 c.1) ∙ (ap ends_with_slash (sym c.2) ∙ t) in
+    subst (λ x. directory_names x ≡ record_names x) (sym c.2) (directory_names-push c.0 c.1 end)

@@ -1,0 +1,14 @@
+-- The words are read, and then the prefix is looked at.
+use Rattle.std.proofs.Common.{map, string_bytes}
+use Rattle.std.proofs.lemmas.Result.{err_from_is_err_and}
+use Rattle.pathspec_select.proofs.PlainOptionProofs.{options-fault, options-read}
+use Rattle.pathspec_select.proofs.plain_options.options_from_words.Goals as goal
+
+pub returns-in_err-unchecked_options-clause-options : goal.returns-in_err-unchecked_options-clause-options
+returns-in_err-unchecked_options-clause-options c =
+    let p = err_from_is_err_and c.from_residual.result c.from_residual.ensures.1 in
+    let e = c.in_err-unchecked_options.ensures in
+    rw (p.1, p.2) (e.0, options-fault (map string_bytes c.args.words.now) _ e.1)
+
+pub returns-clause-options : goal.returns-clause-options
+returns-clause-options c = rw (options-read (map string_bytes c.args.words.now) _ c.in_ok-unchecked_options.ensures) c.with_clean_prefix.ensures.options

@@ -1,0 +1,114 @@
+-- Each turn visits the next entry that the walk sees.
+use Rattle.std.proofs.Common.{◌≡◌, ℕ, ◌-◌, ◌<◌, length, List, [], refl, sym, ap, subst, ◌∙◌, Some, None}
+use Rattle.pathspec_parts.specs.Attributes.{Table}
+use Rattle.pathspec_parts.specs.Entries.{Entry}
+use Rattle.pathspec_parts.specs.Trees.{IsNested}
+use Rattle.pathspec_parts.specs.Cursors.{CursorContents, IsNew, next_seen, append_if, next_number, cursor_at, path_at, is_dir_at}
+use Rattle.gix_pathspec.specs.Specs.{Spec}
+use Rattle.gix_pathspec.specs.Matching.{is_chosen}
+use Rattle.gix_pathspec.specs.Search.{SearchContents, specs_of}
+use Rattle.gix_pathspec.specs.SelectionLaws.{NoNilPrefix}
+use Rattle.pathspec_select.specs.Walks.{IsWalk, HasWalked, HasChosen}
+use Rattle.pathspec_select.proofs.EnteredProofs.{given_is_one, entered_is_one}
+use Rattle.pathspec_select.proofs.SelectProofs.{after_visit, path_some, nearer, at_start, one_on, at_end}
+use Rattle.pathspec_select.proofs.walk.select.Goals as goal
+
+-- a list that is empty, by whatever name
+start_as : (table : Table) (specs : List Spec) (c : CursorContents) → IsNew c → (given : List ℕ) → given ≡ [] → HasChosen table specs c.entries (next_number c) given c.entered
+start_as table specs c new given e = subst (λ xs. HasChosen table specs c.entries (next_number c) xs c.entered) (sym e) (at_start table specs c new)
+
+-- what the visit says, by the specs and the look-up that the walk began with
+visit_is : (specs now : List Spec) (c m d : CursorContents) (n : ℕ) → m ≡ cursor_at c (Some n) → now ≡ specs → d ≡ after_visit now m → d ≡ after_visit specs (cursor_at c (Some n))
+visit_is specs now c m d n e a v = v ∙ (ap (after_visit now) e ∙ ap (λ x. after_visit x (cursor_at c (Some n))) a)
+
+given_is : (table before : Table) (specs now : List Spec) (c m : CursorContents) (n : ℕ) (given more : List ℕ) → m ≡ cursor_at c (Some n) → before ≡ table → now ≡ specs → more ≡ append_if (is_chosen before now (path_at m) (is_dir_at m)) n given
+    → more ≡ append_if (is_chosen table specs (path_at (cursor_at c (Some n))) (is_dir_at (cursor_at c (Some n)))) n given
+given_is table before specs now c m n given more e b a v =
+    let at = cursor_at c (Some n) in
+    v ∙ (ap (λ (x : CursorContents). append_if (is_chosen before now (path_at x) (is_dir_at x)) n given) e ∙ (ap (λ x. append_if (is_chosen x now (path_at at) (is_dir_at at)) n given) b ∙ ap (λ x. append_if (is_chosen table x (path_at at) (is_dir_at at)) n given) a))
+
+-- one step, over the entries that the walk began with
+step : (table : Table) (specs : List Spec) → NoNilPrefix specs → (es : List Entry) (c d : CursorContents) (given more : List ℕ) → c.entries ≡ es → IsNested c.entries → HasChosen table specs es (next_number c) given c.entered
+    → (n : ℕ) → Some n ≡ next_seen c.entered (next_number c) c.entries → more ≡ append_if (is_chosen table specs (path_at (cursor_at c (Some n))) (is_dir_at (cursor_at c (Some n)))) n given → d ≡ after_visit specs (cursor_at c (Some n))
+    → HasChosen table specs es (next_number d) more d.entered
+step table specs none es c d given more e nested h n next m v =
+    subst (λ x. HasChosen table specs x (next_number d) more d.entered) e (one_on table specs none c d given more nested (subst (λ x. HasChosen table specs x (next_number c) given c.entered) (sym e) h) n next m v)
+
+-- the end, over the same
+finish : (table : Table) (specs : List Spec) → NoNilPrefix specs → (es : List Entry) (c d : CursorContents) (given : List ℕ) → c.entries ≡ es → IsNested c.entries → HasChosen table specs es (next_number c) given c.entered
+    → None ≡ next_seen c.entered (next_number c) c.entries → d ≡ cursor_at c None → IsWalk table specs es given d.entered × HasWalked specs es (length es) d.entered
+finish table specs none es c d given e nested h next m =
+    subst (λ x. IsWalk table specs es given x × HasWalked specs es (length es) x) (ap (λ (x : CursorContents). x.entered) (sym m))
+    (subst (λ x. IsWalk table specs x given c.entered × HasWalked specs x (length x) c.entered) e (at_end table specs none c given nested (subst (λ x. HasChosen table specs x (next_number c) given c.entered) (sym e) h) next))
+
+-- the same over the visited cursor's entries
+nearer_as : (specs : List Spec) (c d : CursorContents) (n : ℕ) → c.entries ≡ d.entries → Some n ≡ next_seen c.entered (next_number c) c.entries → d ≡ after_visit specs (cursor_at c (Some n)) → length d.entries - next_number d < length c.entries - next_number c
+nearer_as specs c d n e next v = subst (λ (es : List Entry). length es - next_number d < length c.entries - next_number c) e (nearer specs c d n next v)
+
+pub loop-place-init : goal.loop-place-init
+loop-place-init g c = record {
+  course = start_as (g.L.LookUp.table c.args.look_up.now) (specs_of c.args.search.now.specs) c.args.cursor.now c.requires c.new-given.result.items c.new-given.ensures.items;
+  tree = refl;
+  search = refl;
+  table = refl;
+  count = refl;
+}
+
+pub visit-requires : goal.visit-requires
+visit-requires g c =
+    let e = c.in-Some.ensures in
+    λ q. path_some c.loop-place.cursor c.in-Some.place e.nested e.next (ap path_at (sym e.place) ∙ q)
+
+pub loop-place-smaller : goal.loop-place-smaller
+loop-place-smaller g c =
+    let e = c.in-Some.ensures in
+    let v = c.in_ok-visit.ensures in
+    let specs = specs_of c.loop-place.search.specs in
+    nearer_as specs c.loop-place.cursor c.visit.new.cursor c.in-Some.place (sym (v.tree ∙ ap (λ (x : CursorContents). x.entries) e.place)) e.next (v.entered ∙ ap (after_visit specs) e.place)
+
+pub loop-place-preserved : goal.loop-place-preserved
+loop-place-preserved g c =
+    let at = c.loop-place.cursor in
+    let i = c.loop-place.invariant in
+    let e = c.in-Some.ensures in
+    let v = c.in_ok-visit.ensures in
+    let table = g.L.LookUp.table c.args.look_up.now in
+    let before = g.L.LookUp.table c.loop-place.look_up in
+    let specs = specs_of c.args.search.now.specs in
+    let now = specs_of c.loop-place.search.specs in
+    let same = ap (λ (x : SearchContents). specs_of x.specs) i.search in
+    record {
+      course = step table specs c.nil_specs_lack_a_prefix.ensures c.args.cursor.now.entries at c.visit.new.cursor c.loop-place.given.items c.visit.new.given.items i.tree e.nested i.course c.in-Some.place e.next
+          (given_is table before specs now at c.next.new.self c.in-Some.place c.loop-place.given.items c.visit.new.given.items e.place i.table same v.given)
+          (visit_is specs now at c.next.new.self c.visit.new.cursor c.in-Some.place e.place same v.entered);
+      tree = v.tree ∙ (ap (λ (x : CursorContents). x.entries) e.place ∙ i.tree);
+      search = v.search ∙ i.search;
+      table = v.table_stays ∙ i.table;
+      count = v.counts ∙ i.count;
+    }
+
+pub returns-clause-walk : goal.returns-clause-walk
+returns-clause-walk g c =
+    let i = c.loop-place.invariant in
+    let e = c.in_default.ensures in
+    (finish (g.L.LookUp.table c.args.look_up.now) (specs_of c.args.search.now.specs) c.nil_specs_lack_a_prefix.ensures c.args.cursor.now.entries c.loop-place.cursor c.next.new.self c.loop-place.given.items i.tree e.nested i.course e.next e.place).0
+
+pub returns-clause-entered : goal.returns-clause-entered
+returns-clause-entered g c =
+    let i = c.loop-place.invariant in
+    let e = c.in_default.ensures in
+    (finish (g.L.LookUp.table c.args.look_up.now) (specs_of c.args.search.now.specs) c.nil_specs_lack_a_prefix.ensures c.args.cursor.now.entries c.loop-place.cursor c.next.new.self c.loop-place.given.items i.tree e.nested i.course e.next e.place).1
+
+-- ---- the laws
+
+pub returns-clause-given : goal.returns-clause-given
+returns-clause-given g c = given_is_one (g.L.LookUp.table c.args.look_up.now) (specs_of c.args.search.now.specs)
+
+pub returns-clause-trail : goal.returns-clause-trail
+returns-clause-trail g c = entered_is_one
+
+pub returns-in_err-visit-clause-given : goal.returns-in_err-visit-clause-given
+returns-in_err-visit-clause-given g c = given_is_one (g.L.LookUp.table c.args.look_up.now) (specs_of c.args.search.now.specs)
+
+pub returns-in_err-visit-clause-trail : goal.returns-in_err-visit-clause-trail
+returns-in_err-visit-clause-trail g c = entered_is_one

@@ -1,0 +1,17 @@
+use Rattle.std.proofs.Common.{◌≡◌, ◌-◌, length}
+use Rattle.pathspec_parts.specs.Cursors.{next_number}
+use Rattle.gix_pathspec.specs.Search.{specs_of}
+use Rattle.pathspec_select.specs.Walks.{HasChosen}
+use Rattle.pathspec_select.proofs.walk.select.Given as goal
+
+abbrev pub invariant-loop-place : goal.invariant-loop-place
+invariant-loop-place g l = record {
+  course : HasChosen (g.L.LookUp.table l.fn.look_up) (specs_of l.fn.search.specs) l.fn.cursor.entries (next_number l.cursor) l.given.items l.cursor.entered;
+  tree : l.cursor.entries ≡ l.fn.cursor.entries;
+  search : l.search ≡ l.fn.search;
+  table : g.L.LookUp.table l.look_up ≡ g.L.LookUp.table l.fn.look_up;
+  count : g.L.LookUp.failures l.look_up ≡ g.L.LookUp.failures l.fn.look_up;
+}
+
+abbrev pub decreases-loop-place : goal.decreases-loop-place
+decreases-loop-place g l = length l.cursor.entries - next_number l.cursor

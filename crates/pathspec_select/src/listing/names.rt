@@ -1,0 +1,49 @@
+//! The names in a record, and the directories that two paths share.
+ghost use Rattle.std.specs.Prelude.{◌≡◌, ◌≢◌, [], ◌∷◌, drop};
+ghost use Rattle.pathspec_parts.specs.Paths.{ends_with_slash, without_last_slash};
+ghost use Rattle.pathspec_select.specs.Listing.{record_is_dir, parent_names, own_names, shared_depth, implied_names};
+ghost use Rattle.pathspec_select.specs.ListingAnswers.{directory_names};
+
+use bstr::ByteSlice;
+use pathspec_parts::split;
+
+/// A record, cut after the last slash that isn't at its end: the path of the directory that it lies in, and its own
+/// name, which has a slash at its end if it is a directory's.
+///
+/// It looks at each byte of the name.
+pub(super) fn split_name(text: &[u8]) -> (&[u8], &[u8])
+    requires { text.now ≢ [] }
+    ensures parents { directory_names result.0.now ≡ parent_names text.now }
+    ensures name { own_names text.now ≡ without_last_slash result.1.now ∷ [] }
+    ensures kind { ends_with_slash result.1.now ≡ record_is_dir text.now }
+{
+    let within = &text[..text.len() - 1];
+    let length = match within.rfind_byte(b'/') {
+        Some(slash) => slash + 1,
+        None => 0,
+    };
+    text.split_at(length)
+}
+
+/// What stands in the paths of two directories after the names that both begin with.
+///
+/// It looks at each byte of those names, and of one more.
+pub(super) fn after_shared<'a>(directory: &'a [u8], wanted: &'a [u8]) -> (&'a [u8], &'a [u8])
+    ensures left { let names = directory_names directory.now in directory_names result.0.now
+        ≡ drop (shared_depth names (directory_names wanted.now)) names }
+    ensures missing { directory_names result.1.now
+        ≡ implied_names (directory_names directory.now) (directory_names wanted.now) }
+{
+    let mut left = directory;
+    let mut missing = wanted;
+    while !left.is_empty() && !missing.is_empty() {
+        let (name, left_after) = split::at_first(left, b'/');
+        let (wanted_name, missing_after) = split::at_first(missing, b'/');
+        if name != wanted_name {
+            break;
+        }
+        left = left_after;
+        missing = missing_after;
+    }
+    (left, missing)
+}

@@ -1,0 +1,175 @@
+//! The attributes that the option `--attr` gives paths.
+ghost use Rattle.std.specs.Prelude.{◌≡◌, Ok, [], ◌∷◌, ◌++◌, map, IfOk, OnOk, OnErr, string_bytes};
+ghost use Rattle.pathspec_parts.specs.AttributeStates.{assignment_view};
+ghost use Rattle.pathspec_parts.specs.Outcomes.{names_of, apply_assignments};
+ghost use Rattle.pathspec_parts.specs.AttributeRows.{apply_rows, rows_of};
+ghost use Rattle.pathspec_pattern.specs.AttributeLists.{assignments_of};
+ghost use Rattle.pathspec_select.specs.Listing.{table_of};
+ghost use Rattle.pathspec_select.specs.Options.{Options as OptionsView, with_setting};
+ghost use Rattle.pathspec_select.specs.Options.Setting.{HasList};
+ghost use Rattle.pathspec_select.specs.OptionWords.{setting_view};
+ghost use Rattle.pathspec_select.specs.Rows.{RowsContents, list_result, rows_of_options, rows_of_words, ComputesRows};
+
+use crate::Refusal;
+use crate::options::{self, Setting, Words};
+use bstr::BStr;
+use gix_pathspec::{Error, parse};
+use pathspec_parts::attributes::{Assignment, Case, LookUp, Outcome};
+use std::alloc::{AllocError, Global};
+use std::marker::Model;
+
+/// Rows of a path and the attributes that are assigned to it. As a look-up they answer every question: each row whose
+/// path is the question's sets its assignments, in the order of the rows.
+#[derive(Debug, Drop)]
+pub struct Rows {
+    rows: Vec<(Vec<u8>, Vec<Assignment>)>,
+    failed: u64,
+}
+
+impl Model for Rows {
+    ghost Value = { RowsContents };
+
+    ghost view = { λ r. record { rows = rows_of r.rows.items; failures = r.failed } };
+}
+
+impl Rows {
+    /// No rows. It takes no memory.
+    pub fn new(alloc: Global) -> Rows
+        ensures { result ≡ record { rows = []; failures = 0 } }
+    {
+        Rows {
+            rows: Vec::new(alloc),
+            failed: 0,
+        }
+    }
+
+    /// Adds a row after the others: a path, which is copied, and what is assigned there.
+    ///
+    /// # Errors
+    /// [`AllocError`], and the rows are as before.
+    pub fn push(&mut self, path: &[u8], assignments: Vec<Assignment>) -> Result<(), AllocError>
+        ensures ok { OnOk result (self.new.rows ≡ self.old.rows
+            ++ record { path = path.now; assignments = map assignment_view assignments.items } ∷ []) }
+        ensures err { OnErr result (self.new ≡ self.old) }
+        ensures failures { self.new.failures ≡ self.old.failures }
+    {
+        let path = Vec::from_slice(*self.rows.allocator(), path)?;
+        self.rows.push((path, assignments))?;
+        Ok(())
+    }
+}
+
+impl LookUp for Rows {
+    type Fault = AllocError;
+
+    ghost table = { λ it. table_of it.rows };
+
+    ghost failures = { λ it. it.failures };
+
+    fn look_up(
+        &mut self,
+        path: BStr<'_>,
+        _case: Case,
+        _is_dir: bool,
+        out: &mut Outcome,
+    ) -> Result<bool, AllocError> {
+        match apply_rows(&self.rows, path.as_bytes(), out) {
+            Ok(()) => Ok(true),
+            Err(refused) => {
+                self.failed = self.failed.saturating_add(1);
+                Err(refused)
+            }
+        }
+    }
+}
+
+/// Applies each row of this path.
+fn apply_rows(
+    rows: &[(Vec<u8>, Vec<Assignment>)],
+    path: &[u8],
+    out: &mut Outcome,
+) -> Result<(), AllocError>
+    ensures ok { OnOk result (out.new ≡ apply_rows path.now out.old (rows_of rows.now)) }
+    ensures names { names_of out.new ≡ names_of out.old }
+{
+    for row in rows {
+        if row.0.as_slice() == path {
+            apply(&row.1, out)?;
+        }
+    }
+    Ok(())
+}
+
+/// Sets each assignment.
+fn apply(assignments: &[Assignment], out: &mut Outcome) -> Result<(), AllocError>
+    ensures ok { OnOk result (out.new
+        ≡ apply_assignments out.old (map assignment_view assignments.now)) }
+    ensures names { names_of out.new ≡ names_of out.old }
+{
+    for assignment in assignments {
+        out.set(
+            assignment.name.as_bytes().as_bytes(),
+            assignment.state.as_ref(),
+        )?;
+    }
+    Ok(())
+}
+
+/// The rows of the lists of attributes among the options.
+///
+/// # Errors
+/// [`Refusal::Usage`]: an option is unknown or lacks an argument, or a list can't be read; [`Refusal::Memory`].
+pub(crate) fn rows_from_words(alloc: Global, words: &[String]) -> Result<Rows, Refusal>
+    ensures rows { ComputesRows (λ rows. rows.rows)
+        (rows_of_words (map string_bytes words.now)) result }
+    ensures fresh { IfOk result (λ rows. rows.failures ≡ 0) }
+{
+    let mut rows = Rows::new(alloc);
+    let mut left = words;
+    loop {
+        match options::first_option(left)? {
+            Words::Specs(_) => return Ok(rows),
+            Words::After(setting, others) => {
+                add_setting(alloc, &mut rows, setting)?;
+                left = others;
+            }
+        }
+    }
+}
+
+/// Adds the row of an option, where it is a list of attributes.
+fn add_setting(alloc: Global, rows: &mut Rows, setting: Setting<'_>) -> Result<(), Refusal>
+    ensures row { (options : OptionsView) → rows_of_options options ≡ Ok rows.old.rows
+        → ComputesRows (λ _. rows.new.rows)
+        (rows_of_options (with_setting (setting_view setting.entry) options)) result }
+    ensures failures { rows.new.failures ≡ rows.old.failures }
+{
+    match setting {
+        Setting::EndsByNul | Setting::HasPrefix(_) | Setting::HasRoot(_) => Ok(()),
+        Setting::HasList(path, list) => add_row(alloc, rows, path, list),
+    }
+}
+
+/// Adds the row of a path and a list of attributes.
+fn add_row(alloc: Global, rows: &mut Rows, path: &[u8], list: &[u8]) -> Result<(), Refusal>
+    ensures row { (options : OptionsView) → rows_of_options options ≡ Ok rows.old.rows
+        → ComputesRows (λ _. rows.new.rows)
+        (rows_of_options (with_setting (HasList path.now list.now) options)) result }
+    ensures failures { rows.new.failures ≡ rows.old.failures }
+{
+    let assignments = assignments_of(alloc, list)?;
+    rows.push(path, assignments)?;
+    Ok(())
+}
+
+/// What a list of attributes assigns.
+fn assignments_of(alloc: Global, list: &[u8]) -> Result<Vec<Assignment>, Refusal>
+    ensures { ComputesRows (λ all. map assignment_view all.items)
+        (list_result (assignments_of list.now)) result }
+{
+    match parse::attributes(alloc, list) {
+        Ok(assignments) => Ok(assignments),
+        Err(Error::Memory) => Err(Refusal::Memory),
+        Err(_) => Err(Refusal::Usage),
+    }
+}

@@ -1,0 +1,128 @@
+//! The entries of a tree that a search chooses, by a walk that looks only where one can lie.
+ghost use Rattle.std.specs.Prelude.{◌≡◌, ◌≢◌, ◌&&◌, [], Some, length, if◌then◌else◌, IfOk, OnOk, OnErr};
+ghost use Rattle.bstr.specs.BStr.{bstr_bytes};
+ghost use Rattle.pathspec_parts.specs.Attributes.{next_count};
+ghost use Rattle.pathspec_parts.specs.Cursors.{IsNew, path_at, is_dir_at, after_enter, append_if};
+ghost use Rattle.gix_pathspec.specs.Matching.{is_chosen};
+ghost use Rattle.gix_pathspec.specs.Search.{specs_of};
+ghost use Rattle.pathspec_select.specs.Walks.{IsWalk, HasWalked, GivenIsOne, EnteredIsOne, can_hold};
+ghost use Rattle.pathspec_select.specs.SelectAnswers.{CountsFailure};
+
+use bstr::BStr;
+use gix_pathspec::Search;
+use pathspec_parts::attributes::LookUp;
+use pathspec_parts::tree::Cursor;
+use std::alloc::Global;
+use std::fmt::Debug;
+
+/// Why a walk ended before it came to the end of its tree.
+#[derive(Debug, Drop, PartialEq, Eq, thiserror::Error)]
+#[error_bound(F: Debug)]
+pub enum SelectError<F> {
+    /// The look-up failed: its fault.
+    #[error("look-up failed: {0:?}")]
+    LookUp(F),
+    /// Memory ran out.
+    #[error("out of memory")]
+    Memory,
+}
+
+/// The numbers of the entries of a tree that a search chooses, each once, in the tree's order: exactly those that no
+/// exclude matches and some include matches (or any, without an include).
+///
+/// The cursor must be new. It is the only way to the tree, so its trail, [`Cursor::entered`], tells what was looked into:
+/// exactly the directories that the walk came to and of which [`Search::can_match_relative_path`] says that something at
+/// or below them can match. Nothing that is chosen is lost by that. Where all includes are plain (no wildcard, no
+/// attributes, no prefix directory without case), each of them is one at or below which an include matches. All this
+/// holds for all specs that parse and normalise, every tree and every steady look-up.
+///
+/// Each entry that the walk comes to is asked of the search once, and each directory once more, whether it is entered.
+/// What lies in a directory that isn't entered costs nothing. Only the numbers that are given take memory.
+///
+/// # Errors
+/// [`SelectError::LookUp`], only where the look-up failed in this call, and [`SelectError::Memory`]. The search is then
+/// as before, and the cursor stands at the entry that was asked.
+pub fn select<L: LookUp>(
+    alloc: Global,
+    cursor: &mut Cursor<'_>,
+    search: &mut Search,
+    look_up: &mut L,
+) -> Result<Vec<usize>, SelectError<L::Fault>>
+    requires { IsNew cursor.old }
+    // Exactly the chosen entries, by a walk that enters only directories which can hold one.
+    ensures walk { IfOk result (λ given. IsWalk (L.table look_up.old) (specs_of search.old.specs)
+        cursor.old.entries given.items cursor.new.entered) }
+    // They are one list, that of the definition.
+    ensures given { GivenIsOne (L.table look_up.old) (specs_of search.old.specs) }
+    // Exactly the directories that it came to and that can hold a chosen path.
+    ensures entered { OnOk result (HasWalked (specs_of search.old.specs)
+        cursor.old.entries (length cursor.old.entries) cursor.new.entered) }
+    // They are one list too.
+    ensures trail { EnteredIsOne }
+    ensures tree { cursor.new.entries ≡ cursor.old.entries }
+    ensures search { search.new ≡ search.old }
+    ensures table_stays { L.table look_up.new ≡ L.table look_up.old }
+    ensures counts { CountsFailure (L.failures look_up.old) (L.failures look_up.new) result }
+{
+    // The proof reads here that no nil spec has a prefix directory.
+    search.nil_specs_lack_a_prefix();
+    let mut given = Vec::new(alloc);
+    while let Some(place) = cursor.next() {
+        visit(cursor, search, look_up, place, &mut given)?;
+    }
+    Ok(given)
+}
+
+/// Gives the entry at which the cursor stands where it is chosen, and enters it where something below it can be.
+fn visit<L: LookUp>(
+    cursor: &mut Cursor<'_>,
+    search: &mut Search,
+    look_up: &mut L,
+    place: usize,
+    given: &mut Vec<usize>,
+) -> Result<(), SelectError<L::Fault>>
+    requires { path_at cursor.old ≢ [] }
+    ensures given { OnOk result (given.new.items ≡ append_if
+        (is_chosen (L.table look_up.old) (specs_of search.old.specs)
+        (path_at cursor.old) (is_dir_at cursor.old))
+        place given.old.items) }
+    ensures entered { OnOk result (cursor.new ≡
+        (if is_dir_at cursor.old && can_hold (specs_of search.old.specs) (path_at cursor.old)
+        then after_enter cursor.old else cursor.old)) }
+    ensures tree { cursor.new.entries ≡ cursor.old.entries }
+    ensures search { search.new ≡ search.old }
+    ensures table_stays { L.table look_up.new ≡ L.table look_up.old }
+    ensures counts { CountsFailure (L.failures look_up.old) (L.failures look_up.new) result }
+{
+    let answer = is_chosen(search, cursor.path(), cursor.is_dir(), look_up);
+    let is_chosen = answer.map_err(SelectError::LookUp)?;
+    if is_chosen && given.push(place).is_err() {
+        return Err(SelectError::Memory);
+    }
+    if cursor.is_dir() && search.can_match_relative_path(cursor.path(), Some(true)) {
+        cursor.enter();
+    }
+    Ok(())
+}
+
+/// Whether a search chooses a path that isn't empty.
+fn is_chosen<L: LookUp>(
+    search: &mut Search,
+    path: BStr<'_>,
+    is_dir: bool,
+    look_up: &mut L,
+) -> Result<bool, L::Fault>
+    requires { bstr_bytes path ≢ [] }
+    ensures chosen { IfOk result (λ chosen. chosen ≡ is_chosen (L.table look_up.old)
+        (specs_of search.old.specs) (bstr_bytes path.entry) is_dir) }
+    ensures search { search.new ≡ search.old }
+    ensures table_stays { L.table look_up.new ≡ L.table look_up.old }
+    ensures ok_leaves_count { OnOk result (L.failures look_up.new ≡ L.failures look_up.old) }
+    ensures err_counts { OnErr result
+        (L.failures look_up.new ≡ next_count (L.failures look_up.old)) }
+{
+    match search.find_match(path, Some(is_dir), look_up)? {
+        Some(place) => Ok(!search.match_at(place).is_excluded()),
+        None => Ok(false),
+    }
+}
