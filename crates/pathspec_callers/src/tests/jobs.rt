@@ -8,29 +8,31 @@ use std::alloc::{AllocError, Global};
 use std::process::Abort;
 use std::test::Fail;
 
-/// The texts of the variables for literal specs, case, globs and no globs.
-type Variables = [Option<&'static str>; 4];
+/// Variables by their names, with their texts.
+type Variables = &'static [(&'static str, &'static str)];
 
-const UNSET: Variables = [None, None, None, None];
+const UNSET: Variables = &[];
 
-const GLOB_AND_NO_GLOB: Variables = [None, None, Some("1"), Some("1")];
+const GLOB_AND_NO_GLOB: Variables = &[("glob", "1"), ("noglob", "1")];
 
-const BAD_CASE: Variables = [None, Some("maybe"), None, None];
+const BAD_CASE: Variables = &[("icase", "maybe")];
 
-fn variable(alloc: Global, text: Option<&str>) -> Result<Option<String>, AllocError> {
-    match text {
-        Some(text) => Ok(Some(String::from_str(alloc, text)?)),
-        None => Ok(None),
+/// The text of the variable with this name, if it is set.
+fn text_of(alloc: Global, variables: Variables, name: &str) -> Result<Option<String>, AllocError> {
+    for (other, text) in variables {
+        if *other == name {
+            return Ok(Some(String::from_str(alloc, text)?));
+        }
     }
+    Ok(None)
 }
 
-fn environment(alloc: Global, variables: &Variables) -> Result<Environment, AllocError> {
-    let [literal, icase, glob, noglob] = *variables;
+fn environment(alloc: Global, variables: Variables) -> Result<Environment, AllocError> {
     Ok(Environment {
-        literal: variable(alloc, literal)?,
-        icase: variable(alloc, icase)?,
-        glob: variable(alloc, glob)?,
-        noglob: variable(alloc, noglob)?,
+        literal: text_of(alloc, variables, "literal")?,
+        icase: text_of(alloc, variables, "icase")?,
+        glob: text_of(alloc, variables, "glob")?,
+        noglob: text_of(alloc, variables, "noglob")?,
     })
 }
 
@@ -38,7 +40,7 @@ fn environment(alloc: Global, variables: &Variables) -> Result<Environment, Allo
 fn job_of(
     alloc: Global,
     line: &str,
-    variables: &Variables,
+    variables: Variables,
 ) -> Result<Result<(Job, Rows), Refusal>, AllocError> {
     let words = words_of(alloc, line)?;
     let environment = environment(alloc, variables)?;
@@ -52,7 +54,7 @@ fn assert_refused(
     rows: &[(&str, Variables, u8, &str)],
 ) -> Result<(), AllocError> {
     for (line, variables, status, want) in rows {
-        match job_of(alloc, line, variables)? {
+        match job_of(alloc, line, *variables)? {
             Ok(_) => assert!(rt; false, "taken: {line}"),
             Err(refusal) => {
                 let printed = refusal.to_string(alloc)?;
@@ -109,7 +111,7 @@ fn an_empty_list_is_refused(rt: HostRuntime) -> Result<(), AllocError> {
     let alloc = rt.alloc();
     let mut words = words_of(alloc, "--attr x")?;
     words.push(String::new(alloc))?;
-    let environment = environment(alloc, &UNSET)?;
+    let environment = environment(alloc, UNSET)?;
     match Job::from_words(alloc, words.as_slice(), &environment) {
         Ok(_) => assert!(rt; false, "taken"),
         Err(refusal) => assert_eq!(rt; refusal.status(), 2, "status"),
@@ -118,14 +120,14 @@ fn an_empty_list_is_refused(rt: HostRuntime) -> Result<(), AllocError> {
 }
 
 /// The job and the rows that the words of a line ask for.
-fn asked(alloc: Global, line: &str, variables: &Variables) -> Result<(Job, Rows), Fail> {
+fn asked(alloc: Global, line: &str, variables: Variables) -> Result<(Job, Rows), Fail> {
     Ok(job_of(alloc, line, variables)?.ok().ok_or("refused")?)
 }
 
 /// Asserts each row: words, and the byte that ends a record.
 fn assert_separators(rt: &impl Abort, alloc: Global, rows: &[(&str, u8)]) -> Result<(), Fail> {
     for (line, want) in rows {
-        let (job, _) = asked(alloc, line, &UNSET)?;
+        let (job, _) = asked(alloc, line, UNSET)?;
         assert_eq!(rt; job.separator(), *want, "{line}");
     }
     Ok(())
@@ -165,7 +167,7 @@ fn assert_specs(
     rows: &[(&str, Variables, &str)],
 ) -> Result<(), Fail> {
     for (line, variables, want) in rows {
-        let (job, _) = asked(alloc, line, variables)?;
+        let (job, _) = asked(alloc, line, *variables)?;
         assert_eq!(rt; texts_of(alloc, &job)?.as_str(), *want, "{line}");
     }
     Ok(())
@@ -173,9 +175,9 @@ fn assert_specs(
 
 #[test]
 fn specs_are_read_under_the_defaults_of_the_environment(rt: HostRuntime) -> Result<(), Fail> {
-    const LITERAL: Variables = [Some("yes"), None, Some("maybe"), None];
-    const NO_CASE: Variables = [None, Some("1"), None, None];
-    const GLOB: Variables = [None, None, Some("on"), None];
+    const LITERAL: Variables = &[("literal", "yes"), ("glob", "maybe")];
+    const NO_CASE: Variables = &[("icase", "1")];
+    const GLOB: Variables = &[("glob", "on")];
     const ROWS: &[(&str, Variables, &str)] = &[
         ("", UNSET, ""),
         ("a :!b", UNSET, ":(exclude)b :()a"),
@@ -199,7 +201,7 @@ fn assert_states(
     rows: &[(&str, &str, &str, StateRef<'_>)],
 ) -> Result<(), Fail> {
     for (line, path, name, want) in rows {
-        let (_, mut look_up) = asked(alloc, line, &UNSET)?;
+        let (_, mut look_up) = asked(alloc, line, UNSET)?;
         let listed = parse::attributes(alloc, name.as_bytes())?;
         let mut found = Outcome::for_assignments(alloc, &listed)?;
         assert!(rt; ask(&mut look_up, path, &mut found)?, "{line}");
@@ -229,8 +231,9 @@ fn rows_assign_in_their_order(rt: HostRuntime) -> Result<(), Fail> {
 
 #[test]
 fn a_refused_growth_tells_that_memory_ran_out(rt: HostRuntime) -> Result<(), AllocError> {
-    match job_of(rt.alloc(), "-z --attr x a --prefix d b :!c", &UNSET)? {
-        Ok((job, _)) => assert_eq!(rt; job.separator(), 0, "separator"),
+    let outcome = job_of(rt.alloc(), "-z --attr x a --prefix d b :!c", UNSET)?;
+    match outcome {
+        Ok(pair) => assert_eq!(rt; pair.0.separator(), 0, "separator"),
         Err(refusal) => assert_eq!(rt; refusal.status(), 6, "status"),
     }
     Ok(())
