@@ -2,13 +2,10 @@
 use Rattle.std.proofs.Common.{◌≡◌, ℕ, ◌-◌, arith, List, ◌++◌, Option, Some, None, sym, ◌∙◌, ap, append_assoc, take, drop, length}
 use Rattle.std.proofs.lemmas.List.{take-append-drop, take_all, length-drop}
 use Rattle.std.specs.Io.KnownBytes.{Appends}
-
--- known bytes grew by what stands before the rest of bs
-abbrev pub AppendsUpTo : Option (List ℕ) → Option (List ℕ) → List ℕ → List ℕ → Type 0
-AppendsUpTo old new bs rest = (front : List ℕ) × (bs ≡ front ++ rest) × Appends old new front
+use Rattle.pathspec_select.specs.Program.{AppendsUpTo}
 
 -- one write after another
-appends-append : (old between new : Option (List ℕ)) (xs ys : List ℕ) → Appends old between xs → Appends between new ys → Appends old new (xs ++ ys)
+pub appends-append : (old between new : Option (List ℕ)) (xs ys : List ℕ) → Appends old between xs → Appends between new ys → Appends old new (xs ++ ys)
 appends-append None between new xs ys p q = tt
 appends-append (Some a) None new xs ys p q = absurd p
 appends-append (Some a) (Some b) None xs ys p q = absurd q

@@ -1,14 +1,13 @@
 pub mod ListingProofs
 pub mod WordProofs
 pub mod OptionProofs
-pub mod PlainOptionProofs
 mod OptionRows
 mod WordRows
 pub mod RowProofs
 pub mod EnvironmentProofs
 pub mod RequestProofs
 pub mod DeviceProofs
-pub mod FilterProofs
+pub mod OutputProofs
 pub mod ChosenProofs
 pub mod ProgramProofs
 pub mod WalkProofs

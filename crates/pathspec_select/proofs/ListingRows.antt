@@ -2,7 +2,7 @@
 use Rattle.std.proofs.Common.{◌≡◌, ℕ, Bool, List, true, false, refl, [], ◌∷◌, Some, None, map}
 use Rattle.std.specs.Prelude.{codes}
 use Rattle.pathspec_parts.specs.Entries.{Entry}
-use Rattle.pathspec_select.specs.Listing.{records, first_bad, listing_entries, marks_from, record_of}
+use Rattle.pathspec_select.specs.Listing.{records, first_bad, listing_entries, marks_from, mark_at}
 
 two_records : records 10 (codes "x\ny z\n") ≡ (codes "x" ∷ codes "y z" ∷ [])
 two_records = refl
@@ -39,10 +39,10 @@ entries_of_records = refl
 marks_of_records : marks_from [] rs ≡ (None ∷ None ∷ Some (codes "a/b/c") ∷ Some (codes "a/d") ∷ Some (codes "a/") ∷ Some (codes "a/e") ∷ Some (codes "x/") ∷ Some (codes "x/") ∷ [])
 marks_of_records = refl
 
-record_of_entry : record_of rs 4 ≡ Some (codes "a/")
+record_of_entry : mark_at (marks_from [] rs) 4 ≡ Some (codes "a/")
 record_of_entry = refl
 
-implied_has_none : record_of rs 1 ≡ None
+implied_has_none : mark_at (marks_from [] rs) 1 ≡ None
 implied_has_none = refl
 
 -- a file lies in no file of its name

@@ -11,7 +11,7 @@ use Rattle.gix_pathspec.specs.Specs.{Spec}
 use Rattle.gix_pathspec.specs.Search.{Numbered, search_of}
 use Rattle.pathspec_select.specs.declared.refusal.Refusal.{Refusal}
 use Rattle.pathspec_select.specs.declared.refusal.Refusal.TheVariants as refusal
-use Rattle.pathspec_select.specs.WordFaults.{SpecFault, WordFault}
+use Rattle.pathspec_select.specs.WordFaults.{WordFault}
 use Rattle.pathspec_select.specs.WordFaults.WordFault.{Usage}
 use Rattle.pathspec_select.specs.Options.{Options, options_of}
 use Rattle.pathspec_select.specs.Words.{parsed_words}
@@ -24,14 +24,13 @@ pub tells-usage : (P : WordFault → Type 0) (Q : Type 0) (r : Refusal) → (Q �
 tells-usage P Q refusal.Usage f h = f h
 tells-usage P Q (refusal.Environment error) f h = absurd h
 tells-usage P Q (refusal.Spec number error) f h = absurd h
-tells-usage P Q (refusal.Unsupported number) f h = absurd h
 tells-usage P Q refusal.Read f h = absurd h
 tells-usage P Q (refusal.Line number) f h = absurd h
 tells-usage P Q refusal.Write f h = absurd h
 tells-usage P Q refusal.Memory f h = tt
 
 -- a refusal for an error of a search tells the fault and its number
-pub tells-build : (e : BuildError) (r : Refusal) (P : ℕ × Fault → Type 0) (Q : WordFault → Type 0) → RefusesBuild e r → TellsFault e P → ((fault : ℕ × Fault) → P fault → Q (WordFault.BadSpec fault.0 (SpecFault.Invalid fault.1))) → TellsWordFault r Q
+pub tells-build : (e : BuildError) (r : Refusal) (P : ℕ × Fault → Type 0) (Q : WordFault → Type 0) → RefusesBuild e r → TellsFault e P → ((fault : ℕ × Fault) → P fault → Q (WordFault.BadSpec fault.0 fault.1)) → TellsWordFault r Q
 tells-build (build.Spec number error) r P Q m h f = rw m (h.0, h.1, f (number, h.0) h.2)
 tells-build build.Memory r P Q m h f = rw m tt
 

@@ -91,7 +91,6 @@ pub usage-then : (r : Refusal) (P Q : Type 0) → (P → Q) → IsUsageOrMemory 
 usage-then refusal.Usage P Q f h = f h
 usage-then (refusal.Environment error) P Q f h = h
 usage-then (refusal.Spec number error) P Q f h = h
-usage-then (refusal.Unsupported number) P Q f h = h
 usage-then refusal.Read P Q f h = h
 usage-then (refusal.Line number) P Q f h = h
 usage-then refusal.Write P Q f h = h

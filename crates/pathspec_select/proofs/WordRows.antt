@@ -9,7 +9,6 @@ use Rattle.gix_pathspec.specs.Faults.Fault.{UnimplementedShort, LeavesRepository
 use Rattle.gix_pathspec.specs.Reading.{literal_spec, is_unimplemented, cut_of, spec_of, reading}
 use Rattle.gix_pathspec.specs.NormalForm.{climb, normal_form}
 use Rattle.gix_pathspec.specs.Search.{search_of}
-use Rattle.pathspec_select.specs.WordFaults.SpecFault.{Invalid}
 use Rattle.pathspec_select.specs.WordFaults.WordFault.{Usage, BadEnvironment, BadSpec}
 use Rattle.pathspec_select.specs.Options.{options_of}
 use Rattle.pathspec_select.specs.Rows.{rows_of_words}
@@ -54,12 +53,12 @@ unfolding request_of options_of truth_of
 globs_and_no_globs = refl
 
 -- `../x :#y`
-reading_before_normalising : request_of (codes "../x" ∷ codes ":#y" ∷ []) unset ≡ Err (BadSpec 1 (Invalid (UnimplementedShort 35)))
+reading_before_normalising : request_of (codes "../x" ∷ codes ":#y" ∷ []) unset ≡ Err (BadSpec 1 (UnimplementedShort 35))
 unfolding request_of options_of reading cut_of is_unimplemented spec_of
 reading_before_normalising = refl
 
 -- `a ../x`
-spec_without_a_normal_form : request_of (codes "a" ∷ codes "../x" ∷ []) unset ≡ Err (BadSpec 1 (Invalid (LeavesRepository (codes "../x"))))
+spec_without_a_normal_form : request_of (codes "a" ∷ codes "../x" ∷ []) unset ≡ Err (BadSpec 1 (LeavesRepository (codes "../x")))
 unfolding request_of options_of reading spec_of search_of normal_form climb
 spec_without_a_normal_form = refl
 

@@ -1,10 +1,13 @@
 -- What is written, in the words of what specs choose.
 use Rattle.std.specs.Prelude.{ℕ, List, [], ◌∷◌, ◌++◌, flat_map, Option, IfSome}
 use Rattle.std.specs.Io.KnownBytes.{Appends}
+use Rattle.pathspec_parts.specs.Attributes.{Table}
+use Rattle.pathspec_pattern.specs.Environment.{Words}
 use Rattle.gix_pathspec.specs.Specs.{Spec}
+use Rattle.gix_pathspec.specs.Search.{specs_of}
 use Rattle.gix_pathspec.specs.Matching.{IsChosen}
 use Rattle.pathspec_select.specs.Listing.{records, table_of, record_path, record_is_dir}
-use Rattle.pathspec_select.specs.Program.{AsksFor, line_feed}
+use Rattle.pathspec_select.specs.Program.{AsksFor}
 
 -- The kept elements are just those of which P holds, in their order.
 pub data IsSelection (P : List ℕ → Type 0) : List (List ℕ) → List (List ℕ) → Type 0 where
@@ -15,15 +18,19 @@ pub data IsSelection (P : List ℕ → Type 0) : List (List ℕ) → List (List 
   -- the first is dropped, since P doesn't
   drop : {x : List ℕ} {xs kept : List (List ℕ)} → ¬ (P x) → IsSelection P xs kept → IsSelection P (x ∷ xs) kept
 
--- the specs choose the path of this record, where no path has attributes
-abbrev pub IsChosenRecord : List Spec → List ℕ → Type 0
-IsChosenRecord specs r = IsChosen (table_of []) specs (record_path r) (record_is_dir r)
+-- the specs choose the path of this record
+abbrev pub IsChosenRecord : Table → List Spec → List ℕ → Type 0
+IsChosenRecord table specs r = IsChosen table specs (record_path r) (record_is_dir r)
 
--- the records as lines
-abbrev pub lines_of : List (List ℕ) → List ℕ
-lines_of rs = flat_map (λ r. r ++ line_feed ∷ []) rs
+-- the records, each with the separator after it
+abbrev pub text_of : ℕ → List (List ℕ) → List ℕ
+text_of separator rs = flat_map (λ r. r ++ separator ∷ []) rs
 
--- Just the records that the words' specs choose were written, in their order, each as a line.
-abbrev pub WritesChosen : List (List ℕ) → Option (List ℕ) → Option (List ℕ) → Option (List ℕ) → Type 0
-WritesChosen words input old new =
-    AsksFor words (λ specs. IfSome input (λ bytes. (kept : List (List ℕ)) × IsSelection (IsChosenRecord specs) (records line_feed bytes) kept × Appends old new (lines_of kept)))
+-- Just the records that specs choose were written, in their order, each with the separator after it.
+abbrev pub WritesRecords : Table → List Spec → ℕ → Option (List ℕ) → Option (List ℕ) → Option (List ℕ) → Type 0
+WritesRecords table specs separator input old new =
+    IfSome input (λ bytes. (kept : List (List ℕ)) × IsSelection (IsChosenRecord table specs) (records separator bytes) kept × Appends old new (text_of separator kept))
+
+-- Those that the words' specs choose were, with the attributes that the words give.
+abbrev pub WritesChosen : List (List ℕ) → Words → Option (List ℕ) → Option (List ℕ) → Option (List ℕ) → Type 0
+WritesChosen words environment input old new = AsksFor words environment (λ request. WritesRecords (table_of request.rows) (specs_of request.specs) request.separator input old new)

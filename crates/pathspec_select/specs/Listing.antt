@@ -105,14 +105,14 @@ marks_from names (r ∷ rs) = record_marks names r ++ marks_from (open_after r) 
 abbrev pub mark_at : List (Option (List ℕ)) → ℕ → Option (List ℕ)
 mark_at marks n = option_and_then (λ mark. mark) (slice_get marks n)
 
--- The record of the entry with this number.
-abbrev pub record_of : List (List ℕ) → ℕ → Option (List ℕ)
-record_of rs n = mark_at (marks_from [] rs) n
-
 -- a record with the separator after it, where there is one
 abbrev pub written_of : ℕ → Option (List ℕ) → List ℕ
 written_of separator None = []
 written_of separator (Some r) = r ++ separator ∷ []
+
+-- what is written for these entries
+abbrev pub written_entries : ℕ → List (Option (List ℕ)) → List ℕ → List ℕ
+written_entries separator marks entries = flat_map (λ n. written_of separator (mark_at marks n)) entries
 
 -- the entry of a record, with its path and its kind; or a directory that is only implied
 abbrev pub IsEntryOf : Entry → Option (List ℕ) → Type 0

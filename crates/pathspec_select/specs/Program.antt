@@ -1,60 +1,106 @@
--- What the program does with its words, what it reads and what it writes.
-use Rattle.std.specs.Prelude.{◌≡◌, ◌≢◌, ℕ, List, [], ◌++◌, Option, None, Some, IfSome, Result, Ok, Err}
+-- What the program does with what it reads, and what it writes.
+use Rattle.std.specs.Prelude.{◌≡◌, ◌≢◌, ◌⊎◌, ℕ, List, ◌++◌, Option, None, Some, IfSome, Result, Ok, Err}
 use Rattle.std.specs.Io.KnownBytes.{Keeps, Appends}
+use Rattle.pathspec_parts.specs.Attributes.{Table, next_count}
+use Rattle.pathspec_pattern.specs.Environment.{Words}
 use Rattle.gix_pathspec.specs.Faults.{Fault}
 use Rattle.gix_pathspec.specs.Errors.{fault_of}
 use Rattle.gix_pathspec.specs.Specs.{Spec}
+use Rattle.gix_pathspec.specs.Search.{specs_of}
 use Rattle.pathspec_select.specs.declared.refusal.Refusal.{Refusal}
 use Rattle.pathspec_select.specs.declared.refusal.Refusal.TheVariants as refusal
 use Rattle.pathspec_select.specs.Listing.{records, first_bad, output, table_of}
-use Rattle.pathspec_select.specs.WordFaults.{SpecFault, WordFault}
-use Rattle.pathspec_select.specs.PlainOptions.{options_of}
-use Rattle.pathspec_select.specs.Words.{specs_of_words}
+use Rattle.pathspec_select.specs.WordFaults.{WordFault}
+use Rattle.pathspec_select.specs.Options.{options_of}
+use Rattle.pathspec_select.specs.Requests.{Request, request_of}
 
--- what ends a record
-abbrev pub line_feed : ℕ
-line_feed = 10
+-- ---- bytes
 
 -- the bytes are all that is known to be left
 abbrev pub IsAllOf : Option (List ℕ) → List ℕ → Type 0
 IsAllOf known bytes = IfSome known (λ all. bytes ≡ all)
 
+-- known bytes grew by what stands before the rest of bs
+abbrev pub AppendsUpTo : Option (List ℕ) → Option (List ℕ) → List ℕ → List ℕ → Type 0
+AppendsUpTo old new bs rest = (front : List ℕ) × (bs ≡ front ++ rest) × Appends old new front
+
 -- known bytes grew by a front of bs, and no more
 abbrev pub AppendsFront : Option (List ℕ) → Option (List ℕ) → List ℕ → Type 0
-AppendsFront old new bs = (front : List ℕ) × (rest : List ℕ) × (bs ≡ front ++ rest) × Appends old new front
+AppendsFront old new bs = (rest : List ℕ) × AppendsUpTo old new bs rest
+
+-- Known bytes grew by all of these; or by a front of them, where a write failed; or by none, where memory ran out.
+abbrev pub EndsOutput : {A : Type 0} → Option (List ℕ) → Option (List ℕ) → List ℕ → Result A Refusal → Type 0
+EndsOutput old new bs (Ok done) = Appends old new bs
+EndsOutput old new bs (Err refusal.Usage) = ⊥
+EndsOutput old new bs (Err (refusal.Environment error)) = ⊥
+EndsOutput old new bs (Err (refusal.Spec number error)) = ⊥
+EndsOutput old new bs (Err refusal.Read) = ⊥
+EndsOutput old new bs (Err (refusal.Line number)) = ⊥
+EndsOutput old new bs (Err refusal.Write) = AppendsFront old new bs
+EndsOutput old new bs (Err refusal.Memory) = Keeps old new
+
+-- ---- a job
 
 -- the listing has no bad record
-abbrev pub HasGoodRecords : List ℕ → Type 0
-HasGoodRecords input = first_bad (records line_feed input) ≡ None
+abbrev pub HasGoodRecords : ℕ → List ℕ → Type 0
+HasGoodRecords separator input = first_bad (records separator input) ≡ None
 
 -- its first bad record has this number
-abbrev pub HasBadRecord : List ℕ → ℕ → Type 0
-HasBadRecord input number = first_bad (records line_feed input) ≡ Some number
+abbrev pub HasBadRecord : ℕ → List ℕ → ℕ → Type 0
+HasBadRecord separator input number = first_bad (records separator input) ≡ Some number
 
--- the full output for these specs
-abbrev pub output_of : List Spec → List ℕ → List ℕ
-output_of specs input = output (table_of []) specs line_feed (records line_feed input)
+-- the full output for a listing
+abbrev pub output_of : Table → List Spec → ℕ → List ℕ → List ℕ
+output_of table specs separator input = output table specs separator (records separator input)
 
--- the words ask for these specs, and P holds of them
-abbrev pub AsksFor : List (List ℕ) → (List Spec → Type 0) → Type 0
-AsksFor words P = (specs : List Spec) × (specs_of_words words ≡ Ok specs) × P specs
+-- A job is refused for its first fault: a failed read, the first bad record, a failed write. Nothing is written before a fault, but for a write's, where a beginning of the full output was.
+abbrev pub RefusesJob : Table → List Spec → ℕ → Option (List ℕ) → Option (List ℕ) → Option (List ℕ) → Refusal → Type 0
+RefusesJob table specs separator input old new refusal.Usage = ⊥
+RefusesJob table specs separator input old new (refusal.Environment error) = ⊥
+RefusesJob table specs separator input old new (refusal.Spec number error) = ⊥
+RefusesJob table specs separator input old new refusal.Read = Keeps old new
+RefusesJob table specs separator input old new (refusal.Line number) = IfSome input (λ bytes. HasBadRecord separator bytes number) × Keeps old new
+RefusesJob table specs separator input old new refusal.Write = IfSome input (λ bytes. HasGoodRecords separator bytes × AppendsFront old new (output_of table specs separator bytes))
+RefusesJob table specs separator input old new refusal.Memory = Keeps old new
 
--- the words are at fault, and this is their first fault
-abbrev pub HasFault : List (List ℕ) → WordFault → Type 0
-HasFault words fault = specs_of_words words ≡ Err fault
+-- What a job ends with, for a steady look-up, these specs and this separator, the bytes that a reader gives, and those that a writer held before and holds after it. Either no fault occurred and exactly the full output was written, or it is refused.
+abbrev pub EndsJob : {A : Type 0} → Table → List Spec → ℕ → Option (List ℕ) → Option (List ℕ) → Option (List ℕ) → Result A Refusal → Type 0
+EndsJob table specs separator input old new (Ok done) = IfSome input (λ bytes. HasGoodRecords separator bytes × Appends old new (output_of table specs separator bytes))
+EndsJob table specs separator input old new (Err refused) = RefusesJob table specs separator input old new refused
 
--- It is told, and nothing before it occurred: the first fault of the words, a failed read, the first bad record, a failed write. Nothing is written before a fault, but for a write's, where a beginning of the full output was.
-abbrev pub Refuses : List (List ℕ) → Option (List ℕ) → Option (List ℕ) → Option (List ℕ) → Refusal → Type 0
-Refuses words input old new refusal.Usage = HasFault words WordFault.Usage × Keeps old new
-Refuses words input old new (refusal.Environment error) = ((fault : Fault) × (fault_of error ≡ Some fault) × HasFault words (WordFault.BadEnvironment fault)) × Keeps old new
-Refuses words input old new (refusal.Spec number error) = ((fault : Fault) × (fault_of error ≡ Some fault) × HasFault words (WordFault.BadSpec number (SpecFault.Invalid fault))) × Keeps old new
-Refuses words input old new (refusal.Unsupported number) = HasFault words (WordFault.BadSpec number SpecFault.Unsupported) × Keeps old new
-Refuses words input old new refusal.Read = AsksFor words (λ specs. Keeps old new)
-Refuses words input old new (refusal.Line number) = AsksFor words (λ specs. IfSome input (λ bytes. HasBadRecord bytes number) × Keeps old new)
-Refuses words input old new refusal.Write = AsksFor words (λ specs. IfSome input (λ bytes. HasGoodRecords bytes × AppendsFront old new (output_of specs bytes)))
-Refuses words input old new refusal.Memory = (options_of words ≢ Err WordFault.Usage) × Keeps old new
+-- The look-up's failures before and after a job: it fails at most once, and then memory ran out.
+abbrev pub CountsRefusal : {A : Type 0} → ℕ → ℕ → Result A Refusal → Type 0
+CountsRefusal before after result = (after ≡ before) ⊎ ((after ≡ next_count before) × (result ≡ Err refusal.Memory))
 
--- What a run ends with, for these words, the bytes that its reader gives, and those that its writer held before and holds after it. Either no fault occurred and exactly the full output was written, or it is refused.
-abbrev pub Ends : {A : Type 0} → List (List ℕ) → Option (List ℕ) → Option (List ℕ) → Option (List ℕ) → Result A Refusal → Type 0
-Ends words input old new (Ok done) = AsksFor words (λ specs. IfSome input (λ bytes. HasGoodRecords bytes × Appends old new (output_of specs bytes)))
-Ends words input old new (Err refusal) = Refuses words input old new refusal
+-- ---- the whole program
+
+-- words and the environment ask for this, and P holds of it
+abbrev pub AsksFor : List (List ℕ) → Words → (Request → Type 0) → Type 0
+AsksFor words environment P = (request : Request) × (request_of words environment ≡ Ok request) × P request
+
+-- they are at fault, and this is their first fault
+abbrev pub HasFault : List (List ℕ) → Words → WordFault → Type 0
+HasFault words environment fault = request_of words environment ≡ Err fault
+
+-- what is asked for is done
+abbrev pub EndsRequest : {A : Type 0} → Option (List ℕ) → Option (List ℕ) → Option (List ℕ) → Result A Refusal → Request → Type 0
+EndsRequest input old new result request = EndsJob (table_of request.rows) (specs_of request.specs) request.separator input old new result
+
+-- it is refused for its first fault
+abbrev pub RefusesRequest : Option (List ℕ) → Option (List ℕ) → Option (List ℕ) → Refusal → Request → Type 0
+RefusesRequest input old new refused request = RefusesJob (table_of request.rows) (specs_of request.specs) request.separator input old new refused
+
+-- It is told, and nothing before it occurred: the first fault of the words and the environment, and then of the job.
+abbrev pub Refuses : List (List ℕ) → Words → Option (List ℕ) → Option (List ℕ) → Option (List ℕ) → Refusal → Type 0
+Refuses words environment input old new refusal.Usage = HasFault words environment WordFault.Usage × Keeps old new
+Refuses words environment input old new (refusal.Environment error) = ((fault : Fault) × (fault_of error ≡ Some fault) × HasFault words environment (WordFault.BadEnvironment fault)) × Keeps old new
+Refuses words environment input old new (refusal.Spec number error) = ((fault : Fault) × (fault_of error ≡ Some fault) × HasFault words environment (WordFault.BadSpec number fault)) × Keeps old new
+Refuses words environment input old new refusal.Read = AsksFor words environment (RefusesRequest input old new refusal.Read)
+Refuses words environment input old new (refusal.Line number) = AsksFor words environment (RefusesRequest input old new (refusal.Line number))
+Refuses words environment input old new refusal.Write = AsksFor words environment (RefusesRequest input old new refusal.Write)
+Refuses words environment input old new refusal.Memory = (options_of words ≢ Err WordFault.Usage) × Keeps old new
+
+-- What a run ends with, for these words and this environment, the bytes that its reader gives, and those that its writer held before and holds after it. Either what they ask for was done, or it is refused.
+abbrev pub Ends : {A : Type 0} → List (List ℕ) → Words → Option (List ℕ) → Option (List ℕ) → Option (List ℕ) → Result A Refusal → Type 0
+Ends words environment input old new (Ok done) = AsksFor words environment (EndsRequest input old new (Ok done))
+Ends words environment input old new (Err refused) = Refuses words environment input old new refused

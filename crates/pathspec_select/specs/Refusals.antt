@@ -7,14 +7,17 @@ use Rattle.gix_pathspec.specs.Faults.{Fault}
 use Rattle.gix_pathspec.specs.Errors.{fault_of}
 use Rattle.pathspec_select.specs.declared.refusal.Refusal.{Refusal}
 use Rattle.pathspec_select.specs.declared.refusal.Refusal.TheVariants as refusal
-use Rattle.pathspec_select.specs.WordFaults.{SpecFault, WordFault}
+use Rattle.pathspec_select.specs.declared.listing.contents.ListingError.{ListingError}
+use Rattle.pathspec_select.specs.declared.listing.contents.ListingError.TheVariants as listing
+use Rattle.pathspec_select.specs.declared.walk.SelectError.{SelectError}
+use Rattle.pathspec_select.specs.declared.walk.SelectError.TheVariants as walk
+use Rattle.pathspec_select.specs.WordFaults.{WordFault}
 
 -- the exit status
 abbrev pub status_of : Refusal → ℕ
 status_of refusal.Usage = 2
 status_of (refusal.Environment error) = 3
 status_of (refusal.Spec number error) = 3
-status_of (refusal.Unsupported number) = 3
 status_of refusal.Read = 5
 status_of (refusal.Line number) = 4
 status_of refusal.Write = 5
@@ -24,8 +27,7 @@ status_of refusal.Memory = 6
 abbrev pub TellsWordFault : Refusal → (WordFault → Type 0) → Type 0
 TellsWordFault refusal.Usage P = P WordFault.Usage
 TellsWordFault (refusal.Environment error) P = (fault : Fault) × (fault_of error ≡ Some fault) × P (WordFault.BadEnvironment fault)
-TellsWordFault (refusal.Spec number error) P = (fault : Fault) × (fault_of error ≡ Some fault) × P (WordFault.BadSpec number (SpecFault.Invalid fault))
-TellsWordFault (refusal.Unsupported number) P = P (WordFault.BadSpec number SpecFault.Unsupported)
+TellsWordFault (refusal.Spec number error) P = (fault : Fault) × (fault_of error ≡ Some fault) × P (WordFault.BadSpec number fault)
 TellsWordFault refusal.Read P = ⊥
 TellsWordFault (refusal.Line number) P = ⊥
 TellsWordFault refusal.Write P = ⊥
@@ -53,8 +55,17 @@ abbrev pub IsReadOrMemory : Refusal → Type 0
 IsReadOrMemory refusal.Usage = ⊥
 IsReadOrMemory (refusal.Environment error) = ⊥
 IsReadOrMemory (refusal.Spec number error) = ⊥
-IsReadOrMemory (refusal.Unsupported number) = ⊥
 IsReadOrMemory refusal.Read = Unit {0}
 IsReadOrMemory (refusal.Line number) = ⊥
 IsReadOrMemory refusal.Write = ⊥
 IsReadOrMemory refusal.Memory = Unit {0}
+
+-- the refusal for a listing that can't be read
+abbrev pub refused_listing : ListingError → Refusal
+refused_listing (listing.BadLine number) = refusal.Line number
+refused_listing listing.Memory = refusal.Memory
+
+-- the refusal for a walk that ended early
+abbrev pub refused_walk : {F : Type 0} → SelectError F → Refusal
+refused_walk (walk.LookUp fault) = refusal.Memory
+refused_walk walk.Memory = refusal.Memory

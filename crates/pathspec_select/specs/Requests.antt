@@ -7,7 +7,6 @@ use Rattle.gix_pathspec.specs.Results.{◌>>=◌}
 use Rattle.gix_pathspec.specs.Faults.{Fault}
 use Rattle.gix_pathspec.specs.Search.{Numbered, SearchContents, search_of}
 use Rattle.pathspec_select.specs.WordFaults.{WordFault}
-use Rattle.pathspec_select.specs.WordFaults.SpecFault.{Invalid}
 use Rattle.pathspec_select.specs.WordFaults.WordFault.{BadEnvironment, BadSpec}
 use Rattle.pathspec_select.specs.Options.{options_of}
 use Rattle.pathspec_select.specs.Words.{parsed_words}
@@ -40,7 +39,7 @@ environment_result (Err fault) = Err (BadEnvironment fault)
 -- the same search, where a fault is that of the spec with its number
 abbrev pub search_result : Result (List Numbered) (ℕ × Fault) → Result (List Numbered) WordFault
 search_result (Ok specs) = Ok specs
-search_result (Err fault) = Err (BadSpec fault.0 (Invalid fault.1))
+search_result (Err fault) = Err (BadSpec fault.0 fault.1)
 
 -- What words and the environment ask for, or the first fault: of the options, of their lists of attributes, of the environment, of the specs as they are read, and of the specs as they are normalised.
 unfoldable pub request_of : List (List ℕ) → Words → Result Request WordFault

@@ -37,7 +37,6 @@ abbrev pub IsUsageOrMemory : Refusal → Type 0 → Type 0
 IsUsageOrMemory refusal.Usage P = P
 IsUsageOrMemory (refusal.Environment error) P = ⊥
 IsUsageOrMemory (refusal.Spec number error) P = ⊥
-IsUsageOrMemory (refusal.Unsupported number) P = ⊥
 IsUsageOrMemory refusal.Read P = ⊥
 IsUsageOrMemory (refusal.Line number) P = ⊥
 IsUsageOrMemory refusal.Write P = ⊥

@@ -1,5 +1,5 @@
 -- What a walk over a tree enters and gives.
-use Rattle.std.specs.Prelude.{◌≡◌, ◌↔◌, ℕ, ◌+◌, ◌<◌, ◌≤◌, Bool, ◌&&◌, true, List, [], length, take, slice_get, Some, None, IsTrue, All, Contains, flat_map}
+use Rattle.std.specs.Prelude.{◌≡◌, ◌↔◌, ℕ, ◌+◌, ◌<◌, ◌≤◌, Bool, ◌&&◌, true, List, [], length, take, slice_get, Some, None, IsTrue, All, Contains}
 use Rattle.std.specs.List.Sorted.{IsStrictlyIncreasing}
 use Rattle.pathspec_parts.specs.Paths.{IsBelow}
 use Rattle.pathspec_parts.specs.Attributes.{Table}
@@ -12,7 +12,7 @@ use Rattle.gix_pathspec.specs.Plain.{is_plain}
 use Rattle.gix_pathspec.specs.Pruning.{can_match}
 use Rattle.gix_pathspec.specs.PruningLaws.{IsBytes, HasOnlyIncludes, CanTake}
 use Rattle.gix_pathspec.specs.SelectionLaws.{NoNilPrefix}
-use Rattle.pathspec_select.specs.Listing.{output, listing_entries, record_of, written_of}
+use Rattle.pathspec_select.specs.Listing.{output, listing_entries, marks_from, written_entries}
 
 -- ---- what a walk enters
 
@@ -125,4 +125,4 @@ GivenIsOne table specs = (es : List Entry) (given entered : List ℕ) → IsWalk
 -- What is written for a listing is what is written for the entries that a walk over its tree gives.
 abbrev pub OutputByWalk : Table → List Spec → Type 0
 OutputByWalk table specs = (separator : ℕ) (rs : List (List ℕ)) (given entered : List ℕ) → IsWalk table specs (listing_entries rs) given entered
-    → output table specs separator rs ≡ flat_map (λ n. written_of separator (record_of rs n)) given
+    → output table specs separator rs ≡ written_entries separator (marks_from [] rs) given

@@ -4,11 +4,10 @@
 
 mod devices;
 mod environment;
-mod filter;
 mod job;
 pub mod listing;
 mod options;
-mod plain_options;
+mod output;
 mod program;
 mod refusal;
 mod rows;
@@ -17,7 +16,7 @@ mod words;
 
 pub use environment::Environment;
 pub use job::Job;
-pub use program::run;
+pub use program::{run, run_with};
 pub use refusal::Refusal;
 pub use rows::Rows;
 pub use walk::{SelectError, select};

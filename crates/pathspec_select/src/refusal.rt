@@ -16,9 +16,6 @@ pub enum Refusal {
     /// A spec is at fault; specs are numbered from 0.
     #[error("spec {}: {}", .0, .1.kind())]
     Spec(usize, Error),
-    /// A spec is a glob or lists attributes, of which neither is matched yet; specs are numbered from 0.
-    #[error("spec {0}: Unsupported")]
-    Unsupported(usize),
     /// A read failed.
     #[error("read")]
     Read,
@@ -42,7 +39,7 @@ impl Refusal {
     {
         match self {
             Refusal::Usage => 2,
-            Refusal::Environment(_) | Refusal::Spec(..) | Refusal::Unsupported(_) => 3,
+            Refusal::Environment(_) | Refusal::Spec(..) => 3,
             Refusal::Line(_) => 4,
             Refusal::Read | Refusal::Write => 5,
             Refusal::Memory => 6,

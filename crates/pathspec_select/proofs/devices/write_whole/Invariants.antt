@@ -1,5 +1,5 @@
 use Rattle.std.proofs.Common.{length}
-use Rattle.pathspec_select.proofs.DeviceProofs.{AppendsUpTo}
+use Rattle.pathspec_select.specs.Program.{AppendsUpTo}
 use Rattle.pathspec_select.proofs.devices.write_whole.Given as goal
 
 abbrev pub invariant-loop-rest : goal.invariant-loop-rest

@@ -1,8 +1,8 @@
 -- The refusal tells the fault of the reading.
-use Rattle.pathspec_select.proofs.WordProofs.{tells-refused, parsed_word-is}
+use Rattle.pathspec_select.proofs.WordProofs.{tells-refused, reading-is}
 use Rattle.pathspec_select.proofs.words.parse_word.Goals as goal
 
 pub returns-in-Err : goal.returns-in-Err
 returns-in-Err c =
-    let parsed = parsed_word-is c.args.defaults _ c.as_bytes.result.now c.as_bytes.ensures.value in
-    tells-refused c.args.number c.in-Err.error c.refusal_of.result _ _ parsed c.in-Err.ensures.exact c.refusal_of.ensures
+    let read = reading-is c.args.defaults _ c.as_bytes.result.now c.as_bytes.ensures.value in
+    tells-refused c.args.number c.in-Err.error c.refusal_of.result _ _ read c.in-Err.ensures.exact c.refusal_of.ensures
