@@ -10,11 +10,11 @@ use Rattle.gix_pathspec.specs.declared.search.MatchKind.TheVariants.{Always, Pre
 use Rattle.gix_pathspec.specs.Attributes.{Table}
 use Rattle.gix_pathspec.specs.Bytes.{slash, is_empty, fold_case}
 use Rattle.gix_pathspec.specs.Matching.{is_in_prefix_directory, takes_kind, is_verbatim_match, is_prefix_match, fit, fits, spec_matches}
-use Rattle.gix_pathspec.specs.Paths.{IsBelow, IsAtOrBelow, is_below}
+use Rattle.gix_pathspec.specs.Paths.{IsBytes, IsBelow, IsAtOrBelow, is_below}
 use Rattle.gix_pathspec.specs.Plain.{is_plain, is_plain_but_for_attributes}
 use Rattle.gix_pathspec.specs.Prefixes.{stem}
 use Rattle.gix_pathspec.specs.Pruning.{leads_to, reaches, is_total_exclude, can_match}
-use Rattle.gix_pathspec.specs.PruningLaws.{IsBytes, HasOnlyIncludes, CanTake, PruningIsSharp, PruningIsSharpForFits}
+use Rattle.gix_pathspec.specs.PruningLaws.{HasOnlyIncludes, CanTake, PruningIsSharp, PruningIsSharpForFits}
 use Rattle.gix_pathspec.specs.Specs.{Spec, is_include, ignores_case, wants_directory, always_matches, has_wildcard, prefix_directory}
 use Rattle.gix_pathspec.proofs.BeginsProofs.{folded-drop, folded-append, folded-slash, is_below-from_IsBelow, IsBelow-from_is_below, which_of_four}
 use Rattle.gix_pathspec.proofs.MatchingProofs.{spec_matches-fits}

@@ -1,18 +1,14 @@
 -- What is promised of pruning, as facts that contracts can cite.
-use Rattle.std.specs.Prelude.{◌≡◌, ◌≢◌, ◌<◌, ℕ, Bool, false, ◌⊎◌, ◌↔◌, List, [], ◌∷◌, ◌++◌, Option, Some, IsTrue, IsFalse, All, Contains}
+use Rattle.std.specs.Prelude.{◌≡◌, ◌≢◌, ℕ, Bool, false, ◌⊎◌, ◌↔◌, List, [], ◌∷◌, ◌++◌, Option, Some, IsTrue, IsFalse, Contains}
 use Rattle.std.specs.List.{list_any}
 use Rattle.gix_pathspec.specs.Bytes.{slash, fold_case, begins_with}
-use Rattle.gix_pathspec.specs.Paths.{IsBelow, IsAtOrBelow}
+use Rattle.gix_pathspec.specs.Paths.{IsBytes, IsBelow, IsAtOrBelow}
 use Rattle.gix_pathspec.specs.Attributes.{Table}
 use Rattle.gix_pathspec.specs.Specs.{Spec, is_include, ignores_case, always_matches}
 use Rattle.gix_pathspec.specs.Matching.{fits, spec_matches, IsChosen}
 use Rattle.gix_pathspec.specs.Plain.{is_plain, is_plain_but_for_attributes}
 use Rattle.gix_pathspec.specs.Prefixes.{stem}
 use Rattle.gix_pathspec.specs.Pruning.{can_match, is_total_exclude}
-
--- each element is a byte
-abbrev pub IsBytes : List ℕ → Type 0
-IsBytes text = All (λ b. b < 256) text
 
 -- an exclude stands that takes every path
 abbrev pub ExcludesAll : List Spec → Type 0

@@ -11,7 +11,7 @@ use Rattle.std.specs.List.Sorted.{IsStrictlyIncreasing}
 use Rattle.pathspec_glob.specs.Bytes.{is_one_of}
 use Rattle.pathspec_parts.specs.Paths.{IsBelow}
 use Rattle.pathspec_parts.specs.Entries.{Entry, is_seen}
-use Rattle.pathspec_parts.specs.Trees.{IsNested}
+use Rattle.pathspec_parts.specs.Trees.{IsNested, HasBytePaths}
 use Rattle.pathspec_parts.proofs.EntryProofs.{Contains-here, Contains-later}
 use Rattle.pathspec_parts.proofs.SeenProofs.{one_of-from, from-one_of, seen_from, from_seen, next_seen-is, none-next_seen, rising-push}
 use Rattle.pathspec_parts.proofs.TreeProofs.{entries_run}
@@ -19,9 +19,10 @@ use Rattle.pathspec_parts.specs.Cursors.{CursorContents, IsNew, number_after, ne
 
 -- ---- the start
 
-pub starts : (es : List Entry) (room entered_room : ℕ) → IsNested es → HoldsPaths es room → directory_count es ≤ entered_room → IsCursor es None 0 [] [] true room entered_room
-starts es room entered_room nest paths long = record {
+pub starts : (es : List Entry) (room entered_room : ℕ) → IsNested es → HasBytePaths es → HoldsPaths es room → directory_count es ≤ entered_room → IsCursor es None 0 [] [] true room entered_room
+starts es room entered_room nest bytes paths long = record {
   nested = nest;
+  bytes = bytes;
   here = λ n e. cc;
   nowhere = λ e. refl;
   fresh = λ e. (refl, refl);
@@ -68,6 +69,7 @@ module _ (es : List Entry) (at : Option ℕ) (next : ℕ) (path entered : List �
   pub ends : length es ≤ next → (more_room : ℕ) → room ≤ more_room → IsCursor es None next [] entered false more_room entered_room
   ends le more_room wide = record {
     nested = h.nested;
+    bytes = h.bytes;
     here = λ n e. cc;
     nowhere = λ e. refl;
     fresh = λ e. cc;
@@ -107,6 +109,7 @@ module _ (es : List Entry) (at : Option ℕ) (next : ℕ) (path entered : List �
   pub goes : (e : Entry) → slice_get es next ≡ Some e → (more_path : List ℕ) → more_path ≡ e.path → (end : ℕ) → IsEndOf es next end → (more_room : ℕ) → room ≤ more_room → IsCursor es (Some next) end more_path entered false more_room entered_room
   goes e s more_path p end is more_room wide = record {
     nested = h.nested;
+    bytes = h.bytes;
     here = λ n q. let k : next ≡ n = same_Some next n q in (e, ap (slice_get es) (sym k) ∙ s, h.seen e s, p);
     nowhere = λ q. cc;
     fresh = λ q. cc;
@@ -163,6 +166,7 @@ enters es n next path entered is_new room entered_room h dir more_room wide =
     let e = q.0 in
     record {
       nested = h.nested;
+      bytes = h.bytes;
       here = λ k r. let same : n ≡ k = same_Some n k r in (e, ap (slice_get es) (sym same) ∙ q.1, seen_from (append_once entered (Some n)) e (λ m c. append_once-keeps entered n m (from_seen entered e m q.2 c)), q.3);
       nowhere = λ r. cc;
       fresh = λ r. let f = (h.fresh r).0 in cc;

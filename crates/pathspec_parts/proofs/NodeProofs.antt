@@ -6,11 +6,11 @@ use Rattle.std.proofs.lemmas.Option.{slice_get_within, same_Some}
 use Rattle.std.specs.Prelude.{◌↔◌, slice_get, Contains, nat_lt, unwrap_or, option_map}
 use Rattle.pathspec_glob.specs.Bytes.{slash}
 use Rattle.pathspec_parts.specs.Entries.{Entry, numbers_of}
-use Rattle.pathspec_parts.specs.Trees.{TreeContents, IsNested}
+use Rattle.pathspec_parts.specs.Trees.{TreeContents, IsNested, HasBytePaths}
 use Rattle.pathspec_parts.specs.Cursors.{IsEndOf, IsNearPath, HoldsPaths}
 use Rattle.pathspec_parts.specs.TreeLayout.{name_at, end_at, directories_above, entry_of_node, tree_of_nodes, open_end, LiesUnder, IsLayout}
 use Rattle.pathspec_parts.proofs.ListProofs.{snoc_cases, get-map_range}
-use Rattle.pathspec_parts.proofs.TreeProofs.{get-last, tree_of_calls-nested}
+use Rattle.pathspec_parts.proofs.TreeProofs.{get-last, tree_of_calls-nested, tree_of_calls-bytes}
 use Rattle.pathspec_parts.proofs.LayoutProofs.{Contains-above, length-tree_of_nodes}
 use Rattle.pathspec_parts.specs.declared.tree.Node.{Node}
 
@@ -46,6 +46,9 @@ module _ (names : List ℕ) (nodes : List Node) (stack : List ℕ) (longest dire
 
   pub nested_of : IsNested t.entries
   nested_of = subst (λ (x : TreeContents). IsNested x.entries) (sym h.made_by.2 ∙ view) (tree_of_calls-nested h.made_by.0 h.made_by.1)
+
+  pub bytes_of : HasBytePaths t.entries
+  bytes_of = subst (λ (x : TreeContents). HasBytePaths x.entries) (sym h.made_by.2 ∙ view) (tree_of_calls-bytes h.made_by.0 h.made_by.1)
 
   pub entry_at : (i : ℕ) → i < length t.entries → (e : Entry) × (slice_get t.entries i ≡ Some e)
   entry_at i l = (entry_of_node names nodes i, ap (λ (x : TreeContents). slice_get x.entries i) (sym view) ∙ get-tree_of_nodes names nodes i (omega (arith, l, entries_count)))

@@ -1,14 +1,15 @@
 -- The entries of a tree: each number above an entry is that of a directory whose path the entry's path lies below.
 use Rattle.std.proofs.Common.{◌≡◌, ℕ, zero, suc, ◌+◌, ◌-◌, ◌<◌, Bool, true, false, refl, sym, ◌∙◌, ap, subst, List, [], ◌∷◌, ◌++◌, length, take, map, fold, arith, inl, inr, Some, append_assoc}
 use Rattle.std.proofs.lemmas.List.{append-nil, map-append, length_push}
-use Rattle.std.proofs.lemmas.List.Elements.{Contains-append_left, Contains-push_cases}
+use Rattle.std.proofs.lemmas.List.Elements.{Contains-append_left, Contains-push_cases, All-append, All-cons}
 use Rattle.std.proofs.lemmas.Option.{slice_get_within, same_Some, slice_get_cases}
 use Rattle.std.specs.Prelude.{◌⊎◌, ◌≢◌, slice_get, Contains, IsTrue}
+use Rattle.std.specs.List.{AllByRecursion}
 use Rattle.pathspec_glob.specs.Bytes.{slash}
-use Rattle.pathspec_parts.specs.Paths.{join_names, IsBelow}
+use Rattle.pathspec_parts.specs.Paths.{IsBytes, join_names, IsBelow}
 use Rattle.pathspec_parts.specs.Entries.{Call, OpenDirectory, Entry, names_of, numbers_of, entry_in, entries_from}
 use Rattle.pathspec_parts.specs.Entries.Call.{Open, File, Close}
-use Rattle.pathspec_parts.specs.Trees.{TreeContents, empty_tree, tree_after, tree_of_calls, IsTreeName, AreNamed, IsAbove, IsNested, TreeIsNested, TreeHasEntries, EntriesRun}
+use Rattle.pathspec_parts.specs.Trees.{TreeContents, empty_tree, tree_after, tree_of_calls, IsTreeName, AreNamed, IsAbove, IsNested, HasBytePaths, TreeIsNested, TreeHasEntries, EntriesRun}
 
 -- ---- lists
 
@@ -57,7 +58,7 @@ join_names-in front x (y ∷ rest) name = subst (λ t. IsBelow (join_names t) (j
 
 -- a path that ends with a name has bytes, at least one
 pub join_names-named : (names : List (List ℕ)) (name : List ℕ) → IsTreeName name → join_names (names ++ name ∷ []) ≢ []
-join_names-named [] name h e = h e
+join_names-named [] name h e = h.0 e
 join_names-named ([] ∷ []) name h e = cc
 join_names-named ((b ∷ x) ∷ []) name h e = cc
 join_names-named ([] ∷ y ∷ names) name h e = cc
@@ -254,6 +255,31 @@ tree_of_calls-nested calls n = nested-built (tree_of_calls calls) (calls-built I
 
 pub tree_is_nested : TreeIsNested
 tree_is_nested es t = subst IsNested (tree_has_entries t.0 ∙ sym t.2) (tree_of_calls-nested t.0 t.1)
+
+-- ---- bytes
+
+-- names of bytes make a path of bytes
+join_names-bytes : (names : List (List ℕ)) (name : List ℕ) → AllByRecursion IsBytes names → IsBytes name → IsBytes (join_names (names ++ name ∷ []))
+join_names-bytes [] name h n = n
+join_names-bytes (x ∷ []) name h n = All-append (λ b. b < 256) x (slash ∷ name) h.0 (All-cons (λ b. b < 256) slash name (omega arith) n)
+join_names-bytes (x ∷ y ∷ names) name h n =
+    let rest = join_names (y ∷ names ++ name ∷ []) in
+    All-append (λ b. b < 256) x (slash ∷ rest) h.0 (All-cons (λ b. b < 256) slash rest (omega arith) (join_names-bytes (y ∷ names) name h.1 n))
+
+-- the names of open directories are bytes
+open_names : (es : List Entry) (front directories : List OpenDirectory) → AreOpen IsTreeName es front directories → AllByRecursion IsBytes (names_of directories)
+open_names es front [] h = tt
+open_names es front (d ∷ rest) h = (h.1.1, open_names es (front ++ d ∷ []) rest h.2)
+
+bytes-built : (g : TreeContents) → IsBuilt IsTreeName g → HasBytePaths g.entries
+bytes-built g h n e s =
+    let r = h.each n e s in
+    let l = r.4 in
+    subst (λ (x : Entry). IsBytes x.path) (sym l.is) (join_names-bytes (names_of l.directories) l.name (open_names r.0 [] l.directories l.open_there) l.named.1)
+
+-- What the calls of a tree make has paths of bytes.
+pub tree_of_calls-bytes : (calls : List Call) → AreNamed IsTreeName calls → HasBytePaths (tree_of_calls calls).entries
+tree_of_calls-bytes calls n = bytes-built (tree_of_calls calls) (calls-built IsTreeName empty_tree calls n (empty-built IsTreeName))
 
 -- ---- one run
 

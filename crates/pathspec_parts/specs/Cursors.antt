@@ -5,7 +5,7 @@ use Rattle.std.specs.List.Sorted.{IsStrictlyIncreasing}
 use Rattle.pathspec_glob.specs.Bytes.{is_one_of}
 use Rattle.pathspec_parts.specs.Paths.{IsAtOrBelow}
 use Rattle.pathspec_parts.specs.Entries.{Entry, is_seen}
-use Rattle.pathspec_parts.specs.Trees.{IsNested}
+use Rattle.pathspec_parts.specs.Trees.{IsNested, HasBytePaths}
 
 -- the next entry from this number on that a walk sees which entered these
 abbrev pub next_seen : List ℕ → ℕ → List Entry → Option ℕ
@@ -95,6 +95,7 @@ IsDirectoryIn es m = (e : Entry) × (slice_get es m ≡ Some e) × IsTrue e.is_d
 -- what a cursor knows of its place, and of the next one
 pub record IsCursor (es : List Entry) (at : Option ℕ) (next : ℕ) (path entered : List ℕ) (is_new : Bool) (path_room entered_room : ℕ) : Type 0 where
   pub nested : IsNested es
+  pub bytes : HasBytePaths es
   pub here : (n : ℕ) → at ≡ Some n → (e : Entry) × (slice_get es n ≡ Some e) × (is_seen entered e ≡ true) × (path ≡ e.path)
   pub nowhere : at ≡ None → path ≡ []
   pub fresh : is_new ≡ true → (at ≡ None) × (entered ≡ [])

@@ -1,7 +1,11 @@
 -- Paths: byte strings that are cut at `/` (gitglossary, "pathspec").
-use Rattle.std.specs.Prelude.{◌≡◌, ◌⊎◌, ℕ, Bool, not, ◌&&◌, ◌||◌, List, [], ◌∷◌, ◌++◌, length, drop, filter, codes, bytes_eq, ◌==◌, if◌then◌else◌, Option, Some, None, ◌-◌, take, nat_eq}
+use Rattle.std.specs.Prelude.{◌≡◌, ◌⊎◌, ℕ, Bool, not, ◌&&◌, ◌||◌, List, [], ◌∷◌, ◌++◌, length, drop, filter, codes, bytes_eq, ◌==◌, if◌then◌else◌, Option, Some, None, ◌-◌, ◌<◌, take, nat_eq, All}
 use Rattle.std.specs.List.{starts_with, ends_with, list_all, join_with_byte, slice_split}
 use Rattle.pathspec_glob.specs.Bytes.{slash, is_empty, begins_with}
+
+-- each element is a byte
+abbrev pub IsBytes : List ℕ → Type 0
+IsBytes text = All (λ b. b < 256) text
 
 -- the byte `/`
 abbrev pub is_slash : ℕ → Bool

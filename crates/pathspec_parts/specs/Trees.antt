@@ -1,6 +1,6 @@
 -- A tree as it grows by calls, and what lies above its entries.
 use Rattle.std.specs.Prelude.{◌≡◌, ◌≢◌, ◌⊎◌, ℕ, ◌+◌, ◌-◌, ◌<◌, ◌≤◌, true, false, List, [], ◌∷◌, ◌++◌, length, take, fold, slice_get, Some, IsTrue, Contains}
-use Rattle.pathspec_parts.specs.Paths.{IsBelow}
+use Rattle.pathspec_parts.specs.Paths.{IsBytes, IsBelow}
 use Rattle.pathspec_parts.specs.Entries.{Call, OpenDirectory, Entry, entry_in, entries}
 use Rattle.pathspec_parts.specs.Entries.Call.{Open, File, Close}
 
@@ -25,9 +25,9 @@ tree_after t Close = record { entries = t.entries; open_directories = take (leng
 abbrev pub tree_of_calls : List Call → TreeContents
 tree_of_calls calls = fold tree_after empty_tree calls
 
--- a name of a tree: at least one byte
+-- a name of a tree: bytes, at least one
 abbrev pub IsTreeName : List ℕ → Type 0
-IsTreeName name = name ≢ []
+IsTreeName name = (name ≢ []) × IsBytes name
 
 -- P of every name of these calls
 abbrev pub AreNamed : (List ℕ → Type 0) → List Call → Type 0
@@ -61,6 +61,10 @@ pub record IsNested (es : List Entry) : Type 0 where
 -- What the calls of a tree make is nested.
 abbrev pub TreeIsNested : Type 0
 TreeIsNested = (es : List Entry) → IsTree es → IsNested es
+
+-- The paths of entries are bytes.
+abbrev pub HasBytePaths : List Entry → Type 0
+HasBytePaths es = (n : ℕ) (e : Entry) → slice_get es n ≡ Some e → IsBytes e.path
 
 -- The tree that the calls make has their entries.
 abbrev pub TreeHasEntries : Type 0

@@ -3,7 +3,7 @@ ghost use Rattle.std.specs.Prelude.{◌≡◌, ◌≤◌, ◌<◌, ◌+◌, ◌-
 ghost use Rattle.pathspec_parts.specs.Bytes.{slash};
 ghost use Rattle.pathspec_parts.specs.Entries.{Entry, own_call};
 ghost use Rattle.pathspec_parts.specs.Entries.Call.{Open, File, Close};
-ghost use Rattle.pathspec_parts.specs.Trees.{empty_tree, tree_after, IsNested};
+ghost use Rattle.pathspec_parts.specs.Trees.{empty_tree, tree_after, IsNested, HasBytePaths};
 ghost use Rattle.pathspec_parts.specs.Cursors.{IsEndOf, IsNearPath, IsPathOf, HoldsPaths, directory_count};
 ghost use Rattle.pathspec_parts.specs.TreeAnswers.{AnswersName, AnswersClose};
 ghost use Rattle.pathspec_parts.specs.TreeLayout.{name_start_at, name_end_at, name_at, open_end, path_above};
@@ -161,6 +161,7 @@ impl Tree {
     fn longest(&self) -> usize
         ensures longest { HoldsPaths self.now.entries result }
         ensures nested { IsNested self.now.entries }
+        ensures bytes { HasBytePaths self.now.entries }
     {
         self.longest
     }

@@ -7,7 +7,7 @@ use Rattle.std.proofs.lemmas.Option.{slice_get_within}
 use Rattle.std.specs.Prelude.{slice_get, Contains, IsTrue, All}
 use Rattle.pathspec_parts.specs.Attributes.{Table}
 use Rattle.pathspec_parts.specs.Entries.{Entry, entries_where}
-use Rattle.pathspec_parts.specs.Trees.{IsNested}
+use Rattle.pathspec_parts.specs.Trees.{IsNested, HasBytePaths}
 use Rattle.pathspec_parts.proofs.EntryProofs.{Contains-entries_where, entries_where-rising}
 use Rattle.pathspec_parts.proofs.SeenProofs.{seen_from, from_seen}
 use Rattle.gix_pathspec.specs.Specs.{Spec}
@@ -19,7 +19,7 @@ use Rattle.gix_pathspec.specs.SelectionLaws.{NoNilPrefix}
 use Rattle.gix_pathspec.proofs.ChosenProofs.{chosen_is_test}
 use Rattle.gix_pathspec.proofs.NotChosenProofs.{pruned_is_not_chosen}
 use Rattle.gix_pathspec.proofs.SharpPruningProofs.{pruning_is_sharp}
-use Rattle.pathspec_select.specs.Walks.{Enters, IsSafePruning, TakenIsSeen, IsEntryWith, IsDirectoryWith, LiesWithin, HasBytePaths, IsWalk, can_hold, chosen_entries, HasWalked, WalkHolds}
+use Rattle.pathspec_select.specs.Walks.{Enters, IsSafePruning, TakenIsSeen, IsEntryWith, IsDirectoryWith, LiesWithin, IsWalk, can_hold, chosen_entries, HasWalked, WalkHolds}
 
 -- P of each element, from P of what the list contains
 All-from_Contains : (P : ℕ → Type 0) (xs : List ℕ) → ((x : ℕ) → Contains xs x → P x) → All P xs
@@ -56,7 +56,7 @@ can_hold_is_safe table specs none path d is_dir taken below =
 
 -- ---- a walk to the end
 
-module _ (table : Table) (specs : List Spec) (none : NoNilPrefix specs) (es : List Entry) (entered : List ℕ) (nested : IsNested es) (walked : HasWalked specs es (length es) entered) where
+module _ (table : Table) (specs : List Spec) (none : NoNilPrefix specs) (es : List Entry) (entered : List ℕ) (nested : IsNested es) (bytes : HasBytePaths es) (walked : HasWalked specs es (length es) entered) where
   -- of the chosen entries
   chosen_holds : (n : ℕ) → Contains (chosen_entries table specs es) n → IsEntryWith es (λ e. IsChosen table specs e.path e.is_dir) n
   chosen_holds n c = let r = (Contains-entries_where (is_chosen table specs) es n).0 c in (r.0, r.1, (chosen_is_test table specs r.0.path r.0.is_dir).0 r.2)
@@ -78,8 +78,8 @@ module _ (table : Table) (specs : List Spec) (none : NoNilPrefix specs) (es : Li
   entered_within : (n : ℕ) → Contains entered n → IsEntryWith es (LiesWithin entered) n
   entered_within n c = let r = walked.are n c in (r.entry, r.stands, λ m above. from_seen entered r.entry m r.seen above)
 
-  entered_takes : HasOnlyIncludes is_plain specs → HasBytePaths es → (n : ℕ) → Contains entered n → IsDirectoryWith es (CanTake (spec_matches table) specs) n
-  entered_takes plain bytes n c =
+  entered_takes : HasOnlyIncludes is_plain specs → (n : ℕ) → Contains entered n → IsDirectoryWith es (CanTake (spec_matches table) specs) n
+  entered_takes plain n c =
       let r = walked.are n c in
       let sharp = pruning_is_sharp table specs plain r.entry.path (Some true) (nested.paths n r.entry r.stands) (bytes n r.entry r.stands) (λ e. cc) in
       (r.entry, r.stands, (r.is_dir, sharp.0 r.can_be_entered))
@@ -92,10 +92,10 @@ module _ (table : Table) (specs : List Spec) (none : NoNilPrefix specs) (es : Li
     entered_can_hold = All-from_Contains (IsDirectoryWith es (λ d. IsTrue (can_hold specs d))) entered entered_holds;
     above_given = All-from_Contains (IsEntryWith es (LiesWithin entered)) (chosen_entries table specs es) chosen_within;
     above_entered = All-from_Contains (IsEntryWith es (LiesWithin entered)) entered entered_within;
-    entered_sharp = λ plain bytes. All-from_Contains (IsDirectoryWith es (CanTake (spec_matches table) specs)) entered (entered_takes plain bytes);
+    entered_sharp = λ plain. All-from_Contains (IsDirectoryWith es (CanTake (spec_matches table) specs)) entered (entered_takes plain);
   }
 
 pub walk_holds : (table : Table) (specs : List Spec) → WalkHolds table specs
-walk_holds table specs none es given entered nested h =
+walk_holds table specs none es given entered nested bytes h =
     let same : given ≡ chosen_entries table specs es = h.given_is ∙ ap (entries_where (is_chosen table specs)) (take_all (length es) es (omega arith)) in
-    subst (λ (ns : List ℕ). IsWalk table specs es ns entered) (sym same) (walk_of_chosen table specs none es entered nested h.enters)
+    subst (λ (ns : List ℕ). IsWalk table specs es ns entered) (sym same) (walk_of_chosen table specs none es entered nested bytes h.enters)

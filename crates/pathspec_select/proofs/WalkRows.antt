@@ -1,8 +1,9 @@
--- Rows on walks over the tree of a listing, and why what they enter is told of paths of bytes.
+-- Rows on walks over the tree of a listing, and why it counts that the paths of a tree are bytes.
 use Rattle.std.proofs.Common.{◌≡◌, ℕ, ◌<◌, true, false, refl, List, [], ◌∷◌, Some, arith, inl, inr, subst}
 use Rattle.std.specs.Prelude.{codes, map}
 use Rattle.pathspec_pattern.specs.declared.SearchMode.TheVariants.{Literal}
 use Rattle.pathspec_parts.specs.Bytes.{slash}
+use Rattle.pathspec_parts.specs.Paths.{IsBytes}
 use Rattle.pathspec_parts.specs.Attributes.{Table}
 use Rattle.pathspec_parts.specs.Entries.{Entry, entries_where}
 use Rattle.pathspec_parts.specs.Cursors.{next_seen}
@@ -11,7 +12,7 @@ use Rattle.gix_pathspec.specs.Matching.{spec_matches, fit, has_attributes, is_ch
 use Rattle.gix_pathspec.specs.Prefixes.{common_prefix}
 use Rattle.gix_pathspec.specs.Plain.{is_plain}
 use Rattle.gix_pathspec.specs.Pruning.{can_match, reaches}
-use Rattle.gix_pathspec.specs.PruningLaws.{IsBytes, TakesAtOrBelow}
+use Rattle.gix_pathspec.specs.PruningLaws.{TakesAtOrBelow}
 use Rattle.pathspec_select.specs.Listing.{listing_entries, table_of}
 use Rattle.pathspec_select.specs.Walks.{can_hold, chosen_entries}
 

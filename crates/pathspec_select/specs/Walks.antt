@@ -4,13 +4,13 @@ use Rattle.std.specs.List.Sorted.{IsStrictlyIncreasing}
 use Rattle.pathspec_parts.specs.Paths.{IsBelow}
 use Rattle.pathspec_parts.specs.Attributes.{Table}
 use Rattle.pathspec_parts.specs.Entries.{Entry, is_seen, entries_where}
-use Rattle.pathspec_parts.specs.Trees.{IsNested}
+use Rattle.pathspec_parts.specs.Trees.{IsNested, HasBytePaths}
 use Rattle.pathspec_parts.specs.Cursors.{next_seen, append_if}
 use Rattle.gix_pathspec.specs.Specs.{Spec}
 use Rattle.gix_pathspec.specs.Matching.{spec_matches, is_chosen, IsChosen}
 use Rattle.gix_pathspec.specs.Plain.{is_plain}
 use Rattle.gix_pathspec.specs.Pruning.{can_match}
-use Rattle.gix_pathspec.specs.PruningLaws.{IsBytes, HasOnlyIncludes, CanTake}
+use Rattle.gix_pathspec.specs.PruningLaws.{HasOnlyIncludes, CanTake}
 use Rattle.gix_pathspec.specs.SelectionLaws.{NoNilPrefix}
 use Rattle.pathspec_select.specs.Listing.{output, listing_entries, marks_from, written_entries}
 
@@ -80,10 +80,6 @@ IsDirectoryWith es P n = IsEntryWith es (λ e. IsTrue e.is_dir × P e.path) n
 abbrev pub LiesWithin : List ℕ → Entry → Type 0
 LiesWithin entered e = (m : ℕ) → Contains e.above m → Contains entered m
 
--- the paths of entries are bytes
-abbrev pub HasBytePaths : List Entry → Type 0
-HasBytePaths es = (n : ℕ) (e : Entry) → slice_get es n ≡ Some e → IsBytes e.path
-
 -- A directory can hold a chosen path.
 abbrev pub can_hold : List Spec → List ℕ → Bool
 can_hold specs d = can_match specs d (Some true)
@@ -99,8 +95,8 @@ pub record IsWalk (table : Table) (specs : List Spec) (es : List Entry) (given e
   -- Each directory above an entry that it gives or enters is one that it enters: it looks at nothing else.
   pub above_given : All (IsEntryWith es (LiesWithin entered)) given
   pub above_entered : All (IsEntryWith es (LiesWithin entered)) entered
-  -- Where all includes are plain, it enters only directories at or below which an include matches some path, if there is an include. That is said of paths that are bytes.
-  pub entered_sharp : HasOnlyIncludes is_plain specs → HasBytePaths es → All (IsDirectoryWith es (CanTake (spec_matches table) specs)) entered
+  -- Where all includes are plain, it enters only directories at or below which an include matches some path, if there is an include.
+  pub entered_sharp : HasOnlyIncludes is_plain specs → All (IsDirectoryWith es (CanTake (spec_matches table) specs)) entered
 
 -- The numbers of the chosen entries.
 abbrev pub chosen_entries : Table → List Spec → List Entry → List ℕ
@@ -116,7 +112,7 @@ HasChosen table specs es end given entered = IsWalkUpTo (can_hold specs) (is_cho
 
 -- Where it came to the end of all, that is a walk in the sense above.
 abbrev pub WalkHolds : Table → List Spec → Type 0
-WalkHolds table specs = NoNilPrefix specs → (es : List Entry) (given entered : List ℕ) → IsNested es → HasChosen table specs es (length es) given entered → IsWalk table specs es given entered
+WalkHolds table specs = NoNilPrefix specs → (es : List Entry) (given entered : List ℕ) → IsNested es → HasBytePaths es → HasChosen table specs es (length es) given entered → IsWalk table specs es given entered
 
 -- What such a walk gives is one list.
 abbrev pub GivenIsOne : Table → List Spec → Type 0

@@ -3,7 +3,7 @@ ghost use Rattle.std.specs.Prelude.{◌≡◌, ◌<◌, ◌≤◌, ◌+◌, ◌�
 ghost use Rattle.std.specs.List.Sorted.{IsStrictlyIncreasing};
 ghost use Rattle.bstr.specs.BStr.{bstr_bytes};
 ghost use Rattle.pathspec_parts.specs.Bytes.{is_one_of};
-ghost use Rattle.pathspec_parts.specs.Trees.{IsNested};
+ghost use Rattle.pathspec_parts.specs.Trees.{IsNested, HasBytePaths};
 ghost use Rattle.pathspec_parts.specs.Cursors.{next_seen, IsNew, new_cursor, next_number, cursor_at, path_at, is_dir_at, after_enter, append_once};
 
 use super::Tree;
@@ -73,6 +73,7 @@ impl<'a> Cursor<'a> {
         ensures next { result ≡ next_seen self.old.entered (next_number self.old) self.old.entries }
         ensures place { self.new ≡ cursor_at self.old result }
         ensures nested { IsNested self.old.entries }
+        ensures bytes { HasBytePaths self.old.entries }
     {
         let place = self.next;
         let tree = self.tree;

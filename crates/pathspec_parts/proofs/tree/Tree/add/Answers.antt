@@ -1,5 +1,6 @@
-use Rattle.std.proofs.Common.{◌≡◌, ℕ, ◌≤◌, ◌+◌, List, Bool, true, false, length, cond, not, nat_eq, sym, ap, ◌∙◌, arith}
+use Rattle.std.proofs.Common.{◌≡◌, ℕ, ◌<◌, ◌≤◌, ◌+◌, List, Bool, true, false, length, cond, not, nat_eq, sym, ap, ◌∙◌, arith}
 use Rattle.std.proofs.lemmas.Bool.{both_ways}
+use Rattle.std.proofs.lemmas.List.Elements.{All-from_get_or}
 use Rattle.std.proofs.lemmas.List.Sums.{count_by-le-length}
 use Rattle.pathspec_parts.specs.Entries.{Entry, own_call}
 use Rattle.pathspec_parts.specs.Trees.{TreeContents, tree_after}
@@ -30,7 +31,7 @@ next : (c : goal.After-self-2-1) → IsNext c.self.inside.names.items c.self.ins
 next c =
     let s = c.self.inside in
     record {
-      named = λ e. both_ways c.is_empty.result c.if-is_empty.false (c.is_empty.ensures ∙ ap (λ (t : List ℕ). nat_eq (length t) 0) e);
+      named = (λ e. both_ways c.is_empty.result c.if-is_empty.false (c.is_empty.ensures ∙ ap (λ (t : List ℕ). nat_eq (length t) 0) e), All-from_get_or (λ b. b < 256) c.args.name.now 0 (λ i l. let fits = c.type_inv.name i in omega (arith, fits)));
       name_end = omega (arith, c.len.ensures, s.names.ok.0);
       above = c.in-Some.ensures.above ∙ ap (λ (x : TreeContents). length (path_above x.open_directories)) (sym c.self.view_is);
       end = c.first_end.ensures;

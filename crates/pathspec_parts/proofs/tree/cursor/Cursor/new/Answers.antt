@@ -12,4 +12,4 @@ pub invariant_of-result : goal.invariant_of-result
 invariant_of-result c =
     let es = c.args.tree.now.entries in
     starts_as es _ _ c.in_ok-path.path.items c.in_ok-entered.entered.items c.in_ok-path.ensures.items c.in_ok-entered.ensures.items
-    (starts es _ _ c.longest.ensures.nested (λ i e s. let p = c.longest.ensures.longest i e s in omega (arith, p, c.in_ok-path.ensures.exact)) (omega (arith, c.directories.ensures, c.in_ok-entered.ensures.exact)))
+    (starts es _ _ c.longest.ensures.nested c.longest.ensures.bytes (λ i e s. let p = c.longest.ensures.longest i e s in omega (arith, p, c.in_ok-path.ensures.exact)) (omega (arith, c.directories.ensures, c.in_ok-entered.ensures.exact)))
