@@ -9,7 +9,7 @@ use Rattle.pathspec_glob.specs.Bytes.{slash}
 use Rattle.pathspec_parts.specs.Paths.{IsBytes, join_names, IsBelow}
 use Rattle.pathspec_parts.specs.Entries.{Call, OpenDirectory, Entry, names_of, numbers_of, entry_in, entries_from}
 use Rattle.pathspec_parts.specs.Entries.Call.{Open, File, Close}
-use Rattle.pathspec_parts.specs.Trees.{TreeContents, empty_tree, tree_after, tree_of_calls, IsTreeName, AreNamed, IsAbove, IsNested, HasBytePaths, TreeIsNested, TreeHasEntries, EntriesRun}
+use Rattle.pathspec_parts.specs.Trees.{TreeContents, empty_tree, tree_after, tree_of_calls, IsTreeName, AreNamed, IsAbove, IsNested, HasBytePaths, TreeHasEntries, EntriesRun}
 
 -- ---- lists
 
@@ -252,9 +252,6 @@ nested-built g h = record {
 -- What the calls of a tree make is nested.
 pub tree_of_calls-nested : (calls : List Call) → AreNamed IsTreeName calls → IsNested (tree_of_calls calls).entries
 tree_of_calls-nested calls n = nested-built (tree_of_calls calls) (calls-built IsTreeName empty_tree calls n (empty-built IsTreeName))
-
-pub tree_is_nested : TreeIsNested
-tree_is_nested es t = subst IsNested (tree_has_entries t.0 ∙ sym t.2) (tree_of_calls-nested t.0 t.1)
 
 -- ---- bytes
 

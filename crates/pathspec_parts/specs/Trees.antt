@@ -36,10 +36,6 @@ AreNamed P (Open name ∷ calls) = P name × AreNamed P calls
 AreNamed P (File name ∷ calls) = P name × AreNamed P calls
 AreNamed P (Close ∷ calls) = AreNamed P calls
 
--- These are the entries of a tree.
-abbrev pub IsTree : List Entry → Type 0
-IsTree es = (calls : List Call) × AreNamed IsTreeName calls × (es ≡ entries calls)
-
 -- ---- what lies above an entry
 
 -- The entry with this number lies above e: it stands before e, is a directory, e's path lies below its path, and what lies above it lies above e.
@@ -57,10 +53,6 @@ pub record IsNested (es : List Entry) : Type 0 where
   pub above : (n m : ℕ) (e : Entry) → slice_get es n ≡ Some e → Contains e.above m → IsAbove es n e m
   pub paths : (n : ℕ) (e : Entry) → slice_get es n ≡ Some e → e.path ≢ []
   pub follows : (n m : ℕ) (e f : Entry) → slice_get es n ≡ Some e → slice_get es (n + 1) ≡ Some f → Contains f.above m → Contains e.above m ⊎ ((m ≡ n) × IsTrue e.is_dir)
-
--- What the calls of a tree make is nested.
-abbrev pub TreeIsNested : Type 0
-TreeIsNested = (es : List Entry) → IsTree es → IsNested es
 
 -- The paths of entries are bytes.
 abbrev pub HasBytePaths : List Entry → Type 0
