@@ -20,13 +20,13 @@ pub upto-all : (old new : Option (List ℕ)) (bs : List ℕ) → Appends old new
 upto-all old new bs h = (bs, sym (append-nil bs), h)
 
 -- more bytes, put after those that a buffer holds
-pub upto-more : (old between new : Option (List ℕ)) (bs held more left : List ℕ) → AppendsUpTo old between bs held → AppendsUpTo between new (held ++ more) left → AppendsUpTo old new (bs ++ more) left
-upto-more old between new bs held more left p q =
-    (p.0 ++ q.0, ap (λ t. t ++ more) p.1 ∙ (append_assoc p.0 held more ∙ (ap (λ t. p.0 ++ t) q.1 ∙ sym (append_assoc p.0 q.0 left))), appends-append old between new p.0 q.0 p.2 q.2)
+pub upto-more : (old between new : Option (List ℕ)) (bs buffered more left : List ℕ) → AppendsUpTo old between bs buffered → AppendsUpTo between new (buffered ++ more) left → AppendsUpTo old new (bs ++ more) left
+upto-more old between new bs buffered more left p q =
+    (p.0 ++ q.0, ap (λ t. t ++ more) p.1 ∙ (append_assoc p.0 buffered more ∙ (ap (λ t. p.0 ++ t) q.1 ∙ sym (append_assoc p.0 q.0 left))), appends-append old between new p.0 q.0 p.2 q.2)
 
 -- a failed write of them
-pub front-more : (old between new : Option (List ℕ)) (bs held more : List ℕ) → AppendsUpTo old between bs held → AppendsFront between new (held ++ more) → AppendsFront old new (bs ++ more)
-front-more old between new bs held more p q = (q.0, upto-more old between new bs held more q.0 p q.1)
+pub front-more : (old between new : Option (List ℕ)) (bs buffered more : List ℕ) → AppendsUpTo old between bs buffered → AppendsFront between new (buffered ++ more) → AppendsFront old new (bs ++ more)
+front-more old between new bs buffered more p q = (q.0, upto-more old between new bs buffered more q.0 p q.1)
 
 -- a front of some bytes is one of these and more
 pub front-longer : (old new : Option (List ℕ)) (bs more : List ℕ) → AppendsFront old new bs → AppendsFront old new (bs ++ more)
@@ -34,22 +34,22 @@ front-longer old new bs more q = (q.0 ++ more, (q.1.0, ap (λ t. t ++ more) q.1.
 
 -- ---- a further write
 
-module _ {A E : Type 0} (old between new : Option (List ℕ)) (bs held more : List ℕ) (before : AppendsUpTo old between bs held) where
-  pub then-put : (left : List ℕ) (result : Result A E) → OnOk result (AppendsUpTo between new (held ++ more) left) → OnOk result (AppendsUpTo old new (bs ++ more) left)
-  then-put left (Ok done) h = upto-more old between new bs held more left before h
+module _ {A E : Type 0} (old between new : Option (List ℕ)) (bs buffered more : List ℕ) (before : AppendsUpTo old between bs buffered) where
+  pub then-put : (left : List ℕ) (result : Result A E) → OnOk result (AppendsUpTo between new (buffered ++ more) left) → OnOk result (AppendsUpTo old new (bs ++ more) left)
+  then-put left (Ok done) h = upto-more old between new bs buffered more left before h
   then-put left (Err e) h = tt
 
-  pub then-front : (result : Result A E) → OnErr result (AppendsFront between new (held ++ more)) → OnErr result (AppendsFront old new (bs ++ more))
+  pub then-front : (result : Result A E) → OnErr result (AppendsFront between new (buffered ++ more)) → OnErr result (AppendsFront old new (bs ++ more))
   then-front (Ok done) h = tt
-  then-front (Err e) h = front-more old between new bs held more before h
+  then-front (Err e) h = front-more old between new bs buffered more before h
 
 pub all-put : {A E : Type 0} (old new : Option (List ℕ)) (bs left : List ℕ) → left ≡ [] → (result : Result A E) → OnOk result (Appends old new bs) → OnOk result (AppendsUpTo old new bs left)
 all-put old new bs left e (Ok done) h = rw e (upto-all old new bs h)
 all-put old new bs left e (Err x) h = tt
 
--- a record and its separator after what is held
-pub written-some : (held bytes : List ℕ) (separator : ℕ) (o : Option BStr) (r : BStr) → o ≡ Some r → bytes ≡ bstr_bytes r → (held ++ bytes) ++ separator ∷ [] ≡ held ++ written_of separator (option_map bstr_bytes o)
-written-some held bytes separator o r is e = append_assoc held bytes (separator ∷ []) ∙ (ap (λ t. held ++ (t ++ separator ∷ [])) e ∙ ap (λ x. held ++ written_of separator (option_map bstr_bytes x)) (sym is))
+-- a record and its separator after what is buffered
+pub written-some : (buffered bytes : List ℕ) (separator : ℕ) (o : Option BStr) (r : BStr) → o ≡ Some r → bytes ≡ bstr_bytes r → (buffered ++ bytes) ++ separator ∷ [] ≡ buffered ++ written_of separator (option_map bstr_bytes o)
+written-some buffered bytes separator o r is e = append_assoc buffered bytes (separator ∷ []) ∙ (ap (λ t. buffered ++ (t ++ separator ∷ [])) e ∙ ap (λ x. buffered ++ written_of separator (option_map bstr_bytes x)) (sym is))
 
 -- ---- all entries
 
@@ -74,28 +74,28 @@ pub ends-with : {A : Type 0} (old new : Option (List ℕ)) (bs : List ℕ) (resu
 ends-with {A = A} old new bs (Ok done) w f cause = w
 ends-with {A = A} old new bs (Err e) w f cause = subst (λ (r : Refusal). EndsOutput {A = A} old new bs (Err r)) (sym cause) f
 
--- what is held is written
-pub written-held : (old between new : Option (List ℕ)) (bs held : List ℕ) → AppendsUpTo old between bs held → Appends between new held → Appends old new bs
-written-held old between new bs held p w = subst (Appends old new) (sym p.1) (appends-append old between new p.0 held p.2 w)
+-- what is buffered is written
+pub written-buffered : (old between new : Option (List ℕ)) (bs buffered : List ℕ) → AppendsUpTo old between bs buffered → Appends between new buffered → Appends old new bs
+written-buffered old between new bs buffered p w = subst (Appends old new) (sym p.1) (appends-append old between new p.0 buffered p.2 w)
 
 -- a front of it is
-pub front-held : (old between new : Option (List ℕ)) (bs held : List ℕ) → AppendsUpTo old between bs held → AppendsFront between new held → AppendsFront old new bs
-front-held old between new bs held p q = (q.0, (p.0 ++ q.1.0, p.1 ∙ (ap (λ t. p.0 ++ t) q.1.1 ∙ sym (append_assoc p.0 q.1.0 q.0)), appends-append old between new p.0 q.1.0 p.2 q.1.2))
+pub front-buffered : (old between new : Option (List ℕ)) (bs buffered : List ℕ) → AppendsUpTo old between bs buffered → AppendsFront between new buffered → AppendsFront old new bs
+front-buffered old between new bs buffered p q = (q.0, (p.0 ++ q.1.0, p.1 ∙ (ap (λ t. p.0 ++ t) q.1.1 ∙ sym (append_assoc p.0 q.1.0 q.0)), appends-append old between new p.0 q.1.0 p.2 q.1.2))
 
--- What is held is written, and no entry is left.
-pub ends-all : {A : Type 0} (old between new : Option (List ℕ)) (separator : ℕ) (marks : List (Option (List ℕ))) (entries : List ℕ) (n : ℕ) (held bytes : List ℕ) → length entries ≤ n
-    → AppendsUpTo old between (written_entries separator marks (take n entries)) held → bytes ≡ held
+-- What is buffered is written, and no entry is left.
+pub ends-all : {A : Type 0} (old between new : Option (List ℕ)) (separator : ℕ) (marks : List (Option (List ℕ))) (entries : List ℕ) (n : ℕ) (buffered bytes : List ℕ) → length entries ≤ n
+    → AppendsUpTo old between (written_entries separator marks (take n entries)) buffered → bytes ≡ buffered
     → (result : Result A Refusal) → OnOk result (Appends between new bytes) → OnErr result (AppendsFront between new bytes) → IfErr result (λ e. e ≡ refusal.Write) → EndsOutput old new (written_entries separator marks entries) result
-ends-all {A = A} old between new separator marks entries n held bytes past before is result w f cause =
+ends-all {A = A} old between new separator marks entries n buffered bytes past before is result w f cause =
     ends-with old new (written_entries separator marks entries) result (whole result w) (front result f) cause
   where
     kept : AppendsUpTo old between (written_entries separator marks entries) bytes
-    kept = rw is (subst (λ (ns : List ℕ). AppendsUpTo old between (written_entries separator marks ns) held) (take_all n entries (omega (arith, past))) before)
+    kept = rw is (subst (λ (ns : List ℕ). AppendsUpTo old between (written_entries separator marks ns) buffered) (take_all n entries (omega (arith, past))) before)
 
     whole : (result : Result A Refusal) → OnOk result (Appends between new bytes) → OnOk result (Appends old new (written_entries separator marks entries))
-    whole (Ok done) w = written-held old between new (written_entries separator marks entries) bytes kept w
+    whole (Ok done) w = written-buffered old between new (written_entries separator marks entries) bytes kept w
     whole (Err e) w = tt
 
     front : (result : Result A Refusal) → OnErr result (AppendsFront between new bytes) → OnErr result (AppendsFront old new (written_entries separator marks entries))
     front (Ok done) f = tt
-    front (Err e) f = front-held old between new (written_entries separator marks entries) bytes kept f
+    front (Err e) f = front-buffered old between new (written_entries separator marks entries) bytes kept f

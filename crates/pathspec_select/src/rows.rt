@@ -20,6 +20,8 @@ use std::marker::Model;
 
 /// Rows of a path and the attributes that are assigned to it. As a look-up they answer every question: each row whose
 /// path is the question's sets its assignments, in the order of the rows.
+///
+/// A question is compared with the path of each row.
 #[derive(Debug, Drop)]
 pub struct Rows {
     rows: Vec<(Vec<u8>, Vec<Assignment>)>,

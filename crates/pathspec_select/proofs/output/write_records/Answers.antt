@@ -1,4 +1,4 @@
--- After each entry what was written and what is held is what is written for the entries so far.
+-- After each entry what was written and what is buffered is what is written for the entries so far.
 use Rattle.std.proofs.Common.{◌+◌, sym, subst, take, drop, List, ℕ}
 use Rattle.std.proofs.lemmas.Result.{err_from_is_err_and}
 use Rattle.pathspec_select.specs.Listing.{written_entries}
