@@ -1,19 +1,19 @@
 -- The names in a record, before and after its last slash.
-use Rattle.std.proofs.Common.{◌≡◌, ℕ, ◌+◌, ◌-◌, ◌<◌, Bool, true, false, ◌||◌, ◌&&◌, cond, refl, sym, ◌∙◌, ap, subst, inl, inr, List, [], ◌∷◌, ◌++◌, length, get_or, take, drop, arith, append_assoc, Some, None}
+use Rattle.std.proofs.Common.{◌≡◌, ℕ, ◌+◌, ◌-◌, ◌<◌, ◌≤◌, Bool, true, false, ◌||◌, ◌&&◌, cond, refl, sym, ◌∙◌, ap, subst, inl, inr, List, [], ◌∷◌, ◌++◌, length, get_or, take, drop, arith, append_assoc, Some, None}
 use Rattle.std.proofs.lemmas.Bool.{cases_Bool, eqb-true, false_from_ne_true}
 use Rattle.std.proofs.lemmas.Bool.Decides.{nat_tests}
 use Rattle.std.proofs.Math.Numerals.{one-add}
-use Rattle.std.proofs.lemmas.List.{take_at, drop_at, length_push, length-drop, take-append-drop, take-append-le, drop-append-le, take_more, get_or-drop}
+use Rattle.std.proofs.lemmas.List.{take_at, drop_at, length_push, length-drop, length-take-le, take-append-drop, take-append-le, drop-append-le, take_more, take_rest, get_or-drop, get_or-take}
 use Rattle.std.proofs.lemmas.List.Elements.{All-push, All-from_get_or}
 use Rattle.std.proofs.lemmas.List.Splits.{slice_split_none, slice_split-cons_yes, length-slice_split}
-use Rattle.std.proofs.Math.Seq.{take-append_seam, drop-append_seam}
+use Rattle.std.proofs.Math.Seq.{take-append_seam, drop-append_seam, take-take, take-add}
 use Rattle.std.specs.Prelude.{◌≢◌, All}
 use Rattle.std.specs.List.{slice_split, onto_first, before_first}
 use Rattle.bstr.specs.Find.{IsLastByte, is_byte}
 use Rattle.pathspec_parts.specs.Bytes.{slash, is_empty, first_is, begins_with}
 use Rattle.pathspec_parts.specs.Paths.{is_slash, pieces, ends_with_slash, without_last_slash}
 use Rattle.pathspec_select.specs.Listing.{without_empty_end, record_path, record_names, parent_names, own_names, is_bad, holds_two_slashes}
-use Rattle.pathspec_select.specs.ListingAnswers.{directory_names, has_empty_name}
+use Rattle.pathspec_select.specs.ListingAnswers.{directory_names, has_empty_name, HasCommonFront, IsAfterName, SharesNames}
 use Rattle.pathspec_select.proofs.ListingProofs.{others, split-first}
 use Rattle.pathspec_select.proofs.RecordProofs.{last_cases}
 
@@ -38,6 +38,11 @@ without_empty_end-push [] = refl
 without_empty_end-push (x ∷ []) = refl
 without_empty_end-push (x ∷ y ∷ xs) = ap (λ parts. x ∷ parts) (without_empty_end-push (y ∷ xs))
 
+without_empty_end-append : (parts : List (List ℕ)) (x : List ℕ) (more : List (List ℕ)) → without_empty_end (parts ++ x ∷ more) ≡ parts ++ without_empty_end (x ∷ more)
+without_empty_end-append [] x more = refl
+without_empty_end-append (y ∷ []) x more = refl
+without_empty_end-append (y ∷ z ∷ parts) x more = ap (λ t. y ∷ t) (without_empty_end-append (z ∷ parts) x more)
+
 -- a path that is empty, or has a slash at its end
 pub data IsClosed : List ℕ → Type 0 where
   empty : IsClosed []
@@ -49,6 +54,17 @@ pieces-closed _ name empty none = slice_split_none is_slash name none
 pieces-closed _ name (after_slash front) none =
     let names : directory_names (front ++ slash ∷ []) ≡ pieces front = ap without_empty_end (slice_split-seam is_slash front slash [] refl) ∙ without_empty_end-push (pieces front) in
     ap pieces (append_assoc front (slash ∷ []) name) ∙ (slice_split-seam is_slash front slash name refl ∙ (ap (λ t. pieces front ++ t) (slice_split_none is_slash name none) ∙ ap (λ t. t ++ name ∷ []) (sym names)))
+
+-- the names of such a path and another
+directory_names-append : (path more : List ℕ) → IsClosed path → directory_names (path ++ more) ≡ directory_names path ++ directory_names more
+directory_names-append _ more empty = refl
+directory_names-append _ more (after_slash front) =
+    let names : directory_names (front ++ slash ∷ []) ≡ pieces front = ap without_empty_end (slice_split-seam is_slash front slash [] refl) ∙ without_empty_end-push (pieces front) in
+    let later = split-first is_slash more in
+    ap directory_names (append_assoc front (slash ∷ []) more)
+    ∙ (ap without_empty_end (slice_split-seam is_slash front slash more refl ∙ ap (λ t. pieces front ++ t) later)
+    ∙ (without_empty_end-append (pieces front) (before_first is_slash more) (others is_slash more)
+    ∙ (ap (λ t. pieces front ++ without_empty_end t) (sym later) ∙ ap (λ t. t ++ directory_names more) (sym names))))
 
 -- ---- a last byte
 
@@ -226,3 +242,46 @@ directory_names-record (b ∷ bs) t =
     let c = last_cases (b ∷ bs) (omega arith) in
     let end : is_slash c.1 ≡ true = sym (ends_with_slash-push c.0 c.1) ∙ (ap ends_with_slash (sym c.2) ∙ t) in
     subst (λ x. directory_names x ≡ record_names x) (sym c.2) (directory_names-push c.0 c.1 end)
+
+-- ---- names that two paths share
+
+-- a path can be cut after a slash
+pub after_slash_at : (path : List ℕ) (i : ℕ) → i < length path → get_or path i 0 ≡ slash → IsAfterName path (i + 1)
+after_slash_at path i inside here =
+    let closed : take (i + 1) path ≡ take i path ++ slash ∷ [] = take_more path i 0 inside ∙ ap (λ x. take i path ++ x ∷ []) here in
+    ap directory_names (sym (take-append-drop (i + 1) path)) ∙ directory_names-append (take (i + 1) path) (drop (i + 1) path) (subst IsClosed (sym closed) (after_slash (take i path)))
+
+-- fewer bytes are the same where more are
+fewer_alike : (left right : List ℕ) (n m : ℕ) → m ≤ n → HasCommonFront left right n → HasCommonFront left right m
+fewer_alike left right n m less h = record {
+  in_left = omega (arith, less, h.in_left);
+  in_right = omega (arith, less, h.in_right);
+  same = sym (take-take m n left less) ∙ (ap (take m) h.same ∙ take-take m n right less);
+}
+
+-- more bytes are the same where those after them are
+pub more_alike : (left right : List ℕ) (n m : ℕ) → HasCommonFront left right n → HasCommonFront (take (length left - n) (drop n left)) (take (length right - n) (drop n right)) m → HasCommonFront left right (n + m)
+more_alike left right n m h rests =
+    let more : HasCommonFront (drop n left) (drop n right) m = subst (λ t. HasCommonFront t (drop n right) m) (take_rest left n) (subst (λ t. HasCommonFront (take (length left - n) (drop n left)) t m) (take_rest right n) rests) in
+    record {
+      in_left = omega (arith, h.in_left, more.in_left, length-drop n left);
+      in_right = omega (arith, h.in_right, more.in_right, length-drop n right);
+      same = take-add n m left ∙ (ap (λ t. t ++ take m (drop n left)) h.same ∙ (ap (λ t. take n right ++ t) more.same ∙ sym (take-add n m right)));
+    }
+
+pub shares_none : (directory wanted : List ℕ) → SharesNames directory wanted 0
+shares_none directory wanted = record {
+  front = record { in_left = omega arith; in_right = omega arith; same = refl };
+  in_directory = refl;
+  in_wanted = refl;
+}
+
+pub shares_up_to : (directory wanted : List ℕ) (n i : ℕ) → HasCommonFront directory wanted n → IsLastByte (is_byte slash) (take n directory) (Some i) → SharesNames directory wanted (i + 1)
+shares_up_to directory wanted n i h last =
+    let less : i < n = omega (arith, last.0.high, h.in_left, length-take-le n directory h.in_left) in
+    let here : get_or (take n directory) i 0 ≡ slash = eqb-true (get_or (take n directory) i 0) slash last.1 in
+    record {
+      front = fewer_alike directory wanted n (i + 1) (omega (arith, less)) h;
+      in_directory = after_slash_at directory i (omega (arith, less, h.in_left)) (sym (get_or-take n directory i 0 less) ∙ here);
+      in_wanted = after_slash_at wanted i (omega (arith, less, h.in_right)) (sym (get_or-take n wanted i 0 less) ∙ (ap (λ t. get_or t i 0) (sym h.same) ∙ here));
+    }

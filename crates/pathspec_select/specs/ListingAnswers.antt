@@ -1,5 +1,5 @@
 -- What a clause reads of a listing that is read, and of its parts.
-use Rattle.std.specs.Prelude.{◌≡◌, ℕ, Bool, true, false, List, length, drop, nat_lt, ◌==◌, if◌then◌else◌, Option, Some, None, Result, Ok, Err}
+use Rattle.std.specs.Prelude.{◌≡◌, ℕ, ◌≤◌, Bool, true, false, List, ◌++◌, length, take, drop, nat_lt, ◌==◌, if◌then◌else◌, Option, Some, None, Result, Ok, Err}
 use Rattle.std.specs.List.{list_any, before_first}
 use Rattle.pathspec_parts.specs.declared.tree.TreeError.{TreeError}
 use Rattle.pathspec_parts.specs.declared.tree.TreeError.TheVariants as tree_error
@@ -15,6 +15,22 @@ directory_names path = records slash path
 -- some name is empty
 abbrev pub has_empty_name : List (List ℕ) → Bool
 has_empty_name names = list_any is_empty names
+
+-- so many first bytes of both are the same
+pub record HasCommonFront (left right : List ℕ) (n : ℕ) : Type 0 where
+  pub in_left : n ≤ length left
+  pub in_right : n ≤ length right
+  pub same : take n left ≡ take n right
+
+-- the path can be cut after so many bytes, which are whole names
+abbrev pub IsAfterName : List ℕ → ℕ → Type 0
+IsAfterName path n = directory_names path ≡ directory_names (take n path) ++ directory_names (drop n path)
+
+-- so many first bytes of two directories' paths are the same whole names
+pub record SharesNames (directory wanted : List ℕ) (n : ℕ) : Type 0 where
+  pub front : HasCommonFront directory wanted n
+  pub in_directory : IsAfterName directory n
+  pub in_wanted : IsAfterName wanted n
 
 -- one of the names is empty, or memory ran out
 abbrev pub RefusesNames : List (List ℕ) → TreeError → Type 0

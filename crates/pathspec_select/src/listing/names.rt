@@ -1,8 +1,8 @@
 //! The names in a record, and the directories that two paths share.
-ghost use Rattle.std.specs.Prelude.{◌≡◌, ◌≢◌, [], ◌∷◌, drop};
+ghost use Rattle.std.specs.Prelude.{◌≡◌, ◌≢◌, [], ◌∷◌, drop, IsTrue};
 ghost use Rattle.pathspec_parts.specs.Paths.{ends_with_slash, without_last_slash};
 ghost use Rattle.pathspec_select.specs.Listing.{record_is_dir, parent_names, own_names, shared_depth, implied_names};
-ghost use Rattle.pathspec_select.specs.ListingAnswers.{directory_names};
+ghost use Rattle.pathspec_select.specs.ListingAnswers.{directory_names, HasCommonFront, SharesNames};
 
 use bstr::ByteSlice;
 use pathspec_parts::split;
@@ -34,8 +34,9 @@ pub(super) fn after_shared<'a>(directory: &'a [u8], wanted: &'a [u8]) -> (&'a [u
     ensures missing { directory_names result.1.now
         ≡ implied_names (directory_names directory.now) (directory_names wanted.now) }
 {
-    let mut left = directory;
-    let mut missing = wanted;
+    let shared = shared_front(directory, wanted);
+    let mut left = &directory[shared..];
+    let mut missing = &wanted[shared..];
     while !left.is_empty() && !missing.is_empty() {
         let (name, left_after) = split::at_first(left, b'/');
         let (wanted_name, missing_after) = split::at_first(missing, b'/');
@@ -46,4 +47,39 @@ pub(super) fn after_shared<'a>(directory: &'a [u8], wanted: &'a [u8]) -> (&'a [u
         missing = missing_after;
     }
     (left, missing)
+}
+
+/// How many bytes of two directories' paths are the same whole names, or some of these.
+fn shared_front(directory: &[u8], wanted: &[u8]) -> usize
+    ensures { SharesNames directory.now wanted.now result }
+{
+    let common = &directory[..common_front(directory, wanted)];
+    match common.rfind_byte(b'/') {
+        Some(slash) => slash + 1,
+        None => 0,
+    }
+}
+
+/// How many first bytes of two texts are the same, up to a multiple of eight.
+fn common_front(left: &[u8], right: &[u8]) -> usize
+    ensures { HasCommonFront left.now right.now result }
+{
+    let mut length = 0;
+    while begin_alike(&left[length..], &right[length..]) {
+        length += 8;
+    }
+    length
+}
+
+/// Whether the first eight bytes of two texts are the same.
+fn begin_alike(left: &[u8], right: &[u8]) -> bool
+    ensures { IsTrue result → HasCommonFront left.now right.now 8 }
+{
+    let Some(first) = left.first_chunk::<8>() else {
+        return false;
+    };
+    let Some(second) = right.first_chunk::<8>() else {
+        return false;
+    };
+    first == second
 }

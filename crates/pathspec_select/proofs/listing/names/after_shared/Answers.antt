@@ -1,9 +1,12 @@
 use Rattle.std.proofs.Common.{◌≡◌, ℕ, sym, ◌∙◌, ap, List}
 use Rattle.pathspec_select.specs.ListingAnswers.{directory_names}
-use Rattle.pathspec_select.proofs.SharedProofs.{unshared, unshared-is}
+use Rattle.pathspec_select.proofs.SharedProofs.{unshared, unshared-is, unshared-after}
 use Rattle.pathspec_select.proofs.AddingProofs.{shared_one, unshared-no_left, unshared-no_missing, unshared-other}
 use Rattle.pathspec_select.proofs.listing.names.after_shared.Goals as goal
 use Rattle.pathspec_select.proofs.listing.names.after_shared.Goals.{then-loop-name-test+else-not-is_empty, else-loop-name-test, then-loop-name-test+then-not-is_empty+then-ne}
+
+pub loop-name-init : goal.loop-name-init
+loop-name-init c = unshared-after c.args.directory.now c.args.wanted.now c.shared_front-shared.result c.shared_front-shared.ensures
 
 pub loop-name-preserved : goal.loop-name-preserved
 loop-name-preserved c =
