@@ -55,12 +55,12 @@ fn shared_front(directory: &[u8], wanted: &[u8]) -> usize
 {
     let common = &directory[..common_front(directory, wanted)];
     match common.rfind_byte(b'/') {
-        Some(slash) => slash + 1,
+        Some(end) => end + 1,
         None => 0,
     }
 }
 
-/// How many first bytes of two texts are the same, up to a multiple of eight.
+/// How many first bytes of two texts are the same, in whole eights.
 fn common_front(left: &[u8], right: &[u8]) -> usize
     ensures { HasCommonFront left.now right.now result }
 {
