@@ -7,7 +7,7 @@ use Rattle.pathspec_pattern.specs.declared.defaults.Defaults.{Defaults}
 use Rattle.pathspec_pattern.specs.declared.error.Error.{Error}
 use Rattle.pathspec_pattern.specs.Results.{◌>>=◌}
 use Rattle.pathspec_pattern.specs.Faults.{Fault}
-use Rattle.pathspec_pattern.specs.Errors.{IsMemoryOr, IsAnswerOrFault}
+use Rattle.pathspec_pattern.specs.Errors.{Tells, IsAnswerOrFault}
 use Rattle.pathspec_pattern.specs.Environment.{Words, flag_of, mode_of, mode_of_words, case_signature, defaults_after, defaults_of, Variable, Asker, asked_after, asked_globs, asked_variables, Asks, HasAsked, AnswersBy, words_of}
 
 -- ---- one variable after the other
@@ -25,10 +25,6 @@ IsErrAnd-then (Err fault) next P h = h
 -- the one variable with this name
 abbrev pub one_variable : List ℕ → Option (List ℕ) → List Variable
 one_variable name word = (name, word) ∷ []
-
--- the error tells the fault, or that memory ran out
-abbrev Tells : Error → Fault → Type 0
-Tells e fault = IsMemoryOr e (λ told_fault. told_fault ≡ fault)
 
 -- nothing is asked for after a fault
 after_fault : {F : Type 0} (g : Asker F) (f f' : F) (name : List ℕ) (word : Option (List ℕ)) (after : Bool → List Variable) (P : Fault → Type 0) → (r : Result Bool Fault) → IsErrAnd r P → Asks g f (one_variable name word) f'

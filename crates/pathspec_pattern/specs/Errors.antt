@@ -1,5 +1,5 @@
 -- What a clause reads of an `Error`.
-use Rattle.std.specs.Prelude.{◌≡◌, ℕ, List, codes, Option, Some, None, IfSome, Result, Ok, Err, MatchResult, IsErrAnd}
+use Rattle.std.specs.Prelude.{◌≡◌, ℕ, Bool, true, false, List, codes, Option, Some, None, IfSome, MatchOption, IsTrue, Result, Ok, Err, MatchResult, IsErrAnd}
 use Rattle.pathspec_pattern.specs.declared.error.Error.{Error}
 use Rattle.pathspec_pattern.specs.declared.error.Error.TheVariants as told
 use Rattle.pathspec_pattern.specs.Faults.{Fault}
@@ -38,9 +38,30 @@ Computes view computed result = MatchResult result (λ x. computed ≡ Ok (view 
 abbrev pub IsAnswer : {A : Type 0} → Result A Fault → Result A Error → Type 0
 IsAnswer computed result = Computes (λ x. x) computed result
 
--- The same, where only the bytes of a fault take memory: the value that is computed, or where there is none its fault, or that memory ran out.
+-- whether the fault carries a text, which takes memory to tell
+abbrev pub carries_text : Fault → Bool
+carries_text Fault.Empty = false
+carries_text (Fault.UnimplementedShort byte) = false
+carries_text (Fault.MissingParen input) = true
+carries_text (Fault.InvalidKeyword piece) = true
+carries_text (Fault.LiteralWithGlob piece) = true
+carries_text (Fault.SecondAttributes piece) = true
+carries_text Fault.EmptyAttributes = false
+carries_text (Fault.InvalidName name) = true
+carries_text (Fault.InvalidValueByte byte) = false
+carries_text (Fault.TrailingEscape value) = true
+carries_text (Fault.OutsideRoot path) = true
+carries_text (Fault.LeavesRepository path) = true
+carries_text (Fault.NotTruth word) = true
+carries_text Fault.GlobAndNoGlob = false
+
+-- The error tells the fault; or memory ran out, where the fault carries a text.
+abbrev pub Tells : Error → Fault → Type 0
+Tells e fault = MatchOption (fault_of e) (IsTrue (carries_text fault)) (λ told_fault. told_fault ≡ fault)
+
+-- The same, where only the texts of faults take memory: the value that is computed, or where there is none its fault, or that memory ran out for its text.
 abbrev pub IsAnswerOrFault : {A : Type 0} → Result A Fault → Result A Error → Type 0
-IsAnswerOrFault computed result = MatchResult result (λ x. computed ≡ Ok x) (λ e. IsErrAnd computed (λ fault. IsMemoryOr e (λ told_fault. told_fault ≡ fault)))
+IsAnswerOrFault computed result = MatchResult result (λ x. computed ≡ Ok x) (λ e. IsErrAnd computed (Tells e))
 
 -- the name of the variant
 abbrev pub kind_of : Error → List ℕ

@@ -1,11 +1,11 @@
 -- What the environment says where a closure is asked for its words.
-use Rattle.std.proofs.Common.{◌≡◌, ◌∙◌, refl, sym, ap, subst, if◌then◌else◌, ℕ, Bool, true, false, List, [], ◌∷◌, Option, Some, None, IfSome, IsErrAnd, MatchOption, Ok, Err, Result}
+use Rattle.std.proofs.Common.{◌≡◌, ◌∙◌, refl, sym, ap, subst, if◌then◌else◌, ℕ, Bool, true, false, List, [], ◌∷◌, Option, Some, None, IsErrAnd, IsTrue, MatchOption, Ok, Err, Result}
 use Rattle.std.specs.Prelude.{codes}
 use Rattle.std.specs.Option.{option_copied}
 use Rattle.std.specs.Borrow.{Bor}
 use Rattle.std.specs.Fn.{CalledAt}
 use Rattle.gix_pathspec.specs.Faults.{Fault}
-use Rattle.gix_pathspec.specs.Errors.{fault_of, IsMemoryOr}
+use Rattle.gix_pathspec.specs.Errors.{fault_of, carries_text, Tells}
 use Rattle.pathspec_pattern.specs.declared.error.Error.{Error}
 use Rattle.pathspec_pattern.specs.declared.defaults.Defaults.{Defaults}
 use Rattle.pathspec_pattern.specs.Environment.{Words, flag_of, Variable, Asker, Asks, asked_after, asked_globs, asked_variables}
@@ -55,10 +55,10 @@ pub asks_environment : {F : Type 0} (environment words : Words) (g : Asker F) (f
 asks_environment environment words g f last answers h = same_variables environment words (asked_words environment g f answers (asked_variables words) last h)
 
 -- the refusal for an error of the environment tells its fault
-pub tells-environment : (e : Error) (r : Refusal) (said own : Result Defaults Fault) → said ≡ own → IsErrAnd said (λ fault. IsMemoryOr e (λ told_fault. told_fault ≡ fault)) → RefusesEnvironment e r → TellsWordFault r (λ fault. environment_result own ≡ Err fault)
+pub tells-environment : (e : Error) (r : Refusal) (said own : Result Defaults Fault) → said ≡ own → IsErrAnd said (Tells e) → RefusesEnvironment e r → TellsWordFault r (λ fault. environment_result own ≡ Err fault)
 tells-environment e r (Ok defaults) own same h m = absurd h
 tells-environment e r (Err fault) own same h m = by_fault (fault_of e) refl h m
   where
-    by_fault : (o : Option Fault) → fault_of e ≡ o → IfSome o (λ told_fault. told_fault ≡ fault) → MatchOption o (r ≡ refusal.Memory) (λ fault. r ≡ refusal.Environment e) → TellsWordFault r (λ fault. environment_result own ≡ Err fault)
+    by_fault : (o : Option Fault) → fault_of e ≡ o → MatchOption o (IsTrue (carries_text fault)) (λ told_fault. told_fault ≡ fault) → MatchOption o (r ≡ refusal.Memory) (λ fault. r ≡ refusal.Environment e) → TellsWordFault r (λ fault. environment_result own ≡ Err fault)
     by_fault None q h m = rw m tt
     by_fault (Some f) q h m = rw m (f, q, rw (← same, h) refl)
