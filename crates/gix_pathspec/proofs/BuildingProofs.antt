@@ -124,4 +124,4 @@ common_prefix-is specs = refl
 
 -- the same search
 pub is_search-same : (specs others : List Numbered) (nil other_nil : Pattern) (common other_common : List ℕ) → others ≡ specs → pattern_spec other_nil ≡ nil_spec → other_common ≡ common → IsSearch specs nil common → IsSearch others other_nil other_common
-is_search-same specs others nil other_nil common other_common s n c h = rw (s, c) (record { is_ordered = h.is_ordered; has_no_nil_prefix = h.has_no_nil_prefix; is_nil = n; is_common = h.is_common })
+is_search-same specs others nil other_nil common other_common s n c h = rw (s, c) (record { is_ordered = h.is_ordered; has_no_nil_prefix = h.has_no_nil_prefix; has_byte_paths = h.has_byte_paths; is_nil = n; is_common = h.is_common })

@@ -4,7 +4,6 @@ use Rattle.std.proofs.lemmas.Bool.{cases_Bool}
 use Rattle.std.proofs.lemmas.List.{map-append, append-nil}
 use Rattle.std.proofs.lemmas.List.Elements.{filter-append, Contains-push, Contains-append_left, Contains-append_right, Contains-append_cases}
 use Rattle.std.specs.Prelude.{Contains, IsTrue, filter}
-use Rattle.gix_pathspec.specs.Results.{◌>>=◌}
 use Rattle.gix_pathspec.specs.Faults.{Fault}
 use Rattle.gix_pathspec.specs.Faults.Fault.{LeavesRepository}
 use Rattle.gix_pathspec.specs.Specs.{Spec, is_exclude, is_include}
@@ -43,17 +42,25 @@ ok_of_number : {A : Type 0} (n : ℕ) (r : Result A Fault) (a : A) → at_number
 ok_of_number n (Ok x) a h = cc
 ok_of_number n (Err e) a h = cc
 
-no_spec : NoNilPrefix []
-no_spec s c n = let no : ⊥ = omega (arith, c.1) in absurd no
+-- P of each spec
+abbrev pub OfEach : (Spec → Type 0) → List Spec → Type 0
+OfEach P specs = (s : Spec) → Contains specs s → P s
 
-one_more : (x : Spec) (specs : List Spec) → (IsTrue x.nil → x.prefix_length ≡ 0) → NoNilPrefix specs → NoNilPrefix (x ∷ specs)
-one_more x specs p q s c = elim (Contains-cases x specs s c) [
-  | inl e ↦ subst (λ (y : Spec). IsTrue y.nil → y.prefix_length ≡ 0) e p
+-- a nil one has no prefix directory
+abbrev LacksNilPrefix : Spec → Type 0
+LacksNilPrefix s = IsTrue s.nil → s.prefix_length ≡ 0
+
+of_none : (P : Spec → Type 0) → OfEach P []
+of_none P s c = let no : ⊥ = omega (arith, c.1) in absurd no
+
+one_more : (P : Spec → Type 0) (x : Spec) (specs : List Spec) → P x → OfEach P specs → OfEach P (x ∷ specs)
+one_more P x specs p q s c = elim (Contains-cases x specs s c) [
+  | inl e ↦ subst P e p
   | inr d ↦ q s d
 ]
 
 numbered_from-nil : (n : ℕ) (prefix root : List ℕ) (specs : List Spec) (ns : List Numbered) → numbered_from n prefix root specs ≡ Ok ns → NoNilPrefix (specs_of ns)
-numbered_from-nil n prefix root [] ns e = let same : [] ≡ ns = cc in subst (λ xs. NoNilPrefix (specs_of xs)) same no_spec
+numbered_from-nil n prefix root [] ns e = let same : [] ≡ ns = cc in subst (λ xs. NoNilPrefix (specs_of xs)) same (of_none LacksNilPrefix)
 numbered_from-nil n prefix root (s ∷ specs) ns e =
     let first = bind_ok (at_number n (normal_form prefix root s)) _ ns e in
     let others = bind_ok (numbered_from (n + 1) prefix root specs) _ ns first.2 in
@@ -61,25 +68,34 @@ numbered_from-nil n prefix root (s ∷ specs) ns e =
     let made : Ok (m ∷ others.0) ≡ Ok ns = others.2 in
     let same : m ∷ others.0 ≡ ns = cc in
     subst (λ xs. NoNilPrefix (specs_of xs)) same
-    (one_more first.0 (specs_of others.0) (normal_form-nil prefix root s first.0 (ok_of_number n (normal_form prefix root s) first.0 first.1)) (numbered_from-nil (n + 1) prefix root specs others.0 others.1))
+    (one_more LacksNilPrefix first.0 (specs_of others.0) (normal_form-nil prefix root s first.0 (ok_of_number n (normal_form prefix root s) first.0 first.1)) (numbered_from-nil (n + 1) prefix root specs others.0 others.1))
 
-filtered-nil : (q : Numbered → Bool) (ns : List Numbered) → NoNilPrefix (specs_of ns) → NoNilPrefix (specs_of (filter q ns))
-filtered-nil q [] h = h
-filtered-nil q (n ∷ ns) h =
-    let ih = filtered-nil q ns (λ s c. h s (Contains-append_right (n.spec ∷ []) (specs_of ns) s c)) in
+-- and of all, where one more stands at the end
+pub of_push : (P : Spec → Type 0) (ns more : List Numbered) (n : Numbered) → OfEach P (specs_of ns) → P n.spec → more ≡ ns ++ n ∷ [] → OfEach P (specs_of more)
+of_push P ns more n h p e s c =
+    let d : Contains (specs_of ns ++ n.spec ∷ []) s = subst (λ xs. Contains xs s) (ap specs_of e ∙ map-append (λ (m : Numbered). m.spec) ns (n ∷ [])) c in
+    elim (Contains-append_cases (specs_of ns) (n.spec ∷ []) s d) [
+      | inl x ↦ h s x
+      | inr x ↦ one_more P n.spec [] p (of_none P) s x
+    ]
+
+of_filtered : (P : Spec → Type 0) (q : Numbered → Bool) (ns : List Numbered) → OfEach P (specs_of ns) → OfEach P (specs_of (filter q ns))
+of_filtered P q [] h = h
+of_filtered P q (n ∷ ns) h =
+    let ih = of_filtered P q ns (λ s c. h s (Contains-append_right (n.spec ∷ []) (specs_of ns) s c)) in
     elim (cases_Bool (q n)) [
-      | inl e ↦ rw e (one_more n.spec (specs_of (filter q ns)) (h n.spec (Contains-append_left (n.spec ∷ []) (specs_of ns) n.spec (Contains-push [] n.spec))) ih)
+      | inl e ↦ rw e (one_more P n.spec (specs_of (filter q ns)) (h n.spec (Contains-append_left (n.spec ∷ []) (specs_of ns) n.spec (Contains-push [] n.spec))) ih)
       | inr e ↦ rw e ih
     ]
 
-ordered-nil : (ns : List Numbered) → NoNilPrefix (specs_of ns) → NoNilPrefix (specs_of (in_search_order ns))
-ordered-nil ns h s c =
+pub of_ordered : (P : Spec → Type 0) (ns : List Numbered) → OfEach P (specs_of ns) → OfEach P (specs_of (in_search_order ns))
+of_ordered P ns h s c =
     let excludes = filter (λ n. is_exclude n.spec) ns in
     let includes = filter (λ n. is_include n.spec) ns in
     let d : Contains (specs_of excludes ++ specs_of includes) s = subst (λ xs. Contains xs s) (map-append (λ (n : Numbered). n.spec) excludes includes) c in
     elim (Contains-append_cases (specs_of excludes) (specs_of includes) s d) [
-      | inl x ↦ filtered-nil (λ n. is_exclude n.spec) ns h s x
-      | inr x ↦ filtered-nil (λ n. is_include n.spec) ns h s x
+      | inl x ↦ of_filtered P (λ n. is_exclude n.spec) ns h s x
+      | inr x ↦ of_filtered P (λ n. is_include n.spec) ns h s x
     ]
 
 -- a search is a list of numbered specs, put into search order
@@ -93,7 +109,7 @@ search_of-numbered prefix root specs search e =
 pub search_has_no_nil_prefix : (prefix root : List ℕ) (specs : List Spec) (search : List Numbered) → search_of prefix root specs ≡ Ok search → NoNilPrefix (specs_of search)
 search_has_no_nil_prefix prefix root specs search e =
     let r = search_of-numbered prefix root specs search e in
-    subst (λ xs. NoNilPrefix (specs_of xs)) r.1 (ordered-nil r.0 (numbered_from-nil 0 prefix root (default_to_prefix prefix specs) r.0 r.2))
+    subst (λ xs. NoNilPrefix (specs_of xs)) r.1 (of_ordered LacksNilPrefix r.0 (numbered_from-nil 0 prefix root (default_to_prefix prefix specs) r.0 r.2))
 
 -- ---- the search order
 

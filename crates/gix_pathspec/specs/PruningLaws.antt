@@ -48,9 +48,9 @@ FilePrunedIsNotChosen table specs = (d : List ℕ) → IsFalse (can_match specs 
 abbrev pub TakesAtOrBelow : (Spec → List ℕ → Bool → Bool) → List Spec → List ℕ → Type 0
 TakesAtOrBelow takes specs d = (s : Spec) × Contains specs s × IsTrue (is_include s) × (path : List ℕ) × (is_dir : Bool) × IsBytes path × ((path ≡ d) × IsTrue is_dir ⊎ IsBelow path d) × IsTrue (takes s path is_dir)
 
--- all includes are of this kind, and their paths are bytes
+-- all includes are of this kind
 abbrev pub HasOnlyIncludes : (Spec → Bool) → List Spec → Type 0
-HasOnlyIncludes kind specs = (s : Spec) → Contains specs s → IsTrue (is_include s) → IsTrue (kind s) × IsBytes s.path
+HasOnlyIncludes kind specs = (s : Spec) → Contains specs s → IsTrue (is_include s) → IsTrue (kind s)
 
 -- no exclude takes every path, and there is no include or one takes d or some path below it
 abbrev pub CanTake : (Spec → List ℕ → Bool → Bool) → List Spec → List ℕ → Type 0

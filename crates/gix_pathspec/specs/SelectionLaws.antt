@@ -2,6 +2,7 @@
 use Rattle.std.specs.Prelude.{◌≡◌, ◌≢◌, ◌↔◌, ℕ, Bool, List, [], Option, IsTrue, IsFalse, Contains}
 use Rattle.std.specs.List.Sorted.{IsPermutation}
 use Rattle.gix_pathspec.specs.Bytes.{fold_case, begins_with}
+use Rattle.gix_pathspec.specs.Paths.{IsBytes}
 use Rattle.gix_pathspec.specs.Attributes.{Table}
 use Rattle.gix_pathspec.specs.Specs.{Spec, ignores_case}
 use Rattle.gix_pathspec.specs.Matching.{fits, is_chosen, IsChosen}
@@ -35,6 +36,10 @@ FittedBeginsStem = (s : Spec) (path : List ℕ) (is_dir : Bool) → IsFalse s.ni
 -- Every chosen path begins with the common prefix.
 abbrev pub ChosenBeginsCommon : Type 0
 ChosenBeginsCommon = (table : Table) (specs : List Spec) (path : List ℕ) (is_dir : Bool) → path ≢ [] → IsChosen table specs path is_dir → IsTrue (begins_with path (common_prefix specs))
+
+-- The paths of specs are bytes. So it is in each search.
+abbrev pub HaveBytePaths : List Spec → Type 0
+HaveBytePaths specs = (s : Spec) → Contains specs s → IsBytes s.path
 
 -- A nil spec has no prefix directory. So it is in each search.
 abbrev pub NoNilPrefix : List Spec → Type 0

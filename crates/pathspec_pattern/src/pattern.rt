@@ -2,6 +2,7 @@
 ghost use Rattle.std.specs.Prelude.{◌≡◌, map, IfOk, IfErr};
 ghost use Rattle.bstr.specs.BStr.{bstr_bytes};
 ghost use Rattle.pathspec_parts.specs.AttributeStates.{assignment_view};
+ghost use Rattle.pathspec_parts.specs.Paths.{IsBytes};
 ghost use Rattle.pathspec_pattern.specs.Errors.{IsMemory, IsMemoryOr, Computes};
 ghost use Rattle.pathspec_pattern.specs.Signatures.{signature_bits};
 ghost use Rattle.pathspec_pattern.specs.Specs.{is_exclude, always_matches, has_wildcard, is_glob, prefix_directory};
@@ -119,9 +120,10 @@ impl Pattern {
 
     /// The path, without magic and without the last slash that asks for a directory.
     pub fn path(&self) -> BStr<'_>
-        ensures { bstr_bytes result ≡ (pattern_spec self.now).path }
+        ensures path { bstr_bytes result ≡ (pattern_spec self.now).path }
+        ensures bytes { IsBytes (pattern_spec self.now).path }
     {
-        BStr::new(self.path.as_slice())
+        text_of(self.path.as_slice())
     }
 
     /// The front of the path that [`Pattern::normalize`] took from the prefix, without a last slash: a spec without
@@ -181,4 +183,12 @@ fn cloned(alloc: Global, assignments: &[Assignment]) -> Result<Vec<Assignment>, 
         copy.push(assignment.try_clone()?)?;
     }
     Ok(copy)
+}
+
+/// The text of these bytes.
+fn text_of(bytes: &[u8]) -> BStr<'_>
+    ensures text { bstr_bytes result ≡ bytes.now }
+    ensures bytes { IsBytes bytes.now }
+{
+    BStr::new(bytes)
 }

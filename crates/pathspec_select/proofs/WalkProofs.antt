@@ -15,7 +15,7 @@ use Rattle.gix_pathspec.specs.Matching.{IsChosen, is_chosen, spec_matches}
 use Rattle.gix_pathspec.specs.Plain.{is_plain}
 use Rattle.gix_pathspec.specs.Pruning.{can_match}
 use Rattle.gix_pathspec.specs.PruningLaws.{HasOnlyIncludes, CanTake}
-use Rattle.gix_pathspec.specs.SelectionLaws.{NoNilPrefix}
+use Rattle.gix_pathspec.specs.SelectionLaws.{NoNilPrefix, HaveBytePaths}
 use Rattle.gix_pathspec.proofs.ChosenProofs.{chosen_is_test}
 use Rattle.gix_pathspec.proofs.NotChosenProofs.{pruned_is_not_chosen}
 use Rattle.gix_pathspec.proofs.SharpPruningProofs.{pruning_is_sharp}
@@ -56,7 +56,7 @@ can_hold_is_safe table specs none path d is_dir taken below =
 
 -- ---- a walk to the end
 
-module _ (table : Table) (specs : List Spec) (none : NoNilPrefix specs) (es : List Entry) (entered : List ℕ) (nested : IsNested es) (bytes : HasBytePaths es) (walked : HasWalked specs es (length es) entered) where
+module _ (table : Table) (specs : List Spec) (none : NoNilPrefix specs) (spec_bytes : HaveBytePaths specs) (es : List Entry) (entered : List ℕ) (nested : IsNested es) (bytes : HasBytePaths es) (walked : HasWalked specs es (length es) entered) where
   -- of the chosen entries
   chosen_holds : (n : ℕ) → Contains (chosen_entries table specs es) n → IsEntryWith es (λ e. IsChosen table specs e.path e.is_dir) n
   chosen_holds n c = let r = (Contains-entries_where (is_chosen table specs) es n).0 c in (r.0, r.1, (chosen_is_test table specs r.0.path r.0.is_dir).0 r.2)
@@ -81,7 +81,7 @@ module _ (table : Table) (specs : List Spec) (none : NoNilPrefix specs) (es : Li
   entered_takes : HasOnlyIncludes is_plain specs → (n : ℕ) → Contains entered n → IsDirectoryWith es (CanTake (spec_matches table) specs) n
   entered_takes plain n c =
       let r = walked.are n c in
-      let sharp = pruning_is_sharp table specs plain r.entry.path (Some true) (nested.paths n r.entry r.stands) (bytes n r.entry r.stands) (λ e. cc) in
+      let sharp = pruning_is_sharp table specs spec_bytes plain r.entry.path (Some true) (nested.paths n r.entry r.stands) (bytes n r.entry r.stands) (λ e. cc) in
       (r.entry, r.stands, (r.is_dir, sharp.0 r.can_be_entered))
 
   walk_of_chosen : IsWalk table specs es (chosen_entries table specs es) entered
@@ -96,6 +96,6 @@ module _ (table : Table) (specs : List Spec) (none : NoNilPrefix specs) (es : Li
   }
 
 pub walk_holds : (table : Table) (specs : List Spec) → WalkHolds table specs
-walk_holds table specs none es given entered nested bytes h =
+walk_holds table specs none spec_bytes es given entered nested bytes h =
     let same : given ≡ chosen_entries table specs es = h.given_is ∙ ap (entries_where (is_chosen table specs)) (take_all (length es) es (omega arith)) in
-    subst (λ (ns : List ℕ). IsWalk table specs es ns entered) (sym same) (walk_of_chosen table specs none es entered nested bytes h.enters)
+    subst (λ (ns : List ℕ). IsWalk table specs es ns entered) (sym same) (walk_of_chosen table specs none spec_bytes es entered nested bytes h.enters)

@@ -64,8 +64,9 @@ pub fn select<L: LookUp>(
     ensures table_stays { L.table look_up.new ≡ L.table look_up.old }
     ensures counts { CountsFailure (L.failures look_up.old) (L.failures look_up.new) result }
 {
-    // The proof reads here that no nil spec has a prefix directory.
+    // The proof reads here that no nil spec has a prefix directory, and that paths are bytes.
     search.nil_specs_lack_a_prefix();
+    search.spec_paths_are_bytes();
     let mut given = Vec::new(alloc);
     while let Some(place) = cursor.next() {
         visit(cursor, search, look_up, place, &mut given)?;

@@ -4,12 +4,13 @@ ghost use Rattle.std.specs.Iterator.{Drains, IsFinite};
 ghost use Rattle.std.specs.Option.{option_map};
 ghost use Rattle.bstr.specs.BStr.{bstr_bytes};
 ghost use Rattle.bstr.specs.Owned.{bstring_bytes};
-ghost use Rattle.pathspec_parts.specs.Paths.{is_clean_prefix};
+ghost use Rattle.pathspec_parts.specs.Paths.{IsBytes, is_clean_prefix};
 ghost use Rattle.gix_pathspec.specs.Errors.{IsMemory};
 ghost use Rattle.gix_pathspec.specs.Patterns.{pattern_spec};
 ghost use Rattle.gix_pathspec.specs.Prefixes.{common_front, common_prefix};
 ghost use Rattle.gix_pathspec.specs.Search.{specs_of, numbered_from, default_to_prefix, in_search_order, search_of};
 ghost use Rattle.gix_pathspec.specs.Building.{prefix_bytes, TellsFault, Builds, IsErrorAt, numbered_normal_form};
+ghost use Rattle.gix_pathspec.specs.SelectionLaws.{HaveBytePaths};
 
 use crate::search::Search;
 use crate::search::spec::CompiledSpec;
@@ -176,8 +177,9 @@ fn compile_all(
     root: BStr<'_>,
 ) -> Result<Vec<CompiledSpec>, BuildError>
     requires { IsTrue (is_clean_prefix (bstr_bytes prefix)) }
-    ensures { Builds (λ specs. specs.items) (numbered_from 0 (bstr_bytes prefix.entry)
+    ensures specs { Builds (λ specs. specs.items) (numbered_from 0 (bstr_bytes prefix.entry)
         (bstr_bytes root.entry) (map pattern_spec patterns.items)) result }
+    ensures bytes { IfOk result (λ specs. HaveBytePaths (specs_of specs.items)) }
 {
     let mut specs = Vec::with_capacity(alloc, patterns.len())?;
     for pattern in patterns {
@@ -196,8 +198,9 @@ fn compile(
     root: BStr<'_>,
 ) -> Result<CompiledSpec, BuildError>
     requires { IsTrue (is_clean_prefix (bstr_bytes prefix)) }
-    ensures { Builds (λ spec. spec) (numbered_normal_form number (bstr_bytes prefix.entry)
+    ensures spec { Builds (λ spec. spec) (numbered_normal_form number (bstr_bytes prefix.entry)
         (bstr_bytes root.entry) (pattern_spec pattern)) result }
+    ensures bytes { IfOk result (λ spec. IsBytes spec.spec.path) }
 {
     if let Err(error) = pattern.resolve(prefix, root) {
         return Err(error_at(number, error));

@@ -1,6 +1,7 @@
 //! Specs that are made ready for matching.
 ghost use Rattle.std.specs.Prelude.{◌≡◌, ◌≤◌, length, IfOk, IfErr};
 ghost use Rattle.gix_pathspec.specs.Errors.{IsMemory};
+ghost use Rattle.gix_pathspec.specs.Paths.{IsBytes};
 
 use crate::{Error, Pattern, SearchMode};
 use pathspec_parts::attributes::{Case, Outcome};
@@ -103,8 +104,11 @@ impl CompiledSpec {
         pattern: Pattern,
         number: usize,
     ) -> Result<CompiledSpec, AllocError>
-        ensures { IfOk result (λ spec. spec ≡ numbered_pattern number pattern) }
+        ensures spec { IfOk result (λ spec. spec ≡ numbered_pattern number pattern) }
+        ensures bytes { IfOk result (λ spec. IsBytes spec.spec.path) }
     {
+        // The proof reads here that the path is bytes.
+        let _ = pattern.path();
         let stem = CompiledSpec::stem_length(&pattern);
         let glob = GlobMatcher::compile(alloc, &pattern)?;
         let outcome = Outcome::for_assignments(alloc, pattern.attributes.as_slice())?;

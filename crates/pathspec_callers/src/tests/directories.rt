@@ -181,6 +181,7 @@ fn prefixes_and_directories_are_told(rt: HostRuntime) -> Result<(), Fail> {
 fn patterns_come_in_search_order(rt: HostRuntime) -> Result<(), Fail> {
     let search = search_of(&rt, rt.alloc(), &["a", ":!b", "c"], "")?;
     search.nil_specs_lack_a_prefix();
+    search.spec_paths_are_bytes();
     let mut patterns = search.patterns();
     assert_eq!(rt; patterns.len(), 3);
     assert_eq!(rt; patterns.size_hint(), (3, Some(3)));

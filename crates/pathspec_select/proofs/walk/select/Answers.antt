@@ -7,7 +7,7 @@ use Rattle.pathspec_parts.specs.Cursors.{CursorContents, IsNew, next_seen, appen
 use Rattle.gix_pathspec.specs.Specs.{Spec}
 use Rattle.gix_pathspec.specs.Matching.{is_chosen}
 use Rattle.gix_pathspec.specs.Search.{SearchContents, specs_of}
-use Rattle.gix_pathspec.specs.SelectionLaws.{NoNilPrefix}
+use Rattle.gix_pathspec.specs.SelectionLaws.{NoNilPrefix, HaveBytePaths}
 use Rattle.pathspec_select.specs.Walks.{IsWalk, HasWalked, HasChosen}
 use Rattle.pathspec_select.proofs.EnteredProofs.{given_is_one, entered_is_one}
 use Rattle.pathspec_select.proofs.SelectProofs.{after_visit, path_some, nearer, at_start, one_on, at_end}
@@ -35,11 +35,11 @@ step table specs none es c d given more e nested h n next m v =
     subst (λ x. HasChosen table specs x (next_number d) more d.entered) e (one_on table specs none c d given more nested (subst (λ x. HasChosen table specs x (next_number c) given c.entered) (sym e) h) n next m v)
 
 -- the end, over the same
-finish : (table : Table) (specs : List Spec) → NoNilPrefix specs → (es : List Entry) (c d : CursorContents) (given : List ℕ) → c.entries ≡ es → IsNested c.entries → HasBytePaths c.entries → HasChosen table specs es (next_number c) given c.entered
+finish : (table : Table) (specs : List Spec) → NoNilPrefix specs → HaveBytePaths specs → (es : List Entry) (c d : CursorContents) (given : List ℕ) → c.entries ≡ es → IsNested c.entries → HasBytePaths c.entries → HasChosen table specs es (next_number c) given c.entered
     → None ≡ next_seen c.entered (next_number c) c.entries → d ≡ cursor_at c None → IsWalk table specs es given d.entered × HasWalked specs es (length es) d.entered
-finish table specs none es c d given e nested bytes h next m =
+finish table specs none spec_bytes es c d given e nested bytes h next m =
     subst (λ x. IsWalk table specs es given x × HasWalked specs es (length es) x) (ap (λ (x : CursorContents). x.entered) (sym m))
-    (subst (λ x. IsWalk table specs x given c.entered × HasWalked specs x (length x) c.entered) e (at_end table specs none c given nested bytes (subst (λ x. HasChosen table specs x (next_number c) given c.entered) (sym e) h) next))
+    (subst (λ x. IsWalk table specs x given c.entered × HasWalked specs x (length x) c.entered) e (at_end table specs none spec_bytes c given nested bytes (subst (λ x. HasChosen table specs x (next_number c) given c.entered) (sym e) h) next))
 
 -- the same over the visited cursor's entries
 nearer_as : (specs : List Spec) (c d : CursorContents) (n : ℕ) → c.entries ≡ d.entries → Some n ≡ next_seen c.entered (next_number c) c.entries → d ≡ after_visit specs (cursor_at c (Some n)) → length d.entries - next_number d < length c.entries - next_number c
@@ -91,13 +91,13 @@ pub returns-clause-walk : goal.returns-clause-walk
 returns-clause-walk g c =
     let i = c.loop-place.invariant in
     let e = c.in_default.ensures in
-    (finish (g.L.LookUp.table c.args.look_up.now) (specs_of c.args.search.now.specs) c.nil_specs_lack_a_prefix.ensures c.args.cursor.now.entries c.loop-place.cursor c.next.new.self c.loop-place.given.items i.tree e.nested e.bytes i.course e.next e.place).0
+    (finish (g.L.LookUp.table c.args.look_up.now) (specs_of c.args.search.now.specs) c.nil_specs_lack_a_prefix.ensures c.spec_paths_are_bytes.ensures c.args.cursor.now.entries c.loop-place.cursor c.next.new.self c.loop-place.given.items i.tree e.nested e.bytes i.course e.next e.place).0
 
 pub returns-clause-entered : goal.returns-clause-entered
 returns-clause-entered g c =
     let i = c.loop-place.invariant in
     let e = c.in_default.ensures in
-    (finish (g.L.LookUp.table c.args.look_up.now) (specs_of c.args.search.now.specs) c.nil_specs_lack_a_prefix.ensures c.args.cursor.now.entries c.loop-place.cursor c.next.new.self c.loop-place.given.items i.tree e.nested e.bytes i.course e.next e.place).1
+    (finish (g.L.LookUp.table c.args.look_up.now) (specs_of c.args.search.now.specs) c.nil_specs_lack_a_prefix.ensures c.spec_paths_are_bytes.ensures c.args.cursor.now.entries c.loop-place.cursor c.next.new.self c.loop-place.given.items i.tree e.nested e.bytes i.course e.next e.place).1
 
 -- ---- the laws
 

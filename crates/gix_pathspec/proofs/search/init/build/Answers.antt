@@ -1,29 +1,32 @@
 -- What is built is the search of the patterns.
-use Rattle.std.proofs.Common.{◌≡◌, List, Ok, map, subst}
+use Rattle.std.proofs.Common.{◌≡◌, List, Ok, map, subst, sym}
 use Rattle.std.proofs.lemmas.Result.{err_from_is_err_and}
 use Rattle.bstr.specs.BStr.{bstr_bytes}
 use Rattle.gix_pathspec.specs.Patterns.{pattern_spec}
 use Rattle.gix_pathspec.specs.Prefixes.{common_prefix}
 use Rattle.gix_pathspec.specs.Search.{Numbered, specs_of, search_of}
-use Rattle.gix_pathspec.proofs.SearchProofs.{search_has_no_nil_prefix, search_of-ordered}
+use Rattle.gix_pathspec.specs.SelectionLaws.{HaveBytePaths}
+use Rattle.gix_pathspec.specs.Paths.{IsBytes}
+use Rattle.gix_pathspec.proofs.SearchProofs.{search_has_no_nil_prefix, search_of-ordered, of_ordered}
 use Rattle.gix_pathspec.proofs.BuildingProofs.{tells-on, search-fails, search-ordered}
 use Rattle.gix_pathspec.proofs.search.init.build.Goals as goal
 
 pub returns-in_err-compiled-clause-search : goal.returns-in_err-compiled-clause-search
 returns-in_err-compiled-clause-search c =
     let p = err_from_is_err_and c.from_residual-in_err-compiled.result c.from_residual-in_err-compiled.ensures.1 in
-    rw (p.1, p.2) (tells-on _ _ _ (λ fault h. search-fails _ _ _ _ c.in_ok-patterns.ensures.patterns fault h) c.in_err-compiled.ensures)
+    rw (p.1, p.2) (tells-on _ _ _ (λ fault h. search-fails _ _ _ _ c.in_ok-patterns.ensures.patterns fault h) c.in_err-compiled.ensures.specs)
 
 pub returns-clause-search : goal.returns-clause-search
-returns-clause-search c = search-ordered _ _ _ _ c.in_ok-patterns.ensures.patterns c.in_ok-compiled.compiled.items c.in_ok-specs.specs.items c.in_ok-compiled.ensures c.in_ok-specs.ensures
+returns-clause-search c = search-ordered _ _ _ _ c.in_ok-patterns.ensures.patterns c.in_ok-compiled.compiled.items c.in_ok-specs.specs.items c.in_ok-compiled.ensures.specs c.in_ok-specs.ensures
 
 pub invariant_of-result : goal.invariant_of-result
 invariant_of-result c =
     let is : search_of (bstr_bytes c.args.prefix) (bstr_bytes c.args.root) (map pattern_spec c.args.patterns.items) ≡ Ok c.in_ok-specs.specs.items =
-    search-ordered _ _ _ _ c.in_ok-patterns.ensures.patterns c.in_ok-compiled.compiled.items c.in_ok-specs.specs.items c.in_ok-compiled.ensures c.in_ok-specs.ensures in
+    search-ordered _ _ _ _ c.in_ok-patterns.ensures.patterns c.in_ok-compiled.compiled.items c.in_ok-specs.specs.items c.in_ok-compiled.ensures.specs c.in_ok-specs.ensures in
     record {
       is_ordered = search_of-ordered _ _ _ _ is;
       has_no_nil_prefix = search_has_no_nil_prefix _ _ _ _ is;
+      has_byte_paths = subst (λ (ns : List Numbered). HaveBytePaths (specs_of ns)) (sym c.in_ok-specs.ensures) (of_ordered (λ s. IsBytes s.path) c.in_ok-compiled.compiled.items c.in_ok-compiled.ensures.bytes);
       is_nil = c.nil.ensures;
       is_common = subst (λ (ns : List Numbered). c.in_ok-common_prefix.common_prefix.items ≡ common_prefix (specs_of ns)) c.as_slice.ensures.value c.in_ok-common_prefix.ensures;
     }
