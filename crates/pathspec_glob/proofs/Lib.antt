@@ -3,6 +3,8 @@ pub mod TokenProofs
 pub mod GlobProofs
 pub mod TailProofs
 pub mod StemProofs
+pub mod PartProofs
+pub mod EndProofs
 pub mod PlaceProofs
 pub mod AcceptProofs
 pub mod WindowProofs

@@ -86,7 +86,7 @@ no_star : (rest : List ℕ) → list_any is_wildcard rest ≡ false → prefix_l
 no_star [] h = refl
 no_star (b ∷ rest) h = let p = or_parts (b == star) _ (or_parts (is_wildcard b) (list_any is_wildcard rest) h).0 in rw p.0 refl
 
-abbrev tail_token : Mode → Token
+abbrev pub tail_token : Mode → Token
 tail_token Shell = Deep
 tail_token PathAware = Star
 
@@ -96,7 +96,7 @@ unfolding tokens_from
 tokens_from-whole mode after_slash rest h = ap (tokens_from mode 0 after_slash) (sym (append-nil rest)) ∙ (tokens_from-plain mode after_slash rest [] h ∙ append-nil (map (λ b. One (Byte b)) rest))
 
 -- the tokens of a tail pattern
-tokens-tail : (mode : Mode) (rest : List ℕ) → list_any is_wildcard rest ≡ false → tokens mode (star ∷ rest) ≡ tail_token mode ∷ map (λ b. One (Byte b)) rest
+pub tokens-tail : (mode : Mode) (rest : List ℕ) → list_any is_wildcard rest ≡ false → tokens mode (star ∷ rest) ≡ tail_token mode ∷ map (λ b. One (Byte b)) rest
 unfolding tokens_from
 tokens-tail Shell rest h = rw (no_star rest h) (ap (λ ts. Deep ∷ ts) (tokens_from-whole Shell false rest h))
 tokens-tail PathAware rest h = rw (no_star rest h) (ap (λ ts. Star ∷ ts) (tokens_from-whole PathAware false rest h))

@@ -3,6 +3,7 @@ pub mod Tokens
 pub mod GlobRelation
 pub mod GlobForms
 pub mod GlobSteps
+pub mod GlobParts
 pub mod GlobPlaces
 pub mod Globs
 pub mod Counts

@@ -7,6 +7,7 @@ ghost use Rattle.pathspec_glob.specs.Bytes.{is_wildcard};
 ghost use Rattle.pathspec_glob.specs.Globs.{MatchBeginsStem};
 
 mod brackets;
+mod ends;
 mod matcher;
 mod places;
 mod reading;

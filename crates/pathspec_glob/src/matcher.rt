@@ -1,11 +1,14 @@
-//! Globs and texts: the places in a glob that the front of a text leads to.
+//! Globs and texts: the head of a glob and its tail first, and then what stands between.
 ghost use Rattle.std.specs.Prelude.{◌≡◌, ◌≤◌, ◌<◌, ◌+◌, ◌*◌, ◌^◌, ◌↔◌, length, IfOk, IsTrue};
-ghost use Rattle.pathspec_glob.specs.Globs.{glob_tokens, AnswersGlob, AnswersTail, GlobIsRelation};
-ghost use Rattle.pathspec_glob.specs.Counts.{Counts};
+ghost use Rattle.pathspec_glob.specs.Globs.{glob_tokens, is_tail_pattern, AnswersGlob, AnswersTail, GlobIsRelation};
+ghost use Rattle.pathspec_glob.specs.GlobRelation.{matches};
+ghost use Rattle.pathspec_glob.specs.GlobPlaces.{HasRoom, KeepsRoom};
+ghost use Rattle.pathspec_glob.specs.Counts.{Counts, KeepsCount};
 
+use crate::places::Places;
 use crate::scratch::Scratch;
-use crate::scratch::tokens::Tokens;
-use crate::{Case, Mode};
+use crate::scratch::tokens::{Steps, Tokens};
+use crate::{Case, Mode, ends};
 use std::alloc::{AllocError, Global};
 use std::marker::Model;
 
@@ -13,19 +16,23 @@ use std::marker::Model;
 #[derive(Debug, Drop)]
 pub struct Glob {
     pattern: Vec<u8>,
-    tokens: Tokens,
+    /// The tokens before the first that takes any number of bytes.
+    head: Tokens,
+    /// Those up to the last that does, with a slash that this one may stand for nothing with.
+    middle: Tokens,
+    /// Those behind.
+    tail: Tokens,
 }
 
 impl Model for Glob {
-    ghost use Rattle.std.specs.Prelude.{◌≡◌};
     ghost use Rattle.pathspec_glob.specs.Globs.{GlobSource};
-    ghost use Rattle.pathspec_glob.specs.GlobSteps.{token_list};
+    ghost use Rattle.pathspec_glob.specs.GlobParts.{IsParted};
 
     ghost Value = { GlobSource };
 
-    ghost view = { λ g. record { mode = g.tokens.mode; pattern = g.pattern.items } };
+    ghost view = { λ g. record { mode = g.head.mode; pattern = g.pattern.items } };
 
-    ghost invariant = { λ g. g.tokens ≡ token_list g.tokens.mode g.pattern.items };
+    ghost invariant = { λ g. IsParted g.head.mode g.pattern.items g.head g.middle g.tail };
 }
 
 impl Glob {
@@ -36,9 +43,16 @@ impl Glob {
     pub fn compile(alloc: Global, pattern: &[u8], mode: Mode) -> Result<Glob, AllocError>
         ensures { IfOk result (λ glob. glob ≡ record { mode = mode; pattern = pattern.now }) }
     {
+        let mut head = Tokens::of_pattern(alloc, pattern, mode)?;
+        let head_size = head.head_size();
+        let mut middle = head.split_off(head_size)?;
+        let middle_size = middle.wide_size();
+        let tail = middle.split_off(middle_size)?;
         Ok(Glob {
             pattern: Vec::from_slice(alloc, pattern)?,
-            tokens: Tokens::of_pattern(alloc, pattern, mode)?,
+            head,
+            middle,
+            tail,
         })
     }
 
@@ -47,7 +61,7 @@ impl Glob {
         ensures tokens { result ≡ length (glob_tokens self.now) }
         ensures few { result ≤ length self.now.pattern }
     {
-        self.tokens.len()
+        self.head.len() + self.middle.len() + self.tail.len()
     }
 
     /// Whether the scratch was made for at least as many tokens.
@@ -57,17 +71,20 @@ impl Glob {
         self.tokens() <= scratch.places.room()
     }
 
-    /// Whether the whole text matches. It takes no memory, and keeps the set of places in the glob that the front of
-    /// the text leads to, so that it takes at most (pattern bytes + 1) × (text bytes + 1) steps.
+    /// Whether the whole text matches. It takes no memory. The tokens before the first star are tested on the text's front,
+    /// one a byte, and those after the last star on its end; then it keeps the set of places in the others that the front
+    /// of the rest leads to. So it takes at most (pattern bytes + 1) × (text bytes + 1) steps.
     ///
     /// A true answer counts as many steps as the text has bytes, at least; for `*rest` without a wildcard in `rest`, as
-    /// `rest` has. To such a pattern the answer is whether the text ends with `rest`, where the mode is [`Mode::Shell`]
-    /// or the text has no `/`.
+    /// `rest` has, and any answer to such a pattern counts at most as many as the text has. To it the answer is whether the
+    /// text ends with `rest`, where the mode is [`Mode::Shell`] or the text has no `/`.
     pub fn matches(&self, text: &[u8], case: Case, scratch: &mut Scratch) -> bool
         requires { length (glob_tokens self.now) ≤ scratch.old.tokens }
         ensures answer { AnswersGlob self.now.mode case self.now.pattern text.now
             result scratch.new.steps }
         ensures tail { AnswersTail self.now.mode case self.now.pattern text.now result }
+        ensures few { IsTrue (is_tail_pattern self.now.pattern)
+            → scratch.new.steps ≤ length text.now }
         // The function that other definitions stand on gives just what the relation says.
         ensures function { GlobIsRelation }
         ensures counted { Counts scratch.old.total_steps scratch.new.steps scratch.new.total_steps }
@@ -76,12 +93,35 @@ impl Glob {
         let places = &mut scratch.places;
         let steps = &mut scratch.steps;
         steps.begin();
-        places.begin(&self.tokens);
-        for position in 0..text.len() {
-            if !places.advance(&self.tokens, &text[position..], case, steps) {
-                return false;
-            }
-        }
-        places.reach_end(&self.tokens)
+        let Some(behind) = ends::behind_front(&self.head, text, case, steps) else {
+            return false;
+        };
+        let Some(between) = ends::before_end(&self.tail, behind, case, steps) else {
+            return false;
+        };
+        matches_between(&self.middle, between, case, places, steps)
+    }
+}
+
+/// Whether the tokens between head and tail match the whole of what stands in a text between those.
+fn matches_between(
+    tokens: &Tokens,
+    text: &[u8],
+    case: Case,
+    places: &mut Places,
+    steps: &mut Steps,
+) -> bool
+    requires room { HasRoom (length tokens.now.tokens) places.old }
+    requires steps { steps.old.last + length tokens.now.tokens * length text.now < 2 ^ 128 }
+    ensures answer { result ≡ matches tokens.now.mode case tokens.now.tokens text.now }
+    ensures most { steps.new.last ≤ steps.old.last + length tokens.now.tokens * length text.now }
+    ensures least { IsTrue result → steps.old.last + length text.now ≤ steps.new.last }
+    ensures counted { KeepsCount steps.old steps.new }
+    ensures room { KeepsRoom places.old places.new }
+{
+    if tokens.len() == 1 && tokens.is_wide(0) {
+        tokens.test_all(text, steps)
+    } else {
+        places.run(tokens, text, case, steps)
     }
 }

@@ -1,7 +1,8 @@
 //! The places in a glob that the front of a text leads to.
-ghost use Rattle.std.specs.Prelude.{[], false, IsTrue, IsFalse, ◌≡◌, ◌≤◌, ◌<◌, ◌+◌, ◌^◌, IfOk, length, drop, replicate, ◌++◌};
+ghost use Rattle.std.specs.Prelude.{[], false, IsTrue, IsFalse, ◌≡◌, ◌≤◌, ◌<◌, ◌+◌, ◌*◌, ◌^◌, IfOk, length, drop, replicate, ◌++◌};
 ghost use Rattle.pathspec_glob.specs.Counts.{KeepsCount};
 ghost use Rattle.pathspec_glob.specs.GlobPlaces.{closure_at, closure_end, window_end, entered_after, window_start, HasRoom, is_held, IsBounded, IsMadeFor, KeepsRoom, AcceptsFromStart, AcceptsNothing, AcceptsAfterByte, moves_on, places_accept, staying_after, steps_at};
+ghost use Rattle.pathspec_glob.specs.GlobRelation.{matches};
 ghost use Rattle.pathspec_glob.specs.declared.Case.{Case};
 
 use crate::Case;
@@ -46,8 +47,30 @@ impl Places {
         self.staying.len()
     }
 
+    /// Whether the tokens match the whole text: by the places that each front of the text leads to.
+    ///
+    /// It tests each token at most once on a byte, and takes no memory.
+    pub fn run(&mut self, tokens: &Tokens, text: &[u8], case: Case, steps: &mut Steps) -> bool
+        requires room { HasRoom (length tokens.now.tokens) self.old }
+        requires steps { steps.old.last + length tokens.now.tokens * length text.now < 2 ^ 128 }
+        ensures answer { result ≡ matches tokens.now.mode case tokens.now.tokens text.now }
+        ensures most { steps.new.last
+            ≤ steps.old.last + length tokens.now.tokens * length text.now }
+        ensures least { IsTrue result → steps.old.last + length text.now ≤ steps.new.last }
+        ensures counted { KeepsCount steps.old steps.new }
+        ensures room { KeepsRoom self.old self.new }
+    {
+        self.begin(tokens);
+        for position in 0..text.len() {
+            if !self.advance(tokens, &text[position..], case, steps) {
+                return false;
+            }
+        }
+        self.reach_end(tokens)
+    }
+
     /// Comes to the first place alone.
-    pub fn begin(&mut self, tokens: &Tokens)
+    fn begin(&mut self, tokens: &Tokens)
         requires { HasRoom (length tokens.now.tokens) self.old }
         ensures accepts { AcceptsFromStart tokens.now self.new }
         ensures bounds { IsBounded (length tokens.now.tokens) self.new }
@@ -128,7 +151,7 @@ impl Places {
     /// Goes on by the first byte of a text, and says whether a token was tested. Where none was, no place is held.
     ///
     /// It tests each token at most once, and looks at no place before the first that is held or after the last.
-    pub fn advance(&mut self, tokens: &Tokens, text: &[u8], case: Case, steps: &mut Steps) -> bool
+    fn advance(&mut self, tokens: &Tokens, text: &[u8], case: Case, steps: &mut Steps) -> bool
         requires room { HasRoom (length tokens.now.tokens) self.old }
         requires bounds { IsBounded (length tokens.now.tokens) self.old }
         requires steps { steps.old.last + length tokens.now.tokens < 2 ^ 128 }
@@ -159,7 +182,7 @@ impl Places {
     }
 
     /// Whether the end of a text leads after all tokens.
-    pub fn reach_end(&mut self, tokens: &Tokens) -> bool
+    fn reach_end(&mut self, tokens: &Tokens) -> bool
         requires room { HasRoom (length tokens.now.tokens) self.old }
         requires bounds { IsBounded (length tokens.now.tokens) self.old }
         ensures accepts { (case : Case) → result ≡ places_accept tokens.now case self.old [] }

@@ -1,8 +1,11 @@
 //! The tokens of globs, and the one question that a text is asked with them.
-ghost use Rattle.std.specs.Prelude.{◌≡◌, ◌+◌, ◌<◌, ◌≤◌, ◌^◌, length, drop, map, IfOk, IsTrue};
+ghost use Rattle.std.specs.Prelude.{◌≡◌, ◌+◌, ◌<◌, ◌≤◌, ◌^◌, length, take, drop, map, not, IfOk, OnOk, IsTrue, ◌==◌};
+ghost use Rattle.std.specs.List.{prefix_len};
+ghost use Rattle.pathspec_glob.specs.Bytes.{slash};
 ghost use Rattle.pathspec_glob.specs.GlobRelation.{is_same_byte, is_barred, takes, passes_over};
 ghost use Rattle.pathspec_glob.specs.GlobForms.{single_view, token_view, tokens_view};
 ghost use Rattle.pathspec_glob.specs.GlobSteps.{is_deep_token, is_wide, is_wide_at, may_pass_over_at, token_list, takes_byte, token_takes};
+ghost use Rattle.pathspec_glob.specs.GlobParts.{head_size, wide_size, wide_takes};
 ghost use Rattle.pathspec_glob.specs.Counts.{BeginsAnew, HasNoSteps, KeepsCount};
 
 use crate::brackets::{self, Item};
@@ -36,15 +39,15 @@ pub enum Token {
     Deep,
 }
 
-/// The tokens of a glob.
+/// The tokens of a glob, or some of them that stand side by side.
 #[derive(Debug, Drop)]
 pub struct Tokens {
     mode: Mode,
     all: Vec<Token>,
 }
 
-/// How many steps were taken. A step is one token tested at one position of a text: [`Tokens::test`] alone raises a
-/// count, and only a scratch has one.
+/// How many steps were taken. A step is one token tested at one position of a text: only the tests of [`Tokens`] raise
+/// a count, and only a scratch has one.
 #[derive(Debug, Drop)]
 pub struct Steps {
     /// In the last match.
@@ -101,6 +104,51 @@ impl Tokens {
         may_pass_over(self.mode, &self.all[place..])
     }
 
+    /// Splits off the tokens from a place on.
+    ///
+    /// # Errors
+    /// Memory runs out, and nothing was split off.
+    pub fn split_off(&mut self, place: usize) -> Result<Tokens, AllocError>
+        requires { place ≤ length self.old.tokens }
+        ensures front { OnOk result
+            (self.new ≡ record { mode = self.old.mode; tokens = take place self.old.tokens }) }
+        ensures behind { IfOk result (λ behind.
+            behind ≡ record { mode = self.old.mode; tokens = drop place self.old.tokens }) }
+    {
+        let behind = self.all.split_off(place)?;
+        Ok(Tokens {
+            mode: self.mode,
+            all: behind,
+        })
+    }
+
+    /// How many tokens stand before the first that takes any number of bytes.
+    pub fn head_size(&self) -> usize
+        ensures size { result ≡ head_size self.now.tokens }
+        ensures within { result ≤ length self.now.tokens }
+    {
+        head_size(&self.all)
+    }
+
+    /// How many tokens stand up to the last that takes any number of bytes, with a slash that this one may stand for
+    /// nothing with.
+    pub fn wide_size(&self) -> usize
+        ensures size { result ≡ wide_size self.now.mode self.now.tokens }
+        ensures within { result ≤ length self.now.tokens }
+    {
+        let mut size = 0;
+        for place in 0..self.len() {
+            if self.is_wide(place) {
+                size = if self.may_pass_over(place) {
+                    place + 2
+                } else {
+                    place + 1
+                };
+            }
+        }
+        size
+    }
+
     /// Tests the token at a place on the first byte of a text, which is counted as one step: whether the token takes the
     /// byte. None takes the end of a text.
     pub fn test(&self, place: usize, text: &[u8], case: Case, steps: &mut Steps) -> bool
@@ -116,6 +164,48 @@ impl Tokens {
             Some(byte) => self.all[place].takes(self.mode, case, *byte),
         }
     }
+}
+
+impl Tokens {
+    /// Tests the first token, which takes any number of bytes, on the bytes of a text up to one that it doesn't take, each
+    /// of which is counted as one step: whether it takes them all.
+    pub fn test_all(&self, text: &[u8], steps: &mut Steps) -> bool
+        requires wide { IsTrue (is_wide_at self.now.tokens) }
+        requires room { steps.old.last + length text.now < 2 ^ 128 }
+        ensures answer { result ≡ wide_takes self.now.tokens text.now }
+        ensures most { steps.new.last ≤ steps.old.last + length text.now }
+        ensures least { IsTrue result → steps.new.last ≡ steps.old.last + length text.now }
+        ensures counted { KeepsCount steps.old steps.new }
+    {
+        let taken = match self.all[0] {
+            Token::Star => count_names(text),
+            Token::Deep => text.len(),
+            Token::One(_) => unreachable!(),
+        };
+        if taken < text.len() {
+            steps.raise_by(taken as u128 + 1);
+            false
+        } else {
+            steps.raise_by(taken as u128);
+            true
+        }
+    }
+}
+
+/// How many tokens stand before the first that takes any number of bytes.
+fn head_size(tokens: &[Token]) -> usize
+    ensures size { result ≡ prefix_len (λ t. not (is_wide (token_view t))) tokens.now }
+    ensures within { result ≤ length tokens.now }
+{
+    tokens.iter().take_while(|token| !token.is_wide()).count()
+}
+
+/// How many bytes stand before the first slash.
+fn count_names(text: &[u8]) -> usize
+    ensures count { result ≡ prefix_len (λ b. not (b == slash)) text.now }
+    ensures within { result ≤ length text.now }
+{
+    text.iter().take_while(|byte| **byte != b'/').count()
 }
 
 impl Steps {
@@ -145,6 +235,16 @@ impl Steps {
         ensures { result ≡ self.now.total }
     {
         self.total
+    }
+
+    /// Counts so many steps more.
+    fn raise_by(&mut self, steps: u128)
+        requires { self.old.last + steps < 2 ^ 128 }
+        ensures steps { self.new.last ≡ self.old.last + steps }
+        ensures counted { KeepsCount self.old self.new }
+    {
+        self.last += steps;
+        self.total = self.total.wrapping_add(steps);
     }
 
     /// Counts a step more.

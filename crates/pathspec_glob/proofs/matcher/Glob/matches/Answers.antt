@@ -1,79 +1,86 @@
-use Rattle.std.proofs.Common.{ℕ, add-one, ◌≡◌, ◌+◌, ◌*◌, ◌≤◌, [], ◌∷◌, false, refl, sym, ◌∙◌, ap, arith, length, get_or, drop}
-use Rattle.std.proofs.lemmas.List.{drop_more, take_rest}
-use Rattle.std.proofs.Math.ListN.{drop_of_length-le}
-use Rattle.std.proofs.Math.Nat.{mul-le-mul_left, mul-suc}
+use Rattle.std.proofs.Common.{◌≡◌, ◌≤◌, ◌+◌, false, arith, length}
+use Rattle.pathspec_glob.specs.Tokens.{tokens}
 use Rattle.pathspec_glob.specs.GlobRelation.{matches}
-use Rattle.pathspec_glob.specs.GlobPlaces.{accepts}
-use Rattle.pathspec_glob.proofs.AnswerProofs.{glob-answers, glob-answers-tail}
+use Rattle.pathspec_glob.proofs.AnswerProofs.{glob-answers, glob-answers-tail, no-front, no-end, between-decides, few-steps, all-steps, tail-steps}
 use Rattle.pathspec_glob.proofs.GlobProofs.{glob_is_relation}
+use Rattle.pathspec_glob.proofs.matcher.Glob.matches.Goals.{In_default, In_default-before_end, After-matches_between, In-Some-before_end}
 use Rattle.pathspec_glob.proofs.matcher.Glob.matches.Goals as goal
 
--- where the text has ended, the places lead to its end where the text matches
-at-end : (c : goal.After-reach_end) → c.reach_end.result ≡ matches c.self.inside.tokens.mode c.args.case c.self.inside.tokens.tokens c.args.text.now
-at-end c =
-    let places = c.loop-position.places in
-    let ended : drop c.loop-position.position c.args.text.now ≡ [] = drop_of_length-le c.args.text.now {i = c.loop-position.position} c.loop-position-test.false in
-    c.reach_end.ensures.accepts c.args.case ∙ ((rw ended at c.loop-position.invariant.accepts))
+-- the head takes no front
+headless : (c : In_default) → false ≡ matches c.self.inside.head.mode c.args.case (tokens c.self.inside.head.mode c.self.inside.pattern.items) c.args.text.now
+headless c =
+    let parts = c.self.inside in
+    no-front parts.head.mode c.args.case parts.pattern.items parts.head parts.middle parts.tail c.self.invariant c.args.text.now c.in_default.ensures.taken
+
+pub returns-in_default-clause-answer : goal.returns-in_default-clause-answer
+returns-in_default-clause-answer c =
+    let parts = c.self.inside in
+    glob-answers parts.head.mode parts.pattern.items c.args.self.now c.args.case c.args.text.now false c.behind_front.new.steps.last c.self.view_is (headless (goal.at.returns-in_default-clause-answer c).In_default)
+    (few-steps parts.head.mode c.args.case parts.pattern.items parts.head parts.middle parts.tail c.self.invariant c.args.text.now c.behind_front.new.steps.last (omega (arith, c.in_default.ensures.most, c.begin.ensures.last)))
+    (λ h. cc)
+
+pub returns-in_default-clause-tail : goal.returns-in_default-clause-tail
+returns-in_default-clause-tail c =
+    glob-answers-tail c.self.inside.head.mode c.self.inside.pattern.items c.args.self.now c.args.case c.args.text.now false c.self.view_is (headless (goal.at.returns-in_default-clause-tail c).In_default)
+
+pub returns-in_default-clause-function : goal.returns-in_default-clause-function
+returns-in_default-clause-function c = glob_is_relation
+
+-- the tail takes no end
+tailless : (c : In_default-before_end) → false ≡ matches c.self.inside.head.mode c.args.case (tokens c.self.inside.head.mode c.self.inside.pattern.items) c.args.text.now
+tailless c =
+    let parts = c.self.inside in
+    no-end parts.head.mode c.args.case parts.pattern.items parts.head parts.middle parts.tail c.self.invariant c.args.text.now
+    c.in-Some.behind.now c.in-Some.ensures.behind c.in-Some.ensures.taken c.in_default-before_end.ensures.taken
+
+-- no more steps than bytes
+spent : (c : In_default-before_end) → c.before_end.new.steps.last ≤ length c.args.text.now
+spent c = omega (arith, c.in_default-before_end.ensures.most, c.in-Some.ensures.least, c.begin.ensures.last)
+
+pub returns-in_default-before_end-clause-answer : goal.returns-in_default-before_end-clause-answer
+returns-in_default-before_end-clause-answer c =
+    let parts = c.self.inside in
+    let here = (goal.at.returns-in_default-before_end-clause-answer c).In_default-before_end in
+    glob-answers parts.head.mode parts.pattern.items c.args.self.now c.args.case c.args.text.now false c.before_end.new.steps.last c.self.view_is (tailless here)
+    (few-steps parts.head.mode c.args.case parts.pattern.items parts.head parts.middle parts.tail c.self.invariant c.args.text.now c.before_end.new.steps.last (spent here))
+    (λ h. cc)
+
+pub returns-in_default-before_end-clause-tail : goal.returns-in_default-before_end-clause-tail
+returns-in_default-before_end-clause-tail c =
+    glob-answers-tail c.self.inside.head.mode c.self.inside.pattern.items c.args.self.now c.args.case c.args.text.now false c.self.view_is (tailless (goal.at.returns-in_default-before_end-clause-tail c).In_default-before_end)
+
+pub returns-in_default-before_end-clause-function : goal.returns-in_default-before_end-clause-function
+returns-in_default-before_end-clause-function c = glob_is_relation
+
+-- what stands between decides
+decided : (c : After-matches_between) → c.matches_between.result ≡ matches c.self.inside.head.mode c.args.case (tokens c.self.inside.head.mode c.self.inside.pattern.items) c.args.text.now
+decided c =
+    let parts = c.self.inside in
+    between-decides parts.head.mode c.args.case parts.pattern.items parts.head parts.middle parts.tail c.self.invariant c.args.text.now
+    c.in-Some.behind.now c.in-Some-before_end.between.now c.matches_between.result c.in-Some.ensures.behind c.in-Some.ensures.taken
+    c.in-Some-before_end.ensures.before c.in-Some-before_end.ensures.taken c.matches_between.ensures.answer
+
+-- a step for each byte of the head and of the tail
+ends-spent : (c : In-Some-before_end) → c.before_end.new.steps.last + length c.in-Some-before_end.between.now ≡ length c.args.text.now
+ends-spent c = omega (arith, c.in-Some-before_end.ensures.least, c.in-Some.ensures.least, c.begin.ensures.last)
 
 pub returns-clause-answer : goal.returns-clause-answer
 returns-clause-answer c =
-    let ended : c.loop-position.position ≡ length c.args.text.now = omega (arith, c.loop-position-test.false, c.loop-position.auto.position-end) in
-    let most = rw ended at c.loop-position.invariant.most in
-    glob-answers c.self.inside.tokens c.self.inside.pattern.items c.args.self.now c.args.case c.args.text.now c.reach_end.result c.loop-position.steps.last
-    c.self.invariant c.self.view_is (at-end c) most (λ _. omega (arith, ended, c.loop-position.invariant.least))
+    let parts = c.self.inside in
+    let spent = ends-spent (goal.at.returns-clause-answer c).In-Some-before_end in
+    glob-answers parts.head.mode parts.pattern.items c.args.self.now c.args.case c.args.text.now c.matches_between.result c.matches_between.new.steps.last c.self.view_is (decided (goal.at.returns-clause-answer c).After-matches_between)
+    (all-steps parts.head.mode c.args.case parts.pattern.items parts.head parts.middle parts.tail c.self.invariant c.args.text.now c.before_end.new.steps.last (length c.in-Some-before_end.between.now) c.matches_between.new.steps.last spent c.matches_between.ensures.most)
+    (λ h. omega (arith, c.matches_between.ensures.least h, spent))
 
 pub returns-clause-tail : goal.returns-clause-tail
-returns-clause-tail c = glob-answers-tail c.self.inside.tokens c.self.inside.pattern.items c.args.self.now c.args.case c.args.text.now c.reach_end.result c.self.invariant c.self.view_is (at-end c)
+returns-clause-tail c =
+    glob-answers-tail c.self.inside.head.mode c.self.inside.pattern.items c.args.self.now c.args.case c.args.text.now c.matches_between.result c.self.view_is (decided (goal.at.returns-clause-tail c).After-matches_between)
 
--- a row of tests more
-more-steps : (tokens position old new : ℕ) → old ≤ tokens * position → new ≤ old + tokens → new ≤ tokens * (position + 1)
-more-steps tokens position old new most more = rw (add-one position, mul-suc tokens position) (omega arith)
-
-pub loop-position-preserved : goal.loop-position-preserved
-loop-position-preserved c =
-    let position = c.loop-position.position in
-    let text = c.args.text.now in
-    let next : drop position text ≡ get_or text position 0 ∷ drop (position + 1) text = drop_more text position 0 c.loop-position-test.true in
-    let advance = c.if-not-advance.ensures in
-    let invariant = c.loop-position.invariant in
-    let before = accepts c.self.inside.tokens.mode c.args.case c.self.inside.tokens.tokens c.loop-position.places.entered.items c.loop-position.places.staying.items in
-    let rest = take_rest text position in
-    let tested = advance.tested refl in
-    record {
-      accepts = advance.accepts (get_or text position 0) (drop (position + 1) text) (rest ∙ next) ∙ ap before rest ∙ invariant.accepts;
-      bounds = advance.bounds;
-      least = omega (arith, tested, invariant.least);
-      most = more-steps (length c.self.inside.tokens.tokens) position c.loop-position.steps.last c.advance.new.steps.last invariant.most advance.steps;
-      counted = advance.counted c.args.scratch.now.total_steps invariant.counted;
-      entered = advance.room.entered ∙ invariant.entered ∙ ap (λ n. n + 1) (sym advance.room.staying);
-      staying = advance.room.staying ∙ invariant.staying;
-    }
-
--- where no place is held, the text does not match
-no-match : (c : goal.Then-not-advance) → false ≡ matches c.self.inside.tokens.mode c.args.case c.self.inside.tokens.tokens c.args.text.now
-no-match c =
-    let position = c.loop-position.position in
-    let text = c.args.text.now in
-    let next : drop position text ≡ get_or text position 0 ∷ drop (position + 1) text = drop_more text position 0 c.loop-position-test.true in
-    let advance = c.if-not-advance.ensures in
-    let before = accepts c.self.inside.tokens.mode c.args.case c.self.inside.tokens.tokens c.loop-position.places.entered.items c.loop-position.places.staying.items in
-    let rest = take_rest text position in
-    sym (advance.none refl (drop (position + 1) text)) ∙ advance.accepts (get_or text position 0) (drop (position + 1) text) (rest ∙ next) ∙ ap before rest ∙ c.loop-position.invariant.accepts
-
-pub returns-then-not-advance-clause-answer : goal.returns-then-not-advance-clause-answer
-returns-then-not-advance-clause-answer c =
-    let tokens = length c.self.inside.tokens.tokens in
-    let position = c.loop-position.position in
-    let most = more-steps tokens position c.loop-position.steps.last c.advance.new.steps.last c.loop-position.invariant.most c.if-not-advance.ensures.steps in
-    let within : tokens * (position + 1) ≤ tokens * length c.args.text.now = mul-le-mul_left {m = position + 1} {n = length c.args.text.now} tokens (omega (arith, c.loop-position-test.true)) in
-    glob-answers c.self.inside.tokens c.self.inside.pattern.items c.args.self.now c.args.case c.args.text.now false c.advance.new.steps.last
-    c.self.invariant c.self.view_is (no-match c) (omega (arith, most, within)) (λ h. cc)
-
-pub returns-then-not-advance-clause-tail : goal.returns-then-not-advance-clause-tail
-returns-then-not-advance-clause-tail c = glob-answers-tail c.self.inside.tokens c.self.inside.pattern.items c.args.self.now c.args.case c.args.text.now false c.self.invariant c.self.view_is (no-match c)
+pub returns-clause-few : goal.returns-clause-few
+returns-clause-few c tail =
+    let parts = c.self.inside in
+    tail-steps parts.head.mode parts.pattern.items parts.head parts.middle parts.tail c.self.invariant c.args.self.now c.self.view_is c.args.text.now
+    c.before_end.new.steps.last (length c.in-Some-before_end.between.now) c.matches_between.new.steps.last (ends-spent (goal.at.returns-clause-few c).In-Some-before_end) c.matches_between.ensures.most tail
 
 pub returns-clause-function : goal.returns-clause-function
 returns-clause-function c = glob_is_relation
-
-pub returns-then-not-advance-clause-function : goal.returns-then-not-advance-clause-function
-returns-then-not-advance-clause-function c = glob_is_relation

@@ -1,0 +1,218 @@
+-- A glob matches a text where its head takes the front, its tail the end, and what stands between matches the rest.
+use Rattle.std.proofs.Common.{◌≡◌, ℕ, zero, suc, ◌+◌, ◌-◌, ◌≤◌, ◌<◌, Bool, true, false, ◌&&◌, ◌||◌, not, refl, sym, ◌∙◌, ap, arith, add-one, get_or, List, [], ◌∷◌, ◌++◌, length, take, drop, inl, inr, ◌==◌}
+use Rattle.std.proofs.lemmas.Bool.{cases_lt, false_from_ne_true, and_parts, not-true}
+use Rattle.std.proofs.Math.Bool.{or-false, and-false, and-true}
+use Rattle.std.proofs.Math.Seq.{drop-length}
+use Rattle.std.proofs.lemmas.List.{drop_more, drop_all, take_all}
+use Rattle.std.specs.List.{list_all}
+use Rattle.pathspec_glob.specs.declared.Mode.{Mode}
+use Rattle.pathspec_glob.specs.declared.Case.{Case}
+use Rattle.pathspec_glob.specs.Bytes.{is_empty, slash}
+use Rattle.pathspec_glob.specs.Tokens.{Token}
+use Rattle.pathspec_glob.specs.Tokens.Token.{One, Star, Deep}
+use Rattle.pathspec_glob.specs.GlobRelation.{takes, takes_first, matches, some_suffix, passes_over}
+use Rattle.pathspec_glob.specs.GlobSteps.{takes_byte, tests_at, is_wide_at, may_pass_over_at}
+use Rattle.pathspec_glob.specs.GlobParts.{head_of, middle_of, tail_of, takes_each, wide_takes}
+use Rattle.pathspec_glob.proofs.AcceptProofs.{from-place}
+use Rattle.pathspec_glob.proofs.PartProofs.{is_single, stands, head-singles, tail-singles, tail-stands, parts-all}
+
+module _ (mode : Mode) (case : Case) where
+  -- tokens that take a text one by one are as many as its bytes
+  length-takes_each : (ts : List Token) (text : List ℕ) → takes_each mode case ts text ≡ true → length text ≡ length ts
+  length-takes_each [] [] h = refl
+  length-takes_each [] (b ∷ bs) h = cc
+  length-takes_each (t ∷ ts) [] h = cc
+  length-takes_each (t ∷ ts) (b ∷ bs) h = ap suc (length-takes_each ts bs (and_parts (takes_byte mode case t b) (takes_each mode case ts bs) h).1)
+
+  pub takes_each-apart : (ts : List Token) (text : List ℕ) → (length text ≡ length ts → ⊥) → takes_each mode case ts text ≡ false
+  takes_each-apart ts text n = false_from_ne_true (takes_each mode case ts text) (λ h. n (length-takes_each ts text h))
+
+  -- one token and one byte of them
+  pub takes_each-step : (ts : List Token) (text : List ℕ) (place : ℕ) → place < length ts → length text ≡ length ts
+      → takes_each mode case (drop place ts) (drop place text) ≡ (tests_at mode case (drop place ts) (drop place text) && takes_each mode case (drop (place + 1) ts) (drop (place + 1) text))
+  takes_each-step ts text place h len =
+      let token : drop place ts ≡ get_or ts place Star ∷ drop (place + 1) ts = rw (add-one place) (from-place ts place h) in
+      let byte : drop place text ≡ get_or text place 0 ∷ drop (place + 1) text = drop_more text place 0 (omega arith) in
+      rw (token, byte) refl
+
+  -- all of them
+  pub takes_each-all : (ts : List Token) (text : List ℕ) (place : ℕ) → length ts ≤ place → length text ≤ place → takes_each mode case (drop place ts) (drop place text) ≡ true
+  takes_each-all ts text place h g = rw (drop_all place ts h, drop_all place text g) refl
+
+  -- a text that is shorter is taken by no end and no front of it
+  pub front-short : (ts : List Token) (text : List ℕ) → length text < length ts → takes_each mode case ts (take (length ts) text) ≡ false
+  front-short ts text h = rw (take_all (length ts) text (omega arith)) (takes_each-apart ts text (λ e. omega arith))
+
+  pub end-short : (ts : List Token) (text : List ℕ) → length text < length ts → takes_each mode case ts (drop (length text - length ts) text) ≡ false
+  end-short ts text h = let n : length text - length ts ≡ 0 = omega arith in rw n (takes_each-apart ts text (λ e. omega arith))
+
+  -- ---- a head
+
+  front-cases : (t f m : Bool) → (t && (f && m)) ≡ ((t && f) && m)
+  front-cases t f m = grind (arith, or-false)
+
+  pub head-splits : (hs ts : List Token) → list_all is_single hs ≡ true → (text : List ℕ)
+      → matches mode case (hs ++ ts) text ≡ (takes_each mode case hs (take (length hs) text) && matches mode case ts (drop (length hs) text))
+  unfolding matches
+  head-splits [] ts h text = refl
+  head-splits (One s ∷ hs) ts h [] = refl
+  head-splits (One s ∷ hs) ts h (b ∷ bs) =
+      rw (head-splits hs ts h bs) (front-cases (takes mode case s b) (takes_each mode case hs (take (length hs) bs)) (matches mode case ts (drop (length hs) bs)))
+  head-splits (Star ∷ hs) ts h text = cc
+  head-splits (Deep ∷ hs) ts h text = cc
+
+  -- ---- a tail
+
+  -- tokens for one byte each take a text one by one
+  plain-matches : (ss : List Token) → list_all is_single ss ≡ true → (text : List ℕ) → matches mode case ss text ≡ takes_each mode case ss text
+  unfolding matches
+  plain-matches [] h text = refl
+  plain-matches (One s ∷ ss) h [] = refl
+  plain-matches (One s ∷ ss) h (b ∷ bs) = rw (plain-matches ss h bs) refl
+  plain-matches (Star ∷ ss) h text = cc
+  plain-matches (Deep ∷ ss) h text = cc
+
+  -- they take the end of a text
+  abbrev ends : List Token → List ℕ → Bool
+  ends ss text = takes_each mode case ss (drop (length text - length ss) text)
+
+  -- they take the end, and what stands before it passes
+  abbrev before : List Token → (List ℕ → Bool) → List ℕ → Bool
+  before ss f text = ends ss text && f (take (length text - length ss) text)
+
+  some-front : (n : ℕ) (text : List ℕ) → n ≤ length text → 0 < n → is_empty (take n text) ≡ false
+  some-front zero text h g = absurd (let no : ⊥ = omega arith in no)
+  some-front (suc n) [] h g = absurd (let no : ⊥ = omega arith in no)
+  some-front (suc n) (b ∷ bs) h g = refl
+
+  tail-alone : (ss : List Token) (text : List ℕ) → takes_each mode case ss text ≡ before ss is_empty text
+  tail-alone ss text = elim (cases_lt (length ss) (length text)) [
+    | inr g ↦
+        let n : length text - length ss ≡ 0 = omega arith in
+        rw n (sym (and-true (takes_each mode case ss text)))
+    | inl l ↦
+        let off : takes_each mode case ss text ≡ false = takes_each-apart ss text (λ e. omega arith) in
+        rw (off, some-front (length text - length ss) text (omega arith) (omega arith)) (sym (and-false (ends ss text)))
+  ]
+
+  one-cases : (t e m : Bool) → (t && (e && m)) ≡ (e && (t && m))
+  one-cases t e m = grind (arith, or-false)
+
+  -- one byte more before what ends so
+  one-before : (ss : List Token) (take1 : ℕ → Bool) (f : List ℕ → Bool) (text : List ℕ)
+      → takes_first take1 (before ss f) text ≡ before ss (takes_first take1 f) text
+  one-before ss take1 f [] = let n : 0 - length ss ≡ 0 = omega arith in rw n (sym (and-false (takes_each mode case ss [])))
+  one-before ss take1 f (b ∷ bs) = elim (cases_lt (length bs) (length ss)) [
+    | inl l ↦
+        let n : suc (length bs) - length ss ≡ 0 = omega arith in
+        let m : length bs - length ss ≡ 0 = omega arith in
+        let off : takes_each mode case ss bs ≡ false = takes_each-apart ss bs (λ e. omega arith) in
+        rw (n, m, off, and-false (take1 b)) (sym (and-false (takes_each mode case ss (b ∷ bs))))
+    | inr g ↦
+        let n : suc (length bs) - length ss ≡ suc (length bs - length ss) = omega arith in
+        rw n (one-cases (take1 b) (takes_each mode case ss (drop (length bs - length ss) bs)) (f (take (length bs - length ss) bs)))
+  ]
+
+  any-cases : (e a k w : Bool) → ((e && a) || (k && (e && w))) ≡ (e && (a || (k && w)))
+  any-cases e a k w = grind (arith, or-false)
+
+  none-cases : (x k y : Bool) → (x || (k && (false && y))) ≡ x
+  none-cases x k y = grind (arith, or-false)
+
+  -- any number of bytes more
+  any-before : (ss : List Token) (skip : ℕ → Bool) (f : List ℕ → Bool) (text : List ℕ)
+      → some_suffix skip (before ss f) text ≡ before ss (some_suffix skip f) text
+  any-before ss skip f [] = let n : 0 - length ss ≡ 0 = omega arith in rw n refl
+  any-before ss skip f (b ∷ bs) =
+      let ih = any-before ss skip f bs in
+      elim (cases_lt (length bs) (length ss)) [
+        | inl l ↦
+            let n : suc (length bs) - length ss ≡ 0 = omega arith in
+            let m : length bs - length ss ≡ 0 = omega arith in
+            let off : takes_each mode case ss bs ≡ false = takes_each-apart ss bs (λ e. omega arith) in
+            rw (ih, n, m, off) (none-cases (takes_each mode case ss (b ∷ bs) && f []) (skip b) (some_suffix skip f []))
+        | inr g ↦
+            let n : suc (length bs) - length ss ≡ suc (length bs - length ss) = omega arith in
+            let front = take (length bs - length ss) bs in
+            rw (ih, n) (any-cases (takes_each mode case ss (drop (length bs - length ss) bs)) (f (b ∷ front)) (skip b) (some_suffix skip f front))
+      ]
+
+  suffix-same : (skip : ℕ → Bool) (f g : List ℕ → Bool) → ((v : List ℕ) → f v ≡ g v) → (text : List ℕ) → some_suffix skip f text ≡ some_suffix skip g text
+  suffix-same skip f g same [] = same []
+  suffix-same skip f g same (b ∷ bs) = rw (same (b ∷ bs), suffix-same skip f g same bs) refl
+
+  first-same : (take1 : ℕ → Bool) (f g : List ℕ → Bool) → ((v : List ℕ) → f v ≡ g v) → (text : List ℕ) → takes_first take1 f text ≡ takes_first take1 g text
+  first-same take1 f g same [] = refl
+  first-same take1 f g same (b ∷ bs) = rw (same bs) refl
+
+  -- deep at the end of what stands before
+  deep-end : (text : List ℕ) → some_suffix (λ b. true) is_empty text ≡ true
+  deep-end [] = refl
+  deep-end (b ∷ bs) = deep-end bs
+
+  deep-alone : (ss : List Token) → list_all is_single ss ≡ true → may_pass_over_at mode (Deep ∷ ss) ≡ false → (text : List ℕ)
+      → matches mode case (Deep ∷ ss) text ≡ before ss (λ v. true) text
+  unfolding matches
+  deep-alone [] h off text =
+      let n : length text - 0 ≡ length text = omega arith in
+      rw (n, drop-length text) refl
+  deep-alone (s ∷ ss) h off text =
+      let same : (v : List ℕ) → matches mode case (s ∷ ss) v ≡ before (s ∷ ss) is_empty v = λ v. plain-matches (s ∷ ss) h v ∙ tail-alone (s ∷ ss) v in
+      rw (off, or-false (some_suffix (λ b. true) (matches mode case (s ∷ ss)) text), suffix-same (λ b. true) (matches mode case (s ∷ ss)) (before (s ∷ ss) is_empty) same text, any-before (s ∷ ss) (λ b. true) is_empty text, deep-end (take (length text - suc (length ss)) text)) refl
+
+  deep-cases : (e a p m : Bool) → ((e && a) || (p && (e && m))) ≡ (e && (a || (p && m)))
+  deep-cases e a p m = grind (arith, or-false)
+
+  stands-behind : (t : Token) (ts ss : List Token) → stands mode (t ∷ ts) ss ≡ true → stands mode ts ss ≡ true
+  stands-behind t [] ss h = refl
+  stands-behind t (u ∷ ts) ss h = h
+
+  -- Tokens match where a tail behind them takes the end, and they match what stands before.
+  pub tail-splits : (ts ss : List Token) → list_all is_single ss ≡ true → stands mode ts ss ≡ true → (text : List ℕ)
+      → matches mode case (ts ++ ss) text ≡ before ss (matches mode case ts) text
+  unfolding matches
+  tail-splits [] ss h s text = plain-matches ss h text ∙ tail-alone ss text
+  tail-splits (One single ∷ ts) ss h s text =
+      first-same (takes mode case single) (matches mode case (ts ++ ss)) (before ss (matches mode case ts)) (tail-splits ts ss h (stands-behind (One single) ts ss s)) text
+      ∙ one-before ss (takes mode case single) (matches mode case ts) text
+  tail-splits (Star ∷ ts) ss h s text =
+      suffix-same (λ b. not (b == slash)) (matches mode case (ts ++ ss)) (before ss (matches mode case ts)) (tail-splits ts ss h (stands-behind Star ts ss s)) text
+      ∙ any-before ss (λ b. not (b == slash)) (matches mode case ts) text
+  tail-splits (Deep ∷ []) ss h s text = deep-alone ss h (not-true (may_pass_over_at mode (Deep ∷ ss)) s) text
+  tail-splits (Deep ∷ t ∷ ts) ss h s text =
+      rw (
+        suffix-same (λ b. true) (matches mode case (t ∷ (ts ++ ss))) (before ss (matches mode case (t ∷ ts))) (tail-splits (t ∷ ts) ss h s) text,
+        any-before ss (λ b. true) (matches mode case (t ∷ ts)) text,
+        tail-splits ts ss h (stands-behind t ts ss s) text,
+      )
+      (deep-cases (ends ss text) (some_suffix (λ b. true) (matches mode case (t ∷ ts)) (take (length text - length ss) text)) (passes_over mode t) (matches mode case ts (take (length text - length ss) text)))
+
+  -- ---- all parts
+
+  -- what stands behind a head
+  abbrev behind : List Token → List ℕ → List ℕ
+  behind ts text = drop (length (head_of ts)) text
+
+  pub parts-match : (ts : List Token) (text : List ℕ)
+      → matches mode case ts text
+      ≡ (takes_each mode case (head_of ts) (take (length (head_of ts)) text) && before (tail_of mode ts) (matches mode case (middle_of mode ts)) (behind ts text))
+  parts-match ts text =
+      ap (λ x. matches mode case x text) (sym (parts-all mode ts))
+      ∙ head-splits (head_of ts) (middle_of mode ts ++ tail_of mode ts) (head-singles ts) text
+      ∙ ap (λ x. takes_each mode case (head_of ts) (take (length (head_of ts)) text) && x) (tail-splits (middle_of mode ts) (tail_of mode ts) (tail-singles mode ts) (tail-stands mode ts) (behind ts text))
+
+  -- ---- one token for any number of bytes
+
+  star-alone : (text : List ℕ) → some_suffix (λ b. not (b == slash)) (matches mode case []) text ≡ list_all (λ b. not (b == slash)) text
+  unfolding matches
+  star-alone [] = refl
+  star-alone (b ∷ bs) = rw (star-alone bs) refl
+
+  pub wide-alone : (ts : List Token) (text : List ℕ) → length ts ≡ 1 → is_wide_at ts ≡ true → matches mode case ts text ≡ wide_takes ts text
+  unfolding matches
+  wide-alone [] text one h = cc
+  wide-alone (One s ∷ ts) text one h = cc
+  wide-alone (Star ∷ []) text one h = star-alone text
+  wide-alone (Deep ∷ []) text one h = refl
+  wide-alone (Star ∷ t ∷ ts) text one h = absurd (let no : ⊥ = omega arith in no)
+  wide-alone (Deep ∷ t ∷ ts) text one h = absurd (let no : ⊥ = omega arith in no)
