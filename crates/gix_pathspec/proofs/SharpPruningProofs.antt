@@ -15,7 +15,7 @@ use Rattle.gix_pathspec.specs.Plain.{is_plain, is_plain_but_for_attributes}
 use Rattle.gix_pathspec.specs.Prefixes.{stem}
 use Rattle.gix_pathspec.specs.Pruning.{leads_to, reaches, is_total_exclude, can_match}
 use Rattle.gix_pathspec.specs.PruningLaws.{HasOnlyIncludes, CanTake, PruningIsSharp, PruningIsSharpForFits}
-use Rattle.gix_pathspec.specs.SelectionLaws.{HaveBytePaths}
+use Rattle.gix_pathspec.specs.SelectionLaws.{SpecPathsAreBytes}
 use Rattle.gix_pathspec.specs.Specs.{Spec, is_include, ignores_case, wants_directory, always_matches, has_wildcard, prefix_directory}
 use Rattle.gix_pathspec.proofs.BeginsProofs.{folded-drop, folded-append, folded-slash, is_below-from_IsBelow, IsBelow-from_is_below, which_of_four}
 use Rattle.gix_pathspec.proofs.MatchingProofs.{spec_matches-fits}
@@ -141,7 +141,7 @@ reached_taken s d asked h b c n r = elim (cases_Bool (always_matches s)) [
 -- the includes are plain but for attributes, the paths are bytes, and of the includes the test says what fits
 record AsFits (takes : Spec → List ℕ → Bool → Bool) (specs : List Spec) : Type 0 where
   pub plain : (s : Spec) → Contains specs s → is_include s ≡ true → Plain s
-  pub bytes : HaveBytePaths specs
+  pub bytes : SpecPathsAreBytes specs
   pub same : (s : Spec) → Contains specs s → is_include s ≡ true → (x : List ℕ) (is_dir : Bool) → takes s x is_dir ≡ fits s x is_dir
 
 -- from yes to a path that is taken
@@ -174,15 +174,15 @@ takes-can_match takes specs w d asked k c = true_from_ne_false (can_match specs 
 ])
 
 -- for `fits` itself
-as_fits : (specs : List Spec) → HaveBytePaths specs → HasOnlyIncludes is_plain_but_for_attributes specs → AsFits fits specs
+as_fits : (specs : List Spec) → SpecPathsAreBytes specs → HasOnlyIncludes is_plain_but_for_attributes specs → AsFits fits specs
 as_fits specs bytes h = record { plain = λ s c i. plain_parts s (h s c i); bytes = bytes; same = λ s c i x is_dir. refl }
 
 -- Pruning is sharp, with fits, for includes that are plain but for attributes, where paths are bytes.
-pub pruning_is_sharp_for_fits : (specs : List Spec) → HaveBytePaths specs → PruningIsSharpForFits specs
+pub pruning_is_sharp_for_fits : (specs : List Spec) → SpecPathsAreBytes specs → PruningIsSharpForFits specs
 pruning_is_sharp_for_fits specs bytes h d asked n b k = (can_match-takes fits specs (as_fits specs bytes h) d asked n b k, takes-can_match fits specs (as_fits specs bytes h) d asked k)
 
 -- for `spec_matches`, where there are no attributes
-as_matches : (table : Table) (specs : List Spec) → HaveBytePaths specs → HasOnlyIncludes is_plain specs → AsFits (spec_matches table) specs
+as_matches : (table : Table) (specs : List Spec) → SpecPathsAreBytes specs → HasOnlyIncludes is_plain specs → AsFits (spec_matches table) specs
 as_matches table specs bytes h = record {
   plain = λ s c i. plain_parts s (and_parts (is_plain_but_for_attributes s) (is_empty s.attributes) (h s c i)).0;
   bytes = bytes;
@@ -190,5 +190,5 @@ as_matches table specs bytes h = record {
 }
 
 -- Pruning is sharp for plain includes, where paths are bytes.
-pub pruning_is_sharp : (table : Table) (specs : List Spec) → HaveBytePaths specs → PruningIsSharp table specs
+pub pruning_is_sharp : (table : Table) (specs : List Spec) → SpecPathsAreBytes specs → PruningIsSharp table specs
 pruning_is_sharp table specs bytes h d asked n b k = (can_match-takes (spec_matches table) specs (as_matches table specs bytes h) d asked n b k, takes-can_match (spec_matches table) specs (as_matches table specs bytes h) d asked k)

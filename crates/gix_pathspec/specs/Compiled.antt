@@ -11,7 +11,7 @@ use Rattle.gix_pathspec.specs.Patterns.{pattern_spec}
 use Rattle.gix_pathspec.specs.Prefixes.{stem, common_prefix}
 use Rattle.gix_pathspec.specs.Reading.{nil_spec}
 use Rattle.gix_pathspec.specs.Search.{Numbered, specs_of, in_search_order}
-use Rattle.gix_pathspec.specs.SelectionLaws.{NoNilPrefix, HaveBytePaths}
+use Rattle.gix_pathspec.specs.SelectionLaws.{NoNilPrefix, SpecPathsAreBytes}
 
 -- the glob of a pattern in a search mode; a literal one has none
 abbrev pub glob_in_mode : SearchMode → List ℕ → Option GlobSource
@@ -41,6 +41,6 @@ pub record IsCompiled (s : Spec) (stem_length : ℕ) (glob : Option GlobSource) 
 pub record IsSearch (specs : List Numbered) (nil : Pattern) (common : List ℕ) : Type 0 where
   pub is_ordered : in_search_order specs ≡ specs
   pub has_no_nil_prefix : NoNilPrefix (specs_of specs)
-  pub has_byte_paths : HaveBytePaths (specs_of specs)
+  pub has_byte_paths : SpecPathsAreBytes (specs_of specs)
   pub is_nil : pattern_spec nil ≡ nil_spec
   pub is_common : common ≡ common_prefix (specs_of specs)

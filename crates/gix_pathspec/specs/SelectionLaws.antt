@@ -38,8 +38,8 @@ abbrev pub ChosenBeginsCommon : Type 0
 ChosenBeginsCommon = (table : Table) (specs : List Spec) (path : List ℕ) (is_dir : Bool) → path ≢ [] → IsChosen table specs path is_dir → IsTrue (begins_with path (common_prefix specs))
 
 -- The paths of specs are bytes. So it is in each search.
-abbrev pub HaveBytePaths : List Spec → Type 0
-HaveBytePaths specs = (s : Spec) → Contains specs s → IsBytes s.path
+abbrev pub SpecPathsAreBytes : List Spec → Type 0
+SpecPathsAreBytes specs = (s : Spec) → Contains specs s → IsBytes s.path
 
 -- A nil spec has no prefix directory. So it is in each search.
 abbrev pub NoNilPrefix : List Spec → Type 0

@@ -11,7 +11,7 @@ use Rattle.pathspec_parts.specs.Cursors.{CursorContents, next_seen, append_if, n
 use Rattle.pathspec_parts.proofs.SeenProofs.{from-one_of, next_seen-some, next_seen-entry}
 use Rattle.gix_pathspec.specs.Specs.{Spec}
 use Rattle.gix_pathspec.specs.Matching.{is_chosen}
-use Rattle.gix_pathspec.specs.SelectionLaws.{NoNilPrefix, HaveBytePaths}
+use Rattle.gix_pathspec.specs.SelectionLaws.{NoNilPrefix, SpecPathsAreBytes}
 use Rattle.pathspec_select.specs.Walks.{can_hold, IsWalk, HasWalked, HasChosen}
 use Rattle.pathspec_select.proofs.WalkProofs.{can_hold_is_safe, walk_holds}
 use Rattle.pathspec_select.proofs.GoingProofs.{walk_starts, walk_goes_on, walk_ends}
@@ -88,7 +88,7 @@ one_on table specs none c d given more nested h n next m v =
     let u : next_number d ≡ n + 1 = ap next_number v ∙ number_after_visit specs c n in
     subst (λ i. HasChosen table specs c.entries i more d.entered) (sym u) (subst (λ xs. HasChosen table specs c.entries (n + 1) more xs) (sym entered_is) (subst (λ xs. HasChosen table specs c.entries (n + 1) xs (append_if (e.is_dir && enter e.path) n c.entered)) (sym given_is) on))
 
-pub at_end : (table : Table) (specs : List Spec) → NoNilPrefix specs → HaveBytePaths specs → (c : CursorContents) (given : List ℕ) → IsNested c.entries → HasBytePaths c.entries → HasChosen table specs c.entries (next_number c) given c.entered → None ≡ next_seen c.entered (next_number c) c.entries
+pub at_end : (table : Table) (specs : List Spec) → NoNilPrefix specs → SpecPathsAreBytes specs → (c : CursorContents) (given : List ℕ) → IsNested c.entries → HasBytePaths c.entries → HasChosen table specs c.entries (next_number c) given c.entered → None ≡ next_seen c.entered (next_number c) c.entries
     → IsWalk table specs c.entries given c.entered × HasWalked specs c.entries (length c.entries) c.entered
 at_end table specs none spec_bytes c given nested bytes h next =
     let r = walk_ends (can_hold specs) (is_chosen table specs) (can_hold_is_safe table specs none) c.entries (next_number c) given c.entered nested h (sym next) in

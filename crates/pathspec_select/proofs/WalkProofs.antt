@@ -15,7 +15,7 @@ use Rattle.gix_pathspec.specs.Matching.{IsChosen, is_chosen, spec_matches}
 use Rattle.gix_pathspec.specs.Plain.{is_plain}
 use Rattle.gix_pathspec.specs.Pruning.{can_match}
 use Rattle.gix_pathspec.specs.PruningLaws.{HasOnlyIncludes, CanTake}
-use Rattle.gix_pathspec.specs.SelectionLaws.{NoNilPrefix, HaveBytePaths}
+use Rattle.gix_pathspec.specs.SelectionLaws.{NoNilPrefix, SpecPathsAreBytes}
 use Rattle.gix_pathspec.proofs.ChosenProofs.{chosen_is_test}
 use Rattle.gix_pathspec.proofs.NotChosenProofs.{pruned_is_not_chosen}
 use Rattle.gix_pathspec.proofs.SharpPruningProofs.{pruning_is_sharp}
@@ -56,7 +56,7 @@ can_hold_is_safe table specs none path d is_dir taken below =
 
 -- ---- a walk to the end
 
-module _ (table : Table) (specs : List Spec) (none : NoNilPrefix specs) (spec_bytes : HaveBytePaths specs) (es : List Entry) (entered : List ℕ) (nested : IsNested es) (bytes : HasBytePaths es) (walked : HasWalked specs es (length es) entered) where
+module _ (table : Table) (specs : List Spec) (none : NoNilPrefix specs) (spec_bytes : SpecPathsAreBytes specs) (es : List Entry) (entered : List ℕ) (nested : IsNested es) (bytes : HasBytePaths es) (walked : HasWalked specs es (length es) entered) where
   -- of the chosen entries
   chosen_holds : (n : ℕ) → Contains (chosen_entries table specs es) n → IsEntryWith es (λ e. IsChosen table specs e.path e.is_dir) n
   chosen_holds n c = let r = (Contains-entries_where (is_chosen table specs) es n).0 c in (r.0, r.1, (chosen_is_test table specs r.0.path r.0.is_dir).0 r.2)

@@ -11,7 +11,7 @@ use Rattle.gix_pathspec.specs.Matching.{spec_matches, is_chosen, IsChosen}
 use Rattle.gix_pathspec.specs.Plain.{is_plain}
 use Rattle.gix_pathspec.specs.Pruning.{can_match}
 use Rattle.gix_pathspec.specs.PruningLaws.{HasOnlyIncludes, CanTake}
-use Rattle.gix_pathspec.specs.SelectionLaws.{NoNilPrefix, HaveBytePaths}
+use Rattle.gix_pathspec.specs.SelectionLaws.{NoNilPrefix, SpecPathsAreBytes}
 use Rattle.pathspec_select.specs.Listing.{output, listing_entries, marks_from, written_entries}
 
 -- ---- what a walk enters
@@ -112,7 +112,7 @@ HasChosen table specs es end given entered = IsWalkUpTo (can_hold specs) (is_cho
 
 -- Where it came to the end of all, that is a walk in the sense above.
 abbrev pub WalkHolds : Table → List Spec → Type 0
-WalkHolds table specs = NoNilPrefix specs → HaveBytePaths specs → (es : List Entry) (given entered : List ℕ) → IsNested es → HasBytePaths es → HasChosen table specs es (length es) given entered → IsWalk table specs es given entered
+WalkHolds table specs = NoNilPrefix specs → SpecPathsAreBytes specs → (es : List Entry) (given entered : List ℕ) → IsNested es → HasBytePaths es → HasChosen table specs es (length es) given entered → IsWalk table specs es given entered
 
 -- What such a walk gives is one list.
 abbrev pub GivenIsOne : Table → List Spec → Type 0

@@ -10,7 +10,7 @@ ghost use Rattle.gix_pathspec.specs.Patterns.{pattern_spec};
 ghost use Rattle.gix_pathspec.specs.Prefixes.{common_front, common_prefix};
 ghost use Rattle.gix_pathspec.specs.Search.{specs_of, numbered_from, default_to_prefix, in_search_order, search_of};
 ghost use Rattle.gix_pathspec.specs.Building.{prefix_bytes, TellsFault, Builds, IsErrorAt, numbered_normal_form};
-ghost use Rattle.gix_pathspec.specs.SelectionLaws.{HaveBytePaths};
+ghost use Rattle.gix_pathspec.specs.SelectionLaws.{SpecPathsAreBytes};
 
 use crate::search::Search;
 use crate::search::spec::CompiledSpec;
@@ -179,7 +179,7 @@ fn compile_all(
     requires { IsTrue (is_clean_prefix (bstr_bytes prefix)) }
     ensures specs { Builds (λ specs. specs.items) (numbered_from 0 (bstr_bytes prefix.entry)
         (bstr_bytes root.entry) (map pattern_spec patterns.items)) result }
-    ensures bytes { IfOk result (λ specs. HaveBytePaths (specs_of specs.items)) }
+    ensures bytes { IfOk result (λ specs. SpecPathsAreBytes (specs_of specs.items)) }
 {
     let mut specs = Vec::with_capacity(alloc, patterns.len())?;
     for pattern in patterns {

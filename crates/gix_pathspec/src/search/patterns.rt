@@ -6,7 +6,7 @@ ghost use Rattle.std.specs.Iterator.SizeHint.{IsWithinCount};
 ghost use Rattle.bstr.specs.BStr.{bstr_bytes};
 ghost use Rattle.gix_pathspec.specs.Specs.{is_include};
 ghost use Rattle.gix_pathspec.specs.Patterns.{pattern_spec};
-ghost use Rattle.gix_pathspec.specs.SelectionLaws.{ChosenBeginsCommon, NoNilPrefix, HaveBytePaths};
+ghost use Rattle.gix_pathspec.specs.SelectionLaws.{ChosenBeginsCommon, NoNilPrefix, SpecPathsAreBytes};
 
 use crate::Pattern;
 use crate::search::Search;
@@ -75,7 +75,7 @@ impl Search {
     /// In every search the paths of specs are bytes. That is a premise of what is promised of walks over a tree; the call
     /// itself does nothing.
     pub fn spec_paths_are_bytes(&self)
-        ensures { HaveBytePaths (specs_of self.now.specs) }
+        ensures { SpecPathsAreBytes (specs_of self.now.specs) }
     {
         let _ = &self.specs;
     }

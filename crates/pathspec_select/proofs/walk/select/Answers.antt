@@ -7,7 +7,7 @@ use Rattle.pathspec_parts.specs.Cursors.{CursorContents, IsNew, next_seen, appen
 use Rattle.gix_pathspec.specs.Specs.{Spec}
 use Rattle.gix_pathspec.specs.Matching.{is_chosen}
 use Rattle.gix_pathspec.specs.Search.{SearchContents, specs_of}
-use Rattle.gix_pathspec.specs.SelectionLaws.{NoNilPrefix, HaveBytePaths}
+use Rattle.gix_pathspec.specs.SelectionLaws.{NoNilPrefix, SpecPathsAreBytes}
 use Rattle.pathspec_select.specs.Walks.{IsWalk, HasWalked, HasChosen}
 use Rattle.pathspec_select.proofs.EnteredProofs.{given_is_one, entered_is_one}
 use Rattle.pathspec_select.proofs.SelectProofs.{after_visit, path_some, nearer, at_start, one_on, at_end}
@@ -35,7 +35,7 @@ step table specs none es c d given more e nested h n next m v =
     subst (λ x. HasChosen table specs x (next_number d) more d.entered) e (one_on table specs none c d given more nested (subst (λ x. HasChosen table specs x (next_number c) given c.entered) (sym e) h) n next m v)
 
 -- the end, over the same
-finish : (table : Table) (specs : List Spec) → NoNilPrefix specs → HaveBytePaths specs → (es : List Entry) (c d : CursorContents) (given : List ℕ) → c.entries ≡ es → IsNested c.entries → HasBytePaths c.entries → HasChosen table specs es (next_number c) given c.entered
+finish : (table : Table) (specs : List Spec) → NoNilPrefix specs → SpecPathsAreBytes specs → (es : List Entry) (c d : CursorContents) (given : List ℕ) → c.entries ≡ es → IsNested c.entries → HasBytePaths c.entries → HasChosen table specs es (next_number c) given c.entered
     → None ≡ next_seen c.entered (next_number c) c.entries → d ≡ cursor_at c None → IsWalk table specs es given d.entered × HasWalked specs es (length es) d.entered
 finish table specs none spec_bytes es c d given e nested bytes h next m =
     subst (λ x. IsWalk table specs es given x × HasWalked specs es (length es) x) (ap (λ (x : CursorContents). x.entered) (sym m))

@@ -5,7 +5,7 @@ use Rattle.bstr.specs.BStr.{bstr_bytes}
 use Rattle.gix_pathspec.specs.Patterns.{pattern_spec}
 use Rattle.gix_pathspec.specs.Prefixes.{common_prefix}
 use Rattle.gix_pathspec.specs.Search.{Numbered, specs_of, search_of}
-use Rattle.gix_pathspec.specs.SelectionLaws.{HaveBytePaths}
+use Rattle.gix_pathspec.specs.SelectionLaws.{SpecPathsAreBytes}
 use Rattle.gix_pathspec.specs.Paths.{IsBytes}
 use Rattle.gix_pathspec.proofs.SearchProofs.{search_has_no_nil_prefix, search_of-ordered, of_ordered}
 use Rattle.gix_pathspec.proofs.BuildingProofs.{tells-on, search-fails, search-ordered}
@@ -26,7 +26,7 @@ invariant_of-result c =
     record {
       is_ordered = search_of-ordered _ _ _ _ is;
       has_no_nil_prefix = search_has_no_nil_prefix _ _ _ _ is;
-      has_byte_paths = subst (λ (ns : List Numbered). HaveBytePaths (specs_of ns)) (sym c.in_ok-specs.ensures) (of_ordered (λ s. IsBytes s.path) c.in_ok-compiled.compiled.items c.in_ok-compiled.ensures.bytes);
+      has_byte_paths = subst (λ (ns : List Numbered). SpecPathsAreBytes (specs_of ns)) (sym c.in_ok-specs.ensures) (of_ordered (λ s. IsBytes s.path) c.in_ok-compiled.compiled.items c.in_ok-compiled.ensures.bytes);
       is_nil = c.nil.ensures;
       is_common = subst (λ (ns : List Numbered). c.in_ok-common_prefix.common_prefix.items ≡ common_prefix (specs_of ns)) c.as_slice.ensures.value c.in_ok-common_prefix.ensures;
     }
