@@ -49,9 +49,10 @@ pub fn run<R: Read, W: Write>(
 /// Does a job over a reader and a writer, with any look-up of attributes: reads a listing of paths, walks over its tree by
 /// [`select`], and writes the records of the chosen entries, in their order, each with the separator after it.
 ///
-/// It looks at each byte of the listing a fixed number of times, and asks the search about each entry at most twice. It
-/// takes up to two and a half times as much memory as the listing has bytes where paths are as long as those of most
-/// repositories: a tree's entry takes 24 bytes and its name, and 8 for the place of its record.
+/// It looks at each byte of the listing a fixed number of times, and asks the search about each entry at most twice. An
+/// entry takes 24 bytes and its name in the tree, 8 for the place of its record, and 8 more where it is chosen: in all about
+/// twice the listing's bytes where paths stand in byte order, as git lists them. A directory that comes again is a further
+/// entry, so that other listings take more.
 ///
 /// # Errors
 /// The first fault, in this order: [`Refusal::Read`]; [`Refusal::Line`]; [`Refusal::Write`]. [`Refusal::Memory`] comes
