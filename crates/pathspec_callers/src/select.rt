@@ -1,6 +1,7 @@
 //! Callers of `pathspec_select`.
 ghost use Rattle.std.specs.Prelude.{◌≡◌, [], Some, map, string_bytes, IfOk};
 ghost use Rattle.gix_pathspec.specs.Search.{specs_of};
+ghost use Rattle.pathspec_select.specs.Environment.{words_of};
 ghost use Rattle.pathspec_select.specs.Choice.{WritesChosen};
 ghost use Rattle.pathspec_select.specs.Walks.{chosen_entries};
 
@@ -21,7 +22,7 @@ pub fn chosen_lines(
     listing: &[u8],
 ) -> Result<Vec<u8>, Refusal>
     ensures { IfOk result (λ lines. WritesChosen (map string_bytes words.now)
-        (Some listing.now) (Some []) (Some lines.items)) }
+        (words_of environment.now) (Some listing.now) (Some []) (Some lines.items)) }
 {
     let mut reader = listing;
     let mut lines = Vec::new(alloc);

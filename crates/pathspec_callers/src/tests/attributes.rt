@@ -1,70 +1,11 @@
-//! Names, states and outcomes by tables, and three look-ups.
-ghost use Rattle.std.specs.Prelude.{true};
-ghost use Rattle.pathspec_parts.specs.Outcomes.{states_of, unspecified};
-
-use crate::tests::support::{assert_hashes, assert_rising};
+//! Names, states and outcomes by tables, and rows as a look-up.
+use crate::tests::support::{Row, assert_each, assert_rising};
 use bstr::BStr;
-use pathspec_parts::attributes::{Assignment, Case, LookUp, Name, Outcome, StateRef};
+use gix_pathspec::parse;
+use pathspec_parts::attributes::{Assignment, Case, LookUp, Name, Outcome, State, StateRef};
 use pathspec_select::Rows;
 use std::alloc::{AllocError, Global};
-use std::process::Abort;
 use std::test::Fail;
-
-/// Answers, and says nothing of any name.
-#[derive(Drop)]
-struct Bare;
-
-impl LookUp for Bare {
-    type Fault = AllocError;
-
-    ghost table = { λ _ q. record { found = true; states = states_of (unspecified q.names) } };
-
-    ghost failures = { λ _. 0 };
-
-    fn look_up(
-        &mut self,
-        _path: BStr<'_>,
-        _case: Case,
-        _is_dir: bool,
-        _out: &mut Outcome,
-    ) -> Result<bool, AllocError> {
-        Ok(true)
-    }
-}
-
-/// A question that failed.
-#[derive(Debug, Drop)]
-struct Failed;
-
-/// Answers so many questions, and then fails.
-#[derive(Drop)]
-struct FailsAt {
-    left: u64,
-    failed: u64,
-}
-
-impl LookUp for FailsAt {
-    type Fault = Failed;
-
-    ghost table = { λ _ q. record { found = true; states = states_of (unspecified q.names) } };
-
-    ghost failures = { λ it. it.failed };
-
-    fn look_up(
-        &mut self,
-        _path: BStr<'_>,
-        _case: Case,
-        _is_dir: bool,
-        _out: &mut Outcome,
-    ) -> Result<bool, Failed> {
-        if self.left == 0 {
-            self.failed = self.failed.saturating_add(1);
-            return Err(Failed);
-        }
-        self.left -= 1;
-        Ok(true)
-    }
-}
 
 /// Asks a look-up through its bound.
 pub(super) fn ask<L: LookUp>(
@@ -76,154 +17,162 @@ pub(super) fn ask<L: LookUp>(
     look_up.look_up(BStr::new(path.as_bytes()), Case::Sensitive, false, out)
 }
 
-fn name(alloc: Global, text: &str) -> Result<Name, Fail> {
-    Ok(Name::from_bytes(alloc, text.as_bytes())?.ok_or("no name")?)
-}
+/// A text, and whether it is a name.
+#[derive(Clone, Copy)]
+struct Named(&'static str, bool);
 
-fn assignment(alloc: Global, text: &str, state: StateRef<'_>) -> Result<Assignment, Fail> {
-    Ok(Assignment {
-        name: name(alloc, text)?,
-        state: state.to_state(alloc)?,
-    })
-}
-
-/// An outcome for `a`, `b` and `a`.
-fn outcome(alloc: Global) -> Result<Outcome, Fail> {
-    let mut listed = Vec::new(alloc);
-    for text in ["a", "b", "a"] {
-        listed.push(assignment(alloc, text, StateRef::Set)?)?;
-    }
-    Ok(Outcome::for_assignments(alloc, &listed)?)
-}
-
-/// Asserts each row: a text, and whether it is a name.
-fn assert_names(rt: &impl Abort, alloc: Global, rows: &[(&str, bool)]) -> Result<(), Fail> {
-    for (text, want) in rows {
-        let found = Name::from_bytes(alloc, text.as_bytes())?;
-        assert_eq!(rt; found.is_some(), *want, "{text}");
-        if let Some(found) = found {
-            assert_eq!(rt; found.as_bytes().as_bytes(), text.as_bytes(), "{text}");
+impl Row for Named {
+    fn holds(&self, alloc: Global) -> Result<bool, Fail> {
+        match Name::from_bytes(alloc, self.0.as_bytes())? {
+            Some(name) => Ok(self.1 && name.as_bytes().as_bytes() == self.0.as_bytes()),
+            None => Ok(!self.1),
         }
     }
-    Ok(())
 }
 
 #[test]
 fn names_are_letters_digits_and_three_marks(rt: HostRuntime) -> Result<(), Fail> {
-    const ROWS: &[(&str, bool)] = &[
-        ("a", true),
-        ("", true),
-        ("a-b", true),
-        (".x", true),
-        ("_1", true),
-        ("-a", false),
-        ("a b", false),
-        ("a=b", false),
-        ("é", false),
-        ("a!", false),
+    const ROWS: &[Named] = &[
+        Named("a", true),
+        Named("", true),
+        Named("a-b", true),
+        Named(".x", true),
+        Named("_1", true),
+        Named("-a", false),
+        Named("a b", false),
+        Named("a=b", false),
+        Named("é", false),
+        Named("a!", false),
     ];
-    assert_names(&rt, rt.alloc(), ROWS)
+    assert_each(&rt, rt.alloc(), ROWS)
+}
+
+fn name(alloc: Global, text: &str) -> Result<Name, Fail> {
+    Ok(Name::from_bytes(alloc, text.as_bytes())?.ok_or("no name")?)
+}
+
+/// Names in rising order.
+fn names(alloc: Global) -> Result<Vec<Name>, Fail> {
+    const TEXTS: &[&str] = &["", ".", "A", "_", "a", "aa", "b"];
+    let mut names = Vec::new(alloc);
+    for text in TEXTS {
+        names.push(name(alloc, text)?.try_clone()?)?;
+    }
+    Ok(names)
 }
 
 #[test]
 fn names_are_compared_by_their_bytes(rt: HostRuntime) -> Result<(), Fail> {
-    let mut names = Vec::new(rt.alloc());
-    let mut copies = Vec::new(rt.alloc());
-    for text in ["", ".", "A", "_", "a", "aa", "b"] {
-        let own = name(rt.alloc(), text)?;
-        copies.push(own.try_clone()?)?;
-        names.push(own)?;
-    }
-    assert_rising(&rt, &names, &copies);
-    assert_hashes(&rt, &names, &copies);
+    let (names, others) = (names(rt.alloc())?, names(rt.alloc())?);
+    assert_rising(&rt, &names, &others);
     Ok(())
+}
+
+/// States in rising order.
+const STATES: &[StateRef<'static>] = &[
+    StateRef::Set,
+    StateRef::Unset,
+    StateRef::Value(b""),
+    StateRef::Value(b"x"),
+    StateRef::Value(b"xa"),
+    StateRef::Value(b"y"),
+    StateRef::Unspecified,
+];
+
+fn states(alloc: Global) -> Result<Vec<State>, AllocError> {
+    let mut states = Vec::new(alloc);
+    for state in STATES {
+        states.push(state.to_state(alloc)?.try_clone()?)?;
+    }
+    Ok(states)
 }
 
 #[test]
 fn states_are_compared_by_variant_and_then_by_value(rt: HostRuntime) -> Result<(), Fail> {
-    let states = [
-        StateRef::Set,
-        StateRef::Unset,
-        StateRef::Value(b""),
-        StateRef::Value(b"x"),
-        StateRef::Value(b"xa"),
-        StateRef::Value(b"y"),
-        StateRef::Unspecified,
-    ];
-    let mut owned = Vec::new(rt.alloc());
-    let mut copies = Vec::new(rt.alloc());
-    for state in &states {
-        let own = state.to_state(rt.alloc())?;
-        copies.push(own.try_clone()?)?;
-        owned.push(own)?;
-    }
-    assert_rising(&rt, &owned, &copies);
-    assert_hashes(&rt, &owned, &copies);
-    let mut lent = Vec::new(rt.alloc());
-    for state in &owned {
-        lent.push(state.as_ref())?;
-    }
-    assert_rising(&rt, &states, &lent);
-    assert_hashes(&rt, &states, &lent);
+    assert_rising(&rt, STATES, STATES);
+    let (states, others) = (states(rt.alloc())?, states(rt.alloc())?);
+    assert_rising(&rt, &states, &others);
     Ok(())
+}
+
+/// Assignments in rising order.
+fn assignments(alloc: Global) -> Result<Vec<Assignment>, Fail> {
+    let mut copies = Vec::new(alloc);
+    for assignment in &parse::attributes(alloc, b"a -a a=x a=xa !a b !b")? {
+        copies.push(assignment.try_clone()?)?;
+    }
+    Ok(copies)
 }
 
 #[test]
 fn assignments_are_compared_by_name_and_then_by_state(rt: HostRuntime) -> Result<(), Fail> {
-    let mut assignments = Vec::new(rt.alloc());
-    let mut copies = Vec::new(rt.alloc());
-    for (text, state) in [
-        ("a", StateRef::Set),
-        ("a", StateRef::Unset),
-        ("a", StateRef::Value(b"x")),
-        ("a", StateRef::Unspecified),
-        ("b", StateRef::Set),
-        ("b", StateRef::Unspecified),
-    ] {
-        let own = assignment(rt.alloc(), text, state)?;
-        copies.push(own.try_clone()?)?;
-        assignments.push(own)?;
-    }
-    assert_rising(&rt, &assignments, &copies);
-    assert_hashes(&rt, &assignments, &copies);
+    let (assignments, others) = (assignments(rt.alloc())?, assignments(rt.alloc())?);
+    assert_rising(&rt, &assignments, &others);
     Ok(())
 }
 
-/// Whether the outcome has these states.
-fn holds(found: &Outcome, want: [StateRef<'_>; 3]) -> bool {
-    if found.len() != want.len() {
-        return false;
-    }
+/// An outcome for `a`, `b` and `a`.
+fn outcome(alloc: Global) -> Result<Outcome, Fail> {
+    let listed = parse::attributes(alloc, b"a b a")?;
+    Ok(Outcome::for_assignments(alloc, &listed)?)
+}
+
+/// Whether an outcome has these states.
+fn has_states(found: &Outcome, want: &[StateRef<'_>]) -> bool {
     for (place, state) in want.iter().enumerate() {
-        if found.state(place) != *state {
+        if place >= found.len() || found.state(place) != *state {
             return false;
         }
     }
-    true
+    found.len() == want.len()
+}
+
+/// What is set one after the other, and the states that an outcome then has.
+#[derive(Clone, Copy)]
+struct Sets(
+    &'static [(&'static str, StateRef<'static>)],
+    &'static [StateRef<'static>],
+);
+
+impl Row for Sets {
+    fn holds(&self, alloc: Global) -> Result<bool, Fail> {
+        let mut found = outcome(alloc)?;
+        found.set(b"b", StateRef::Set)?;
+        found.reset();
+        for (text, state) in self.0 {
+            found.set(text.as_bytes(), *state)?;
+        }
+        Ok(has_states(&found, self.1))
+    }
 }
 
 #[test]
 fn a_name_is_set_at_each_of_its_places(rt: HostRuntime) -> Result<(), Fail> {
-    let (none, x) = (StateRef::Unspecified, StateRef::Value(b"x"));
-    let mut found = outcome(rt.alloc())?;
-    assert!(rt; holds(&found, [none, none, none]));
-    assert!(rt; !found.is_empty());
-    for (text, state, want) in [
-        ("a", x, [x, none, x]),
-        ("c", StateRef::Set, [x, none, x]),
-        ("b", StateRef::Unset, [x, StateRef::Unset, x]),
-        (
-            "a",
-            StateRef::Set,
-            [StateRef::Set, StateRef::Unset, StateRef::Set],
+    const NONE: StateRef<'static> = StateRef::Unspecified;
+    const ROWS: &[Sets] = &[
+        Sets(&[], &[NONE, NONE, NONE]),
+        Sets(&[("c", StateRef::Set)], &[NONE, NONE, NONE]),
+        Sets(
+            &[("b", StateRef::Unset), ("a", StateRef::Value(b"x"))],
+            &[
+                StateRef::Value(b"x"),
+                StateRef::Unset,
+                StateRef::Value(b"x"),
+            ],
         ),
-    ] {
-        found.set(text.as_bytes(), state)?;
-        assert!(rt; holds(&found, want), "{text}");
-    }
-    found.reset();
-    assert!(rt; holds(&found, [none, none, none]));
-    for (place, text) in ["a", "b", "a"].into_iter().enumerate() {
+        Sets(
+            &[("a", StateRef::Value(b"x")), ("a", StateRef::Set)],
+            &[StateRef::Set, NONE, StateRef::Set],
+        ),
+    ];
+    assert_each(&rt, rt.alloc(), ROWS)
+}
+
+#[test]
+fn names_of_an_outcome_stand_in_the_order_of_the_list(rt: HostRuntime) -> Result<(), Fail> {
+    let found = outcome(rt.alloc())?;
+    assert!(rt; !found.is_empty());
+    for (place, text) in ["a", "b", "a"].iter().enumerate() {
         if place < found.len() {
             assert_eq!(rt; found.name(place).as_bytes(), text.as_bytes());
         }
@@ -232,42 +181,11 @@ fn a_name_is_set_at_each_of_its_places(rt: HostRuntime) -> Result<(), Fail> {
 }
 
 #[test]
-fn look_ups_are_asked_through_their_trait(rt: HostRuntime) -> Result<(), Fail> {
-    let none = StateRef::Unspecified;
-    let mut found = outcome(rt.alloc())?;
-    found.set(b"a", StateRef::Set)?;
-    assert!(rt; ask(&mut Bare, "x", &mut found)?);
-    assert!(rt; holds(&found, [none, none, none]));
-    let mut failing = FailsAt { left: 1, failed: 0 };
-    assert!(rt; ask(&mut failing, "x", &mut found).is_ok());
-    assert!(rt; ask(&mut failing, "x", &mut found).is_err());
-    assert_eq!(rt; failing.failed, 1);
-    Ok(())
-}
-
-#[test]
 fn rows_set_what_their_path_assigns(rt: HostRuntime) -> Result<(), Fail> {
-    let alloc = rt.alloc();
-    let (none, unset) = (StateRef::Unspecified, StateRef::Unset);
-    let mut found = outcome(alloc)?;
-    let mut rows = Rows::new(alloc);
-    for (path, text, state) in [
-        ("x", "a", StateRef::Set),
-        ("y", "b", unset),
-        ("x", "a", unset),
-        ("x", "c", StateRef::Set),
-    ] {
-        let mut assignments = Vec::new(alloc);
-        assignments.push(assignment(alloc, text, state)?)?;
-        rows.push(path.as_bytes(), assignments)?;
-    }
-    for (path, want) in [
-        ("x", [unset, none, unset]),
-        ("y", [none, unset, none]),
-        ("z", [none, none, none]),
-    ] {
-        assert!(rt; ask(&mut rows, path, &mut found)?, "{path}");
-        assert!(rt; holds(&found, want), "{path}");
-    }
+    let mut rows = Rows::new(rt.alloc());
+    rows.push(b"x", parse::attributes(rt.alloc(), b"a -b c")?)?;
+    let mut found = outcome(rt.alloc())?;
+    let is_found = ask(&mut rows, "x", &mut found)?;
+    assert!(rt; is_found && has_states(&found, &[StateRef::Set, StateRef::Unset, StateRef::Set]));
     Ok(())
 }

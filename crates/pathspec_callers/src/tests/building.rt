@@ -1,153 +1,107 @@
 //! Searches that are made of specs, and specs that make none.
-use crate::tests::support::{build, search_of};
+use crate::tests::support::{Row, assert_each, build, build_from, pattern_of, search_of};
 use bstr::{BStr, BString};
-use gix_pathspec::{BuildError, Defaults, MagicSignature, Pattern, Search, SearchMode};
+use gix_pathspec::{BuildError, MagicSignature, Pattern, Search, SearchMode};
 use std::alloc::Global;
-use std::process::Abort;
 use std::test::Fail;
 
-/// Texts, the directory that they are given in, and the common prefix of their search.
-type PrefixRow<'r> = (&'r [&'r str], &'r str, &'r str);
-
-/// Asserts the common prefix of each search.
-fn assert_prefixes(rt: &impl Abort, alloc: Global, rows: &[PrefixRow<'_>]) -> Result<(), Fail> {
-    for (texts, prefix, want) in rows {
-        let search = search_of(rt, alloc, texts, prefix)?;
-        assert_eq!(rt;
-            search.common_prefix().as_bytes(),
-            want.as_bytes(),
-            "{texts:?}"
-        );
-    }
-    Ok(())
-}
-
-#[test]
-fn every_include_begins_with_the_common_prefix(rt: HostRuntime) -> Result<(), Fail> {
-    const ROWS: &[PrefixRow<'_>] = &[
-        (&["src/**", ":!src/generated/**"], "", "src/"),
-        (&["abc/", "abd/"], "", "ab"),
-        (&["a/b/", "a/b/c"], "", "a/b"),
-        (&["a/b/c", "a/b/"], "", "a/b"),
-        (&["x"], "a", "a/x"),
-        (&["a*b", "abc"], "", "a"),
-        (&[":(icase)B"], "a", "a"),
-        (&[":(icase)B", ":(top)x"], "a", ""),
-        (&[":(literal)a*b"], "", "a"),
-        (&[":!ab"], "", ""),
-        (&[".", ".x"], "", ""),
-        (&[":"], "a", ""),
-    ];
-    assert_prefixes(&rt, rt.alloc(), ROWS)
-}
-
 /// Texts, the number of the first that has a fault, the kind of the fault, and its text.
-type FaultRow<'r> = (&'r [&'r str], usize, &'r str, &'r str);
+#[derive(Clone, Copy)]
+struct Fault(&'static [&'static str], usize, &'static str, &'static str);
 
-/// Asserts the fault of each list.
-fn assert_faults(rt: &impl Abort, alloc: Global, rows: &[FaultRow<'_>]) -> Result<(), Fail> {
-    for row in rows {
-        let Err(error) = build(rt, alloc, row.0, "")? else {
-            return Err("built".into());
-        };
-        assert_fault(rt, alloc, error, row)?;
+impl Row for Fault {
+    fn holds(&self, alloc: Global) -> Result<bool, Fail> {
+        match build(alloc, self.0, "")? {
+            Ok(_) => Ok(false),
+            Err(error) => self.is(alloc, error),
+        }
     }
-    Ok(())
 }
 
-/// Asserts the number, the kind and the text of a fault.
-fn assert_fault(
-    rt: &impl Abort,
-    alloc: Global,
-    error: BuildError,
-    row: &FaultRow<'_>,
-) -> Result<(), Fail> {
-    let (_, number, kind, line) = row;
-    let printed = error.to_string(alloc)?;
-    assert_eq!(rt; printed.as_str(), *line);
-    let BuildError::Spec(place, error) = error else {
-        return Err("memory".into());
-    };
-    assert_eq!(rt; place, *number, "{line}");
-    assert_eq!(rt; error.kind(), *kind, "{line}");
-    Ok(())
+impl Fault {
+    /// Whether this is the number, the kind and the text of an error.
+    fn is(&self, alloc: Global, error: BuildError) -> Result<bool, Fail> {
+        let printed = error.to_string(alloc)?;
+        match error {
+            BuildError::Spec(number, error) => {
+                let is_same = number == self.1 && error.kind() == self.2;
+                Ok(is_same && printed.as_str() == self.3)
+            }
+            BuildError::Memory => Err("memory".into()),
+        }
+    }
 }
 
 #[test]
 #[rattlefmt::skip]
 fn the_first_fault_is_told(rt: HostRuntime) -> Result<(), Fail> {
-    const ROWS: &[FaultRow<'_>] = &[
-        (&["x", "../a"], 1, "LeavesRepository", "spec 1: path leaves the repository: ../a"),
-        (&[":!..", "/x", "x"], 0, "LeavesRepository", "spec 0: path leaves the repository: .."),
-        (&["x", "/x", ".."], 1, "OutsideRoot", "spec 1: path is not inside of the repository: /x"),
-        (&["x", "y", ":!../z", ".."], 2, "LeavesRepository", "spec 2: path leaves the repository: ../z"),
+    const ROWS: &[Fault] = &[
+        Fault(&["x", "../a"], 1, "LeavesRepository", "spec 1: path leaves the repository: ../a"),
+        Fault(&[":!..", "/x", "x"], 0, "LeavesRepository", "spec 0: path leaves the repository: .."),
+        Fault(&["x", "/x", ".."], 1, "OutsideRoot", "spec 1: path is not inside of the repository: /x"),
+        Fault(&["x", "y", ":!../z", ".."], 2, "LeavesRepository", "spec 2: path leaves the repository: ../z"),
     ];
-    assert_faults(&rt, rt.alloc(), ROWS)?;
-    let memory = BuildError::Memory.to_string(rt.alloc())?;
-    assert_eq!(rt; memory.as_str(), "out of memory");
+    assert_each(&rt, rt.alloc(), ROWS)
+}
+
+#[test]
+fn want_of_memory_has_a_text(rt: HostRuntime) -> Result<(), Fail> {
+    let printed = BuildError::Memory.to_string(rt.alloc())?;
+    assert_eq!(rt; printed.as_str(), "out of memory");
     Ok(())
 }
 
-/// Asserts that a spec is the directory `a`, which is its own prefix directory.
-fn assert_directory(rt: &impl Abort, pattern: &Pattern) {
-    assert_eq!(rt; pattern.path().as_bytes(), b"a".as_slice());
-    assert_eq!(rt; pattern.prefix_directory().as_bytes(), b"a".as_slice());
-    assert_eq!(rt; pattern.signature, MagicSignature::MUST_BE_DIR);
-    assert_eq!(rt; pattern.search_mode, SearchMode::Literal);
-}
-
-/// Asserts how many specs a search has.
-fn assert_count(rt: &impl Abort, search: &Search, want: usize) {
-    assert_eq!(rt; search.patterns().len(), want);
+/// Whether a spec is the directory `a`, which is its own prefix directory.
+fn is_directory(pattern: &Pattern) -> bool {
+    pattern.path() == BStr::new(b"a")
+        && pattern.prefix_directory() == BStr::new(b"a")
+        && pattern.signature == MagicSignature::MUST_BE_DIR
+        && pattern.search_mode == SearchMode::Literal
 }
 
 #[test]
 fn no_specs_stand_for_the_prefix(rt: HostRuntime) -> Result<(), Fail> {
-    let search = search_of(&rt, rt.alloc(), &[], "a")?;
-    assert_count(&rt, &search, 1);
+    let search = search_of(rt.alloc(), &[], "a")?;
+    assert!(rt; search.patterns().len() == 1);
     for pattern in search.patterns() {
-        assert_directory(&rt, pattern);
+        assert!(rt; is_directory(pattern));
     }
     Ok(())
 }
 
-#[test]
-fn without_a_prefix_there_may_be_no_spec(rt: HostRuntime) -> Result<(), Fail> {
-    assert_count(&rt, &search_of(&rt, rt.alloc(), &[], "")?, 0);
-    let none = Search::from_specs(rt.alloc(), Vec::new(rt.alloc()), None, BStr::new(b""))?;
-    assert_count(&rt, &none, 0);
-    Ok(())
-}
-
-/// Asserts that two searches are of equal specs, and come from the same place.
-fn assert_same(rt: &impl Abort, search: &Search, other: &Search) {
-    assert_eq!(rt; search.source, other.source);
-    assert_eq!(rt; search.patterns().len(), other.patterns().len());
+/// Whether two searches are of equal specs, and come from the same place.
+fn are_same(search: &Search, other: &Search) -> bool {
     for (pattern, other) in search.patterns().zip(other.patterns()) {
-        assert_eq!(rt; pattern, other);
+        if pattern != other {
+            return false;
+        }
     }
+    search.patterns().len() == other.patterns().len() && search.source == other.source
 }
 
 #[test]
 fn a_clone_has_the_same_specs_and_source(rt: HostRuntime) -> Result<(), Fail> {
-    let mut search = search_of(&rt, rt.alloc(), &["a*", ":!(attr:b)c"], "a")?;
-    assert_count(&rt, &search, 2);
+    let mut search = search_of(rt.alloc(), &["a*", ":!(attr:b)c"], "a")?;
     assert!(rt; search.source.is_none());
-    assert_same(&rt, &search.try_clone()?, &search);
     search.source = Some(BString::from_slice(rt.alloc(), "list")?);
-    assert_same(&rt, &search.try_clone()?, &search);
+    assert!(rt; are_same(&search.try_clone()?, &search));
     Ok(())
+}
+
+/// So many specs, of which every second is an exclude.
+fn many(alloc: Global, count: u32) -> Result<Vec<Pattern>, Fail> {
+    let mut patterns = Vec::new(alloc);
+    for number in 0..count {
+        let text = if number % 2 == 0 { "a/b*" } else { ":!a/c" };
+        patterns.push(pattern_of(alloc, text)?)?;
+    }
+    Ok(patterns)
 }
 
 #[test]
 fn ten_thousand_specs_make_a_search(rt: HostRuntime) -> Result<(), Fail> {
-    let mut patterns = Vec::new(rt.alloc());
-    for number in 0..10_000u32 {
-        let text = if number % 2 == 0 { "a/b*" } else { ":!a/c" };
-        patterns.push(Pattern::from_bytes(rt.alloc(), text.as_bytes(), Defaults::default())?)?;
-    }
-    let search = Search::from_specs(rt.alloc(), patterns, None, BStr::new(b""))?;
-    assert_count(&rt, &search, 10_000);
-    assert_eq!(rt; search.common_prefix().as_bytes(), b"a/b".as_slice());
+    let search = build_from(rt.alloc(), many(rt.alloc(), 10_000)?, "")??;
+    assert!(rt; search.patterns().len() == 10_000);
+    assert!(rt; search.common_prefix() == BStr::new(b"a/b"));
     Ok(())
 }

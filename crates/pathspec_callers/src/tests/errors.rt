@@ -1,87 +1,81 @@
 //! What the errors of reading and normalising tell.
+use crate::tests::support::{Row, assert_each};
 use gix_pathspec::Error;
 use std::alloc::{AllocError, Global};
-use std::process::Abort;
 use std::test::Fail;
 
-/// Asserts the kind and the text of an error.
-fn assert_told(
-    rt: &impl Abort,
-    alloc: Global,
-    error: &Error,
-    kind: &str,
-    line: &str,
-) -> Result<(), Fail> {
-    assert_eq!(rt; error.kind(), kind);
+/// Whether an error is of this kind and has this text.
+fn tells(alloc: Global, error: &Error, kind: &str, line: &str) -> Result<bool, AllocError> {
     let printed = error.to_string(alloc)?;
-    assert_eq!(rt; printed.as_str(), line);
-    Ok(())
+    Ok(error.kind() == kind && printed.as_str() == line)
 }
 
-/// Asserts each row: an error, its kind and its text.
-fn assert_rows(rt: &impl Abort, alloc: Global, rows: &[(Error, &str, &str)]) -> Result<(), Fail> {
-    for (error, kind, line) in rows {
-        assert_told(rt, alloc, error, kind, line)?;
+/// An error, its kind and its text.
+#[derive(Drop)]
+struct Told(Error, &'static str, &'static str);
+
+impl Row for Told {
+    fn holds(&self, alloc: Global) -> Result<bool, Fail> {
+        Ok(tells(alloc, &self.0, self.1, self.2)?)
     }
-    Ok(())
 }
 
 #[test]
 #[rattlefmt::skip]
 fn errors_have_a_kind_and_a_text(rt: HostRuntime) -> Result<(), Fail> {
     let rows = [
-        (Error::Empty, "Empty", "an empty string is not a valid pathspec"),
-        (Error::UnimplementedShort(b'#'), "UnimplementedShort", "unimplemented short keyword: '#'"),
-        (Error::EmptyAttributes, "EmptyAttributes", "attribute list is empty"),
-        (Error::InvalidValueByte(b'\\'), "InvalidValueByte", "invalid byte in attribute value: '\\\\'"),
-        (Error::GlobAndNoGlob, "GlobAndNoGlob", "glob and no-glob settings are incompatible"),
-        (Error::Memory, "Memory", "out of memory"),
+        Told(Error::Empty, "Empty", "an empty string is not a valid pathspec"),
+        Told(Error::UnimplementedShort(b'#'), "UnimplementedShort", "unimplemented short keyword: '#'"),
+        Told(Error::EmptyAttributes, "EmptyAttributes", "attribute list is empty"),
+        Told(Error::InvalidValueByte(b'\\'), "InvalidValueByte", "invalid byte in attribute value: '\\\\'"),
+        Told(Error::GlobAndNoGlob, "GlobAndNoGlob", "glob and no-glob settings are incompatible"),
+        Told(Error::Memory, "Memory", "out of memory"),
     ];
-    assert_rows(&rt, rt.alloc(), &rows)
+    assert_each(&rt, rt.alloc(), &rows)
 }
 
-/// The error of this kind that carries these bytes.
-fn carrying(alloc: Global, kind: &str, bytes: &str) -> Result<Error, AllocError> {
-    let bytes = Vec::from_slice(alloc, bytes.as_bytes())?;
-    Ok(match kind {
-        "MissingParen" => Error::MissingParen(bytes),
-        "InvalidKeyword" => Error::InvalidKeyword(bytes),
-        "LiteralWithGlob" => Error::LiteralWithGlob(bytes),
-        "SecondAttributes" => Error::SecondAttributes(bytes),
-        "InvalidName" => Error::InvalidName(bytes),
-        "TrailingEscape" => Error::TrailingEscape(bytes),
-        "OutsideRoot" => Error::OutsideRoot(bytes),
-        "LeavesRepository" => Error::LeavesRepository(bytes),
-        _ => Error::NotTruth(bytes),
-    })
-}
+/// A kind, the bytes that its error carries, and the error's text.
+#[derive(Clone, Copy)]
+struct Carrying(&'static str, &'static str, &'static str);
 
-/// Asserts each row: a kind, the bytes that its error carries, and the error's text.
-fn assert_carrying(
-    rt: &impl Abort,
-    alloc: Global,
-    rows: &[(&str, &str, &str)],
-) -> Result<(), Fail> {
-    for (kind, bytes, line) in rows {
-        let error = carrying(alloc, kind, bytes)?;
-        assert_told(rt, alloc, &error, kind, line)?;
+impl Carrying {
+    /// The error of this kind that carries these bytes.
+    fn error(&self, alloc: Global) -> Result<Error, AllocError> {
+        let bytes = Vec::from_slice(alloc, self.1.as_bytes())?;
+        Ok(match self.0 {
+            "MissingParen" => Error::MissingParen(bytes),
+            "InvalidKeyword" => Error::InvalidKeyword(bytes),
+            "LiteralWithGlob" => Error::LiteralWithGlob(bytes),
+            "SecondAttributes" => Error::SecondAttributes(bytes),
+            "InvalidName" => Error::InvalidName(bytes),
+            "TrailingEscape" => Error::TrailingEscape(bytes),
+            "OutsideRoot" => Error::OutsideRoot(bytes),
+            "LeavesRepository" => Error::LeavesRepository(bytes),
+            _ => Error::NotTruth(bytes),
+        })
     }
-    Ok(())
+}
+
+impl Row for Carrying {
+    fn holds(&self, alloc: Global) -> Result<bool, Fail> {
+        let error = self.error(alloc)?;
+        Ok(tells(alloc, &error, self.0, self.2)?)
+    }
 }
 
 #[test]
 #[rattlefmt::skip]
 fn errors_that_carry_bytes_have_a_kind_and_a_text(rt: HostRuntime) -> Result<(), Fail> {
-    const ROWS: &[(&str, &str, &str)] = &[
-        ("MissingParen", ":(top", "missing ')' at the end of pathspec magic in :(top"),
-        ("InvalidKeyword", "foo", "found an unknown keyword in long magic: foo"),
-        ("LiteralWithGlob", "glob", "'literal' and 'glob' are incompatible: glob"),
-        ("SecondAttributes", "attr:b", "only one attribute list is allowed: attr:b"),
-        ("InvalidName", "-1", "invalid attribute name: -1"),
-        ("TrailingEscape", "x\\", "escape at the end of attribute value: x\\"),
-        ("OutsideRoot", "/a", "path is not inside of the repository: /a"),
-        ("LeavesRepository", "..", "path leaves the repository: .."),
-        ("NotTruth", "maybe", "not a boolean: maybe"),
+    const ROWS: &[Carrying] = &[
+        Carrying("MissingParen", ":(top", "missing ')' at the end of pathspec magic in :(top"),
+        Carrying("InvalidKeyword", "foo", "found an unknown keyword in long magic: foo"),
+        Carrying("LiteralWithGlob", "glob", "'literal' and 'glob' are incompatible: glob"),
+        Carrying("SecondAttributes", "attr:b", "only one attribute list is allowed: attr:b"),
+        Carrying("InvalidName", "-1", "invalid attribute name: -1"),
+        Carrying("TrailingEscape", "x\\", "escape at the end of attribute value: x\\"),
+        Carrying("OutsideRoot", "/a", "path is not inside of the repository: /a"),
+        Carrying("LeavesRepository", "..", "path leaves the repository: .."),
+        Carrying("NotTruth", "maybe", "not a boolean: maybe"),
     ];
-    assert_carrying(&rt, rt.alloc(), ROWS)
+    assert_each(&rt, rt.alloc(), ROWS)
 }

@@ -1,99 +1,111 @@
 //! Listings that are read as trees.
+use crate::tests::support::{Row, assert_each};
 use pathspec_parts::tree::Cursor;
 use pathspec_select::listing::{Listing, ListingError, read};
 use std::alloc::Global;
-use std::process::Abort;
 use std::test::Fail;
 
-/// An entry by its path, and the record that it is made from.
-type Row<'r> = (&'r str, bool, Option<&'r str>);
+/// An entry: its path, whether it is a directory, and the record that it is made from, "" for none.
+type Entry = (&'static str, bool, &'static str);
 
-/// Asserts what a listing is read as: each entry in order, where every directory is entered.
-fn assert_entries(
-    rt: &impl Abort,
-    alloc: Global,
-    bytes: &str,
-    separator: u8,
-    rows: &[Row<'_>],
-) -> Result<(), Fail> {
-    let listing = read(alloc, bytes.as_bytes(), separator)?;
-    let mut cursor = Cursor::new(alloc, listing.tree())?;
-    for row in rows {
-        assert_next(rt, &listing, &mut cursor, row);
+/// A listing, its separator, and its entries in order, where every directory is entered.
+#[derive(Clone, Copy)]
+struct Entries(&'static str, u8, &'static [Entry]);
+
+impl Row for Entries {
+    fn holds(&self, alloc: Global) -> Result<bool, Fail> {
+        let listing = read(alloc, self.0.as_bytes(), self.1)?;
+        let mut cursor = Cursor::new(alloc, listing.tree())?;
+        for entry in self.2 {
+            if !is_next(&listing, &mut cursor, entry) {
+                return Ok(false);
+            }
+        }
+        Ok(cursor.next().is_none() && listing.record(self.2.len()).is_none())
     }
-    assert!(rt; cursor.next().is_none(), "{bytes}");
-    assert!(rt; listing.record(rows.len()).is_none(), "{bytes}");
-    Ok(())
 }
 
-/// Asserts the next entry, and enters it.
-fn assert_next(rt: &impl Abort, listing: &Listing<'_>, cursor: &mut Cursor<'_>, row: &Row<'_>) {
-    let (path, is_dir, record) = row;
-    let Some(entry) = cursor.next() else {
-        assert!(rt; false, "no {path}");
-        return;
+/// Whether this is the next entry, which is entered.
+fn is_next(listing: &Listing<'_>, cursor: &mut Cursor<'_>, entry: &Entry) -> bool {
+    let (path, is_dir, record) = entry;
+    let Some(number) = cursor.next() else {
+        return false;
     };
-    assert_eq!(rt; cursor.path().as_bytes(), path.as_bytes());
-    assert_eq!(rt; cursor.is_dir(), *is_dir, "{path}");
-    let found = listing.record(entry);
-    assert_eq!(rt; found.is_some(), record.is_some(), "{path}");
-    if let (Some(found), Some(record)) = (found, record) {
-        assert_eq!(rt; found.as_bytes(), record.as_bytes(), "{path}");
-    }
+    let is_same = cursor.path().as_bytes() == path.as_bytes() && cursor.is_dir() == *is_dir;
     cursor.enter();
+    match listing.record(number) {
+        Some(found) => is_same && found.as_bytes() == record.as_bytes(),
+        None => is_same && record.is_empty(),
+    }
 }
 
 #[test]
 fn records_are_entries_and_missing_parents_are_implied(rt: HostRuntime) -> Result<(), Fail> {
-    const ROWS: &[Row<'_>] = &[
-        ("a", true, None),
-        ("a/b", true, None),
-        ("a/b/c", false, Some("a/b/c")),
-        ("a/d", false, Some("a/d")),
-        ("a", true, Some("a/")),
-        ("a/e", true, Some("a/e/")),
-        ("f", false, Some("f")),
+    const ROWS: &[Entries] = &[
+        Entries(
+            "a/b/c\na/d\na/\na/e/\nf",
+            b'\n',
+            &[
+                ("a", true, ""),
+                ("a/b", true, ""),
+                ("a/b/c", false, "a/b/c"),
+                ("a/d", false, "a/d"),
+                ("a", true, "a/"),
+                ("a/e", true, "a/e/"),
+                ("f", false, "f"),
+            ],
+        ),
+        Entries(
+            "a/x\0a/y\0b\0a/z\0",
+            0,
+            &[
+                ("a", true, ""),
+                ("a/x", false, "a/x"),
+                ("a/y", false, "a/y"),
+                ("b", false, "b"),
+                ("a", true, ""),
+                ("a/z", false, "a/z"),
+            ],
+        ),
+        Entries("", b'\n', &[]),
     ];
-    assert_entries(&rt, rt.alloc(), "a/b/c\na/d\na/\na/e/\nf", b'\n', ROWS)
+    assert_each(&rt, rt.alloc(), ROWS)
 }
 
-#[test]
-fn a_directory_that_comes_again_is_a_further_entry(rt: HostRuntime) -> Result<(), Fail> {
-    const ROWS: &[Row<'_>] = &[
-        ("a", true, None),
-        ("a/x", false, Some("a/x")),
-        ("a/y", false, Some("a/y")),
-        ("b", false, Some("b")),
-        ("a", true, None),
-        ("a/z", false, Some("a/z")),
-    ];
-    assert_entries(&rt, rt.alloc(), "a/x\0a/y\0b\0a/z\0", 0, ROWS)
-}
+/// A listing, and the number of its first bad record.
+#[derive(Clone, Copy)]
+struct Bad(&'static str, usize);
 
-#[test]
-fn no_bytes_are_no_records(rt: HostRuntime) -> Result<(), Fail> {
-    assert_entries(&rt, rt.alloc(), "", b'\n', &[])
-}
-
-/// Asserts each row: a listing, and the number of its first bad record.
-fn assert_bad(rt: &impl Abort, alloc: Global, rows: &[(&str, usize)]) {
-    for (bytes, number) in rows {
-        let refused = read(alloc, bytes.as_bytes(), b'\n').err();
-        assert!(rt; refused == Some(ListingError::BadLine(*number)), "{bytes}");
+impl Row for Bad {
+    fn holds(&self, alloc: Global) -> Result<bool, Fail> {
+        let refused = read(alloc, self.0.as_bytes(), b'\n').err();
+        Ok(refused == Some(ListingError::BadLine(self.1)))
     }
 }
 
 #[test]
-fn the_first_bad_record_is_told(rt: HostRuntime) {
-    const ROWS: &[(&str, usize)] = &[
-        ("\n", 1),
-        ("/", 1),
-        ("a\n/b\n\n", 2),
-        ("a//b", 1),
-        ("a//\n", 1),
-        ("a\n\nb\n", 2),
-        ("a/\na/b\nc//\n", 3),
-        ("a\nb\na//b\n/\n", 3),
+fn the_first_bad_record_is_told(rt: HostRuntime) -> Result<(), Fail> {
+    const ROWS: &[Bad] = &[
+        Bad("\n", 1),
+        Bad("/", 1),
+        Bad("a\n/b\n\n", 2),
+        Bad("a//b", 1),
+        Bad("a//\n", 1),
+        Bad("a\n\nb\n", 2),
+        Bad("a/\na/b\nc//\n", 3),
+        Bad("a\nb\na//b\n/\n", 3),
     ];
-    assert_bad(&rt, rt.alloc(), ROWS);
+    assert_each(&rt, rt.alloc(), ROWS)
+}
+
+/// How many entries a listing has.
+fn count(alloc: Global) -> Result<usize, ListingError> {
+    Ok(read(alloc, b"a/b/c\na/d\ne/\n", b'\n')?.tree().len())
+}
+
+#[test]
+fn a_refused_growth_leaves_the_bytes(rt: HostRuntime) {
+    let (first, second) = (count(rt.alloc()), count(rt.alloc()));
+    assert!(rt; first == Ok(5) || first == Err(ListingError::Memory) && second == Ok(5));
+    assert!(rt; second == Ok(5) || second == Err(ListingError::Memory) && first == Ok(5));
 }

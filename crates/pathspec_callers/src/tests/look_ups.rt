@@ -1,4 +1,4 @@
-//! A look-up for tests.
+//! Look-ups for tests.
 ghost use Rattle.std.specs.Prelude.{◌≡◌, true, bytes_eq, codes, if◌then◌else◌, OnOk};
 ghost use Rattle.pathspec_parts.specs.Attributes.{next_count};
 ghost use Rattle.pathspec_parts.specs.Attributes.State.{Set};
@@ -6,11 +6,55 @@ ghost use Rattle.pathspec_parts.specs.Outcomes.{names_of, states_of, unspecified
 
 use bstr::BStr;
 use pathspec_parts::attributes::{Case, LookUp, Outcome, StateRef};
-use std::alloc::AllocError;
+use std::alloc::{AllocError, Global};
 
-/// A question that failed.
-#[derive(Debug, Drop)]
-pub(super) struct Failed;
+/// A look-up that answers, says nothing of any name, and writes down each path that it is asked about.
+#[derive(Drop)]
+pub(super) struct Recorder {
+    /// The paths, each with a line feed after it.
+    pub(super) asked: Vec<u8>,
+    failed: u64,
+}
+
+impl Recorder {
+    pub(super) fn new(alloc: Global) -> Recorder {
+        Recorder {
+            asked: Vec::new(alloc),
+            failed: 0,
+        }
+    }
+}
+
+impl LookUp for Recorder {
+    type Fault = AllocError;
+
+    ghost table = { λ _ q. record { found = true; states = states_of (unspecified q.names) } };
+
+    ghost failures = { λ it. it.failed };
+
+    fn look_up(
+        &mut self,
+        path: BStr<'_>,
+        _case: Case,
+        _is_dir: bool,
+        _out: &mut Outcome,
+    ) -> Result<bool, AllocError> {
+        match write_down(&mut self.asked, path.as_bytes()) {
+            Ok(()) => Ok(true),
+            Err(refused) => {
+                self.failed = self.failed.saturating_add(1);
+                Err(refused)
+            }
+        }
+    }
+}
+
+/// Writes a path after others, with a line feed after it.
+fn write_down(paths: &mut Vec<u8>, path: &[u8]) -> Result<(), AllocError> {
+    paths.extend_from_slice(path)?;
+    paths.push(b'\n')?;
+    Ok(())
+}
 
 /// A look-up that sets the attribute `gen` of the path `x`, and counts what it is asked.
 #[derive(Drop)]
@@ -34,17 +78,17 @@ impl Marks {
         }
     }
 
-    fn fail(&mut self) -> Failed
+    fn fail(&mut self) -> AllocError
         ensures { self.new.failed ≡ next_count self.old.failed }
     {
         self.left = u64::MAX;
         self.failed = self.failed.saturating_add(1);
-        Failed
+        AllocError
     }
 }
 
 impl LookUp for Marks {
-    type Fault = Failed;
+    type Fault = AllocError;
 
     ghost table = { λ _ q. record {
       found = true;
@@ -60,7 +104,7 @@ impl LookUp for Marks {
         _case: Case,
         _is_dir: bool,
         out: &mut Outcome,
-    ) -> Result<bool, Failed> {
+    ) -> Result<bool, AllocError> {
         self.asked = self.asked.saturating_add(1);
         if self.left == 0 {
             return Err(self.fail());

@@ -1,189 +1,153 @@
 //! Paths, their components, and stacks of names.
+use crate::tests::support::{Row, assert_each};
 use bstr::BStr;
 use pathspec_parts::path::{
     Components, Stack, components, is_absolute, is_clean_prefix, strip_last_slash, strip_root,
 };
 use pathspec_parts::split::at_first;
-use std::process::Abort;
+use std::alloc::Global;
 use std::test::Fail;
 
-/// Asserts that just these components are left.
-fn assert_components(rt: &impl Abort, mut found: Components<'_>, want: &[&str], path: &str) {
+/// Whether just these components are left.
+fn are_left(mut found: Components<'_>, want: &[&str]) -> bool {
     for word in want {
         let is_same = match found.next() {
             Some(component) => component.as_bytes() == word.as_bytes(),
             None => false,
         };
-        assert!(rt; is_same, "{word} in {path}");
+        if !is_same {
+            return false;
+        }
     }
-    assert!(rt; found.next().is_none(), "after {path}");
+    found.next().is_none()
 }
 
-/// Asserts each row: a path, and its components.
-fn assert_cut(rt: &impl Abort, rows: &[(&str, &[&str])]) {
-    for (path, want) in rows {
-        assert_components(rt, components(BStr::new(path.as_bytes())), want, path);
-    }
-}
+/// A path, and its components.
+#[derive(Clone, Copy)]
+struct Cut(&'static str, &'static [&'static str]);
 
-#[test]
-fn components_are_the_pieces_that_name_something(rt: HostRuntime) {
-    const ROWS: &[(&str, &[&str])] = &[
-        ("", &[]),
-        ("/", &[]),
-        ("./.", &[]),
-        ("a", &["a"]),
-        ("/a//./b/../", &["a", "b", ".."]),
-        ("...", &["..."]),
-    ];
-    assert_cut(&rt, ROWS);
-}
-
-/// Asserts each row: a path, and whether it is absolute.
-fn assert_absolute(rt: &impl Abort, rows: &[(&str, bool)]) {
-    for (path, want) in rows {
-        assert_eq!(rt; is_absolute(BStr::new(path.as_bytes())), *want, "{path}");
+impl Row for Cut {
+    fn holds(&self, _alloc: Global) -> Result<bool, Fail> {
+        Ok(are_left(components(BStr::new(self.0.as_bytes())), self.1))
     }
 }
 
 #[test]
-fn absolute_paths_begin_with_a_slash(rt: HostRuntime) {
-    const ROWS: &[(&str, bool)] = &[
-        ("", false),
-        ("/", true),
-        ("/a", true),
-        ("a/", false),
-        ("./", false),
+fn components_are_the_pieces_that_name_something(rt: HostRuntime) -> Result<(), Fail> {
+    const ROWS: &[Cut] = &[
+        Cut("", &[]),
+        Cut("/", &[]),
+        Cut("./.", &[]),
+        Cut("a", &["a"]),
+        Cut("/a//./b/../", &["a", "b", ".."]),
+        Cut("...", &["..."]),
     ];
-    assert_absolute(&rt, ROWS);
+    assert_each(&rt, rt.alloc(), ROWS)
 }
 
-/// Asserts each row: a path, and whether it is a clean prefix.
-fn assert_clean(rt: &impl Abort, rows: &[(&str, bool)]) {
-    for (path, want) in rows {
-        assert_eq!(rt;
-            is_clean_prefix(BStr::new(path.as_bytes())),
-            *want,
-            "{path}"
-        );
+/// A path, whether it is absolute, and whether it is a clean prefix.
+#[derive(Clone, Copy)]
+struct Kind(&'static str, bool, bool);
+
+impl Row for Kind {
+    fn holds(&self, _alloc: Global) -> Result<bool, Fail> {
+        let path = BStr::new(self.0.as_bytes());
+        Ok(is_absolute(path) == self.1 && is_clean_prefix(path) == self.2)
     }
 }
 
 #[test]
-fn clean_prefixes_are_names_joined_by_slashes(rt: HostRuntime) {
-    const ROWS: &[(&str, bool)] = &[
-        ("", true),
-        ("a", true),
-        ("a/b", true),
-        ("...", true),
-        ("../a", false),
-        ("a//", false),
-        ("a//b", false),
-        ("a/", false),
-        ("/a", false),
-        ("..", false),
-        (".", false),
-        ("a/./b", false),
+fn paths_are_absolute_or_clean_prefixes(rt: HostRuntime) -> Result<(), Fail> {
+    const ROWS: &[Kind] = &[
+        Kind("", false, true),
+        Kind("/", true, false),
+        Kind("/a", true, false),
+        Kind("a/", false, false),
+        Kind("./", false, false),
+        Kind("a/b", false, true),
+        Kind("...", false, true),
+        Kind("../a", false, false),
+        Kind("a//", false, false),
+        Kind("a//b", false, false),
+        Kind("..", false, false),
+        Kind(".", false, false),
+        Kind("a/./b", false, false),
     ];
-    assert_clean(&rt, ROWS);
+    assert_each(&rt, rt.alloc(), ROWS)
 }
 
-/// A path, a root, and the components after the root, if the path lies there.
-type RootRow<'r> = (&'r str, &'r str, Option<&'r [&'r str]>);
+/// A path, a root, whether the path lies there, and the components after the root.
+#[derive(Clone, Copy)]
+struct Rooted(&'static str, &'static str, bool, &'static [&'static str]);
 
-/// Asserts what a root leaves of a path.
-fn assert_stripped(rt: &impl Abort, row: &RootRow<'_>) {
-    let (path, root, want) = row;
-    let found = strip_root(BStr::new(path.as_bytes()), BStr::new(root.as_bytes()));
-    match (found, want) {
-        (Some(found), Some(want)) => assert_components(rt, found, want, path),
-        (found, want) => assert_eq!(rt; found.is_some(), want.is_some(), "{path} in {root}"),
+impl Row for Rooted {
+    fn holds(&self, _alloc: Global) -> Result<bool, Fail> {
+        let (path, root) = (BStr::new(self.0.as_bytes()), BStr::new(self.1.as_bytes()));
+        match strip_root(path, root) {
+            Some(found) => Ok(self.2 && are_left(found, self.3)),
+            None => Ok(!self.2),
+        }
     }
 }
 
 #[test]
-fn a_root_is_stripped_by_its_components(rt: HostRuntime) {
-    const ROWS: &[RootRow<'_>] = &[
-        ("/r/a/b", "/r", Some(&["a", "b"])),
-        ("/r", "/r", Some(&[])),
-        ("/r/a/..", "/r", Some(&["a", ".."])),
-        ("/r/a", "//r/./", Some(&["a"])),
-        ("/a", "/", Some(&["a"])),
-        ("/r/../x", "/r/..", Some(&["x"])),
-        ("/r/a/b", "/rr", None),
-        ("/r/a/b", "", None),
-        ("/r/a", "r", None),
-        ("r/a", "/r", None),
-        ("/r", "/r/a", None),
-        ("/x", "/r/..", None),
+fn a_root_is_stripped_by_its_components(rt: HostRuntime) -> Result<(), Fail> {
+    const ROWS: &[Rooted] = &[
+        Rooted("/r/a/b", "/r", true, &["a", "b"]),
+        Rooted("/r", "/r", true, &[]),
+        Rooted("/r/a/..", "/r", true, &["a", ".."]),
+        Rooted("/r/a", "//r/./", true, &["a"]),
+        Rooted("/a", "/", true, &["a"]),
+        Rooted("/r/../x", "/r/..", true, &["x"]),
+        Rooted("/r/a/b", "/rr", false, &[]),
+        Rooted("/r/a/b", "", false, &[]),
+        Rooted("/r/a", "r", false, &[]),
+        Rooted("r/a", "/r", false, &[]),
+        Rooted("/r", "/r/a", false, &[]),
+        Rooted("/x", "/r/..", false, &[]),
     ];
-    for row in ROWS {
-        assert_stripped(&rt, row);
-    }
+    assert_each(&rt, rt.alloc(), ROWS)
 }
 
-/// Asserts each row: a path, the path without its last slash, and whether it had one.
-fn assert_last_slash(rt: &impl Abort, rows: &[(&str, &str, bool)]) {
-    for (path, front, slash) in rows {
-        let (found, had) = strip_last_slash(path.as_bytes());
-        assert_eq!(rt; found, front.as_bytes(), "{path}");
-        assert_eq!(rt; had, *slash, "{path}");
-    }
-}
+/// A text, the text without its last slash, and what stands before and after its first slash.
+#[derive(Clone, Copy)]
+struct Slashes(&'static str, &'static str, &'static str, &'static str);
 
-#[test]
-fn one_last_slash_is_stripped(rt: HostRuntime) {
-    const ROWS: &[(&str, &str, bool)] = &[
-        ("", "", false),
-        ("/", "", true),
-        ("a//", "a/", true),
-        ("a/b", "a/b", false),
-    ];
-    assert_last_slash(&rt, ROWS);
-}
-
-/// Asserts each row: a text, and what stands before and after its first slash.
-fn assert_first_slash(rt: &impl Abort, rows: &[(&str, &str, &str)]) {
-    for (text, front, rest) in rows {
-        let (before, after) = at_first(text.as_bytes(), b'/');
-        assert_eq!(rt; before, front.as_bytes(), "{text}");
-        assert_eq!(rt; after, rest.as_bytes(), "{text}");
+impl Row for Slashes {
+    fn holds(&self, _alloc: Global) -> Result<bool, Fail> {
+        let (front, had) = strip_last_slash(self.0.as_bytes());
+        if front != self.1.as_bytes() || had == (self.0 == self.1) {
+            return Ok(false);
+        }
+        let (before, after) = at_first(self.0.as_bytes(), b'/');
+        Ok(before == self.2.as_bytes() && after == self.3.as_bytes())
     }
 }
 
 #[test]
-fn bytes_are_cut_at_the_first(rt: HostRuntime) {
-    const ROWS: &[(&str, &str, &str)] = &[
-        ("", "", ""),
-        ("a", "a", ""),
-        ("/", "", ""),
-        ("a/b/c", "a", "b/c"),
-        ("//", "", "/"),
+fn texts_are_cut_at_slashes(rt: HostRuntime) -> Result<(), Fail> {
+    const ROWS: &[Slashes] = &[
+        Slashes("", "", "", ""),
+        Slashes("/", "", "", ""),
+        Slashes("//", "/", "", "/"),
+        Slashes("a", "a", "a", ""),
+        Slashes("a//", "a/", "a", "/"),
+        Slashes("a/b/c", "a/b/c", "a", "b/c"),
     ];
-    assert_first_slash(&rt, ROWS);
+    assert_each(&rt, rt.alloc(), ROWS)
 }
 
 #[test]
 fn a_stack_knows_how_low_it_was(rt: HostRuntime) -> Result<(), Fail> {
     let mut stack = Stack::new(rt.alloc());
-    assert!(rt; !stack.pop());
     assert!(rt; stack.is_empty());
     for name in ["a", "b", "c"] {
         stack.push(BStr::new(name.as_bytes()))?;
     }
-    assert_eq!(rt; stack.least(), 0);
     stack.mark();
-    assert_eq!(rt; stack.least(), 3);
-    assert!(rt; stack.pop());
-    assert!(rt; stack.pop());
+    let popped = stack.pop() && stack.pop();
     stack.push(BStr::new(b"d"))?;
-    assert_eq!(rt; stack.least(), 1);
-    assert_eq!(rt; stack.len(), 2);
-    assert!(rt;
-        stack
-            .get(1)
-            .is_some_and(|name| name.as_bytes() == b"d".as_slice())
-    );
-    assert!(rt; stack.get(2).is_none());
+    assert!(rt; popped && stack.least() == 1 && stack.len() == 2);
+    assert_eq!(rt; stack.get(1), Some(BStr::new(b"d")));
     Ok(())
 }

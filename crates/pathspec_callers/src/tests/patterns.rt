@@ -1,108 +1,81 @@
 //! Patterns that are made, compared and asked about their paths.
-use crate::tests::support::{assert_hashes, assert_rising};
+use crate::tests::support::{Row, assert_each, assert_rising, pattern_of, search_of};
 use bitflags::Flags;
 use bstr::BStr;
-use gix_pathspec::{Defaults, Error, MagicSignature, Pattern, SearchMode};
-use pathspec_parts::path::is_clean_prefix;
+use gix_pathspec::{MagicSignature, Pattern, SearchMode};
 use std::alloc::Global;
-use std::process::Abort;
 use std::test::Fail;
 
 #[test]
 fn a_literal_pattern_is_its_text(rt: HostRuntime) -> Result<(), Fail> {
     let pattern = Pattern::from_literal(rt.alloc(), b"a*/", MagicSignature::EXCLUDE)?;
-    assert_eq!(rt; pattern.path().as_bytes(), b"a*/".as_slice());
-    assert_eq!(rt; pattern.search_mode, SearchMode::Literal);
-    assert!(rt; pattern.is_excluded());
-    assert!(rt; pattern.has_wildcard());
-    assert!(rt; !pattern.is_nil());
-    assert!(rt; !pattern.always_matches());
+    assert!(rt; pattern.path() == BStr::new(b"a*/"));
+    assert!(rt; pattern.search_mode == SearchMode::Literal);
+    assert!(rt; pattern.is_excluded() && pattern.has_wildcard());
+    assert!(rt; !pattern.is_nil() && !pattern.always_matches());
     Ok(())
 }
 
 #[test]
 fn a_new_pattern_asks_for_nothing(rt: HostRuntime) -> Result<(), Fail> {
     let pattern = Pattern::new(rt.alloc());
-    assert_eq!(rt; pattern.path().as_bytes(), b"".as_slice());
-    assert_eq!(rt; pattern.prefix_directory().as_bytes(), b"".as_slice());
-    assert_eq!(rt; pattern.signature, MagicSignature::empty());
-    assert_eq!(rt; pattern.search_mode, SearchMode::ShellGlob);
-    assert!(rt; !pattern.is_nil());
-    let read = Pattern::from_bytes(rt.alloc(), b"::", Defaults::default())?;
-    assert_eq!(rt; pattern, read);
+    assert!(rt; pattern == pattern_of(rt.alloc(), "::")?);
     Ok(())
 }
 
-/// A pattern with this text, given in this directory.
-fn normal(rt: &impl Abort, alloc: Global, text: &str, prefix: &str) -> Result<Pattern, Error> {
-    let prefix = BStr::new(prefix.as_bytes());
-    assert!(rt; is_clean_prefix(prefix));
-    let mut pattern = Pattern::from_bytes(alloc, text.as_bytes(), Defaults::default())?;
-    pattern.resolve(prefix, BStr::new(b""))?;
-    Ok(pattern)
-}
-
-/// A pattern that has the higher of two values in one field, and the lower in the others.
-fn raised(rt: &impl Abort, alloc: Global, field: &str) -> Result<Pattern, Error> {
-    match field {
-        "prefix length" => normal(rt, alloc, "b", "a"),
-        "nil" => normal(rt, alloc, ":", "a/b"),
-        "attributes" => normal(rt, alloc, ":(attr:a)a/b", ""),
-        "search mode" => normal(rt, alloc, ":(literal)a/b", ""),
-        "signature" => normal(rt, alloc, ":(top)a/b", ""),
-        "path" => normal(rt, alloc, "a/c", ""),
-        _ => normal(rt, alloc, "a/b", ""),
-    }
-}
+/// A text for each field of patterns, and the directory that it is given in: the pattern has the higher of two values in
+/// that field, and the lower in all before it.
+const RISING: &[(&str, &str)] = &[
+    ("a/b", ""),
+    ("b", "a"),
+    (":", "a/b"),
+    (":(attr:a)a/b", ""),
+    (":(literal)a/b", ""),
+    (":(top)a/b", ""),
+    ("a/c", ""),
+];
 
 /// Patterns in rising order.
-fn rising(rt: &impl Abort, alloc: Global) -> Result<Vec<Pattern>, Error> {
-    const FIELDS: &[&str] = &[
-        "none",
-        "prefix length",
-        "nil",
-        "attributes",
-        "search mode",
-        "signature",
-        "path",
-    ];
+fn rising(alloc: Global) -> Result<Vec<Pattern>, Fail> {
     let mut patterns = Vec::new(alloc);
-    for field in FIELDS {
-        patterns.push(raised(rt, alloc, field)?)?;
+    for (text, prefix) in RISING {
+        for pattern in search_of(alloc, &[*text], prefix)?.into_patterns() {
+            patterns.push(pattern)?;
+        }
     }
     Ok(patterns)
 }
 
 #[test]
-fn patterns_are_compared_field_by_field(rt: HostRuntime) -> Result<(), Error> {
-    let values = rising(&rt, rt.alloc())?;
-    let others = rising(&rt, rt.alloc())?;
+fn patterns_are_compared_field_by_field(rt: HostRuntime) -> Result<(), Fail> {
+    let (values, others) = (rising(rt.alloc())?, rising(rt.alloc())?);
     assert_rising(&rt, &values, &others);
-    assert_hashes(&rt, &values, &others);
     Ok(())
 }
 
-/// Asserts each row: a path, and whether it has a wildcard.
-fn assert_wildcards(rt: &impl Abort, alloc: Global, rows: &[(&str, bool)]) -> Result<(), Error> {
-    for (text, want) in rows {
-        let mut pattern = Pattern::from_literal(alloc, text.as_bytes(), MagicSignature::empty())?;
-        assert_eq!(rt; pattern.has_wildcard(), *want, "{text}");
-        assert!(rt; !pattern.is_glob(), "literal {text}");
+/// A path, and whether it has a wildcard.
+#[derive(Clone, Copy)]
+struct Wild(&'static str, bool);
+
+impl Row for Wild {
+    fn holds(&self, alloc: Global) -> Result<bool, Fail> {
+        let path = self.0.as_bytes();
+        let mut pattern = Pattern::from_literal(alloc, path, MagicSignature::empty())?;
+        let is_wild = pattern.has_wildcard() == self.1 && !pattern.is_glob();
         pattern.search_mode = SearchMode::ShellGlob;
-        assert_eq!(rt; pattern.is_glob(), *want, "glob {text}");
+        Ok(is_wild && pattern.is_glob() == self.1)
     }
-    Ok(())
 }
 
 #[test]
-fn four_bytes_are_wildcards(rt: HostRuntime) -> Result<(), Error> {
-    const ROWS: &[(&str, bool)] = &[
-        ("a*", true),
-        ("?a", true),
-        ("[", true),
-        ("a\\b", true),
-        ("a]b{}", false),
-        ("", false),
+fn four_bytes_are_wildcards(rt: HostRuntime) -> Result<(), Fail> {
+    const ROWS: &[Wild] = &[
+        Wild("a*", true),
+        Wild("?a", true),
+        Wild("[", true),
+        Wild("a\\b", true),
+        Wild("a]b{}", false),
+        Wild("", false),
     ];
-    assert_wildcards(&rt, rt.alloc(), ROWS)
+    assert_each(&rt, rt.alloc(), ROWS)
 }

@@ -1,270 +1,283 @@
 //! Runs of the whole program, over readers and writers that serve and that fail.
-use crate::tests::support::{USAGE, words_of};
-use pathspec_select::{Environment, Refusal, run};
+use crate::tests::look_ups::{Marks, Recorder};
+use crate::tests::support::{
+    Row, UNSET, USAGE, Variables, assert_each, environment_of, is_told, job_of, words_of,
+};
+use pathspec_parts::attributes::LookUp;
+use pathspec_select::{Job, Refusal, run, run_with};
 use std::alloc::{AllocError, Global};
 use std::io::{self, ErrorKind, Read, Write};
-use std::process::Abort;
 use std::test::Fail;
 
-/// What a run left: its status, the line of its refusal, and what was written.
-#[derive(Drop)]
-struct Ending {
-    status: u8,
-    line: String,
-    written: Vec<u8>,
-}
-
-fn no_environment() -> Environment {
-    Environment {
-        literal: None,
-        icase: None,
-        glob: None,
-        noglob: None,
-    }
-}
-
-fn status_of(outcome: &Result<(), Refusal>) -> u8 {
-    match outcome {
-        Ok(()) => 0,
-        Err(refusal) => refusal.status(),
-    }
-}
-
-fn line_of(alloc: Global, outcome: &Result<(), Refusal>) -> Result<String, AllocError> {
-    match outcome {
-        Ok(()) => Ok(String::new(alloc)),
-        Err(refusal) => refusal.to_string(alloc),
-    }
-}
-
-/// What a run left that read its listing from here.
-fn ended_over(
+/// Runs the program over a listing, with these words and variables.
+fn run_words(
     alloc: Global,
     words: &[String],
-    reader: &mut impl Read,
-) -> Result<Ending, AllocError> {
-    let mut written = Vec::new(alloc);
-    let outcome = run(alloc, words, &no_environment(), reader, &mut written);
-    Ok(Ending {
-        status: status_of(&outcome),
-        line: line_of(alloc, &outcome)?,
-        written,
-    })
-}
-
-fn ended(alloc: Global, words: &str, listing: &[u8]) -> Result<Ending, AllocError> {
-    let words = words_of(alloc, words)?;
+    variables: Variables,
+    listing: &[u8],
+    written: &mut Vec<u8>,
+) -> Result<Result<(), Refusal>, AllocError> {
+    let environment = environment_of(alloc, variables)?;
     let mut reader = listing;
-    ended_over(alloc, words.as_slice(), &mut reader)
+    Ok(run(alloc, words, &environment, &mut reader, written))
 }
 
-/// Asserts each row: words, a listing, and what is written for them.
-fn assert_written(
-    rt: &impl Abort,
+/// Runs the program over a listing, with the words of a line and these variables.
+fn run_line(
     alloc: Global,
-    rows: &[(&str, &str, &str)],
-) -> Result<(), AllocError> {
-    for (words, listing, want) in rows {
-        let end = ended(alloc, words, listing.as_bytes())?;
-        assert_eq!(rt; end.line.as_str(), "", "line of {words}");
-        assert_eq!(rt; end.status, 0, "status of {words}");
-        assert_eq!(rt;
-            end.written.as_slice(),
-            want.as_bytes(),
-            "written for {words}"
-        );
-    }
-    Ok(())
+    line: &str,
+    variables: Variables,
+    listing: &[u8],
+    written: &mut Vec<u8>,
+) -> Result<Result<(), Refusal>, AllocError> {
+    let words = words_of(alloc, line)?;
+    run_words(alloc, words.as_slice(), variables, listing, written)
 }
 
-#[test]
-fn chosen_records_are_written(rt: HostRuntime) -> Result<(), AllocError> {
-    const ROWS: &[(&str, &str, &str)] = &[
-        ("a/b", "a/\na/b\nc/\nc/d\n", "a/b\n"),
-        (".", "a/\na/b\nc/\nc/d\n", "a/\na/b\nc/\nc/d\n"),
-        ("a :!a/x", "a/x\na/y\nab\n", "a/y\n"),
-        (":!a/x a", "a/x\na/y\nab\n", "a/y\n"),
-        (":!a", "a\nb\n", "b\n"),
-        (":/b ./c", "b\na/b\nc\n", "b\nc\n"),
-        ("", "", ""),
-        ("", "b\na/\na", "b\na/\na\n"),
-        ("a", "a", "a\n"),
-        ("a/", "a\na/\na/x\nab/\n", "a/\na/x\n"),
-        ("a :!a", "a\na/b\n", ""),
-        ("b a", "a\nb\na\nc\n", "a\nb\na\n"),
-        (": :^b", "a\nb\n", "a\n"),
-        ("-- -x", "-x\nx\n", "-x\n"),
-        ("-- --", "--\na\n", "--\n"),
-        ("a -- -z", "--\n-z\na\nb\n", "--\n-z\na\n"),
-        ("/", "a\nb/\n", "a\nb/\n"),
-        ("..a a..", "..a\na..\na\n", "..a\na..\n"),
-        (":(top)b", "a/b\nb\n", "b\n"),
-        (":(icase)A/b", "a/B/c\nab\na/b\n", "a/B/c\na/b\n"),
-        ("a :(exclude,icase)A/X", "a/x\na/y\n", "a/y\n"),
-        (":!(glob)a/x a", "a/x\na/y\n", "a/y\n"),
-        (":()a :(,)b", "a\nb\nc\n", "a\nb\n"),
-        (":(attr)a", "a\nb\n", "a\n"),
-        (":(literal)a*", "a*\nab\n", "a*\n"),
-        ("a/.. b", "a\nb\n", "a\nb\n"),
-        ("a/../b", "a\nb\n", "b\n"),
-    ];
-    assert_written(&rt, rt.alloc(), ROWS)
-}
-
-#[test]
-fn specs_are_read_in_a_prefix_and_a_root(rt: HostRuntime) -> Result<(), AllocError> {
-    const ROWS: &[(&str, &str, &str)] = &[
-        ("--prefix a", "a/b\nb\n", "a/b\n"),
-        ("--prefix a :/b c", "b\na/b\na/c\n", "b\na/c\n"),
-        ("--prefix a :(icase)B", "a/b\nA/b\n", "a/b\n"),
-        ("--prefix a ../b", "a/x\nb\n", "b\n"),
-        ("--prefix a/ ../b", "a/x\nb\n", "b\n"),
-        ("--prefix .. --prefix a b", "a/b\nb\n", "a/b\n"),
-        ("--prefix a -- b", "a/b\nb\n", "a/b\n"),
-        ("--prefix a :", "a/x\nb\n", "a/x\nb\n"),
-        ("--prefix a :!x", "a/x\na/y\nb\n", "a/y\nb\n"),
-        ("--prefix a :(icase).", "a/x\nA/x\n", "a/x\nA/x\n"),
-        ("--prefix a :(icase)./", "a/x\nA/x\n", "a/x\n"),
-        ("--prefix a*", "a*/b\nab/b\n", "a*/b\n"),
-        ("--root /r /r/a", "a/x\nb\n", "a/x\n"),
-        ("--root /r --prefix b /r/a", "a/x\nb/a\n", "a/x\n"),
-        ("--root /r /r", "a/x\nb\n", "a/x\nb\n"),
-        ("--root /s --root /r /r/a", "a/x\nb\n", "a/x\n"),
-        ("--root --prefix x", "a\nx\n", "x\n"),
-        ("--root /r --prefix a --root /s/", "a/x\nb\n", "a/x\n"),
-        ("--prefix -- x", "--/x\nx\n", "--/x\n"),
-        ("a --prefix b", "--prefix\na\nb\nc\n", "--prefix\na\nb\n"),
-    ];
-    assert_written(&rt, rt.alloc(), ROWS)
-}
-
-/// Asserts each row: words, a listing, and the status and the line of their refusal.
-fn assert_refused(
-    rt: &impl Abort,
+/// Whether a run writes just this.
+fn writes(
     alloc: Global,
-    rows: &[(&str, &str, u8, &str)],
-) -> Result<(), AllocError> {
-    for (words, listing, status, line) in rows {
-        let end = ended(alloc, words, listing.as_bytes())?;
-        assert_eq!(rt; end.line.as_str(), *line, "line of {words}");
-        assert_eq!(rt; end.status, *status, "status of {words}");
-        assert!(rt; end.written.is_empty(), "written for {words}");
+    line: &str,
+    variables: Variables,
+    listing: &[u8],
+    want: &[u8],
+) -> Result<bool, Fail> {
+    let mut written = Vec::new(alloc);
+    run_line(alloc, line, variables, listing, &mut written)??;
+    Ok(written.as_slice() == want)
+}
+
+/// Words, a listing, and what is written for them.
+#[derive(Clone, Copy)]
+struct Written(&'static str, &'static str, &'static str);
+
+impl Row for Written {
+    fn holds(&self, alloc: Global) -> Result<bool, Fail> {
+        writes(alloc, self.0, UNSET, self.1.as_bytes(), self.2.as_bytes())
     }
-    Ok(())
 }
 
 #[test]
-fn the_first_fault_is_refused_and_nothing_is_written(rt: HostRuntime) -> Result<(), AllocError> {
-    const ROWS: &[(&str, &str, u8, &str)] = &[
-        ("-", "", 2, USAGE),
-        ("-z a", "", 2, USAGE),
-        ("--prefix", "", 2, USAGE),
-        ("--prefix ../a", "", 2, USAGE),
-        ("--prefix a//", "", 2, USAGE),
-        ("--prefix a --root", "", 2, USAGE),
-        ("--prefix / x", "", 2, USAGE),
-        ("--prefix /a x", "", 2, USAGE),
-        ("--prefix=a b", "", 2, USAGE),
-        ("--roots a", "", 2, USAGE),
-        ("--root --prefix --prefix", "", 2, USAGE),
-        ("--prefix a --prefix .. b", "", 2, USAGE),
-        ("-x :#y", "/\n", 2, USAGE),
-        ("a*", "a\n", 3, "spec 0: Unsupported"),
-        ("../a", "a\n", 3, "spec 0: LeavesRepository"),
-        ("../a*", "a\n", 3, "spec 0: LeavesRepository"),
-        ("--prefix a ../../b", "b\n", 3, "spec 0: LeavesRepository"),
-        ("/a", "a\n", 3, "spec 0: OutsideRoot"),
-        ("/a*", "a\n", 3, "spec 0: OutsideRoot"),
-        ("--root /rr a /r/a", "a\n", 3, "spec 1: OutsideRoot"),
-        (":(glob)a :(glob)x*", "a\n", 3, "spec 1: Unsupported"),
-        ("a :(foo)x", "a\n", 3, "spec 1: InvalidKeyword"),
-        (":(glob,literal)x", "a\n", 3, "spec 0: LiteralWithGlob"),
-        (":(attr:a)x", "a\n", 3, "spec 0: Unsupported"),
-        ("a :(attr:)x", "a\n", 3, "spec 1: EmptyAttributes"),
-        (":(attr:a,attr:b)x", "a\n", 3, "spec 0: SecondAttributes"),
-        (":(attr:-1)../x", "a\n", 3, "spec 0: LeavesRepository"),
-        (":(attr:--1)x", "a\n", 3, "spec 0: InvalidName"),
-        (":(attr:a=.)x", "a\n", 3, "spec 0: InvalidValueByte"),
-        (":(attr:a=x\\)y", "a\n", 3, "spec 0: TrailingEscape"),
-        (":(top", "a\n", 3, "spec 0: MissingParen"),
-        (":#(x", "a\n", 3, "spec 0: UnimplementedShort"),
-        ("a :#x", "", 3, "spec 1: UnimplementedShort"),
-        ("../x :#y", "", 3, "spec 1: UnimplementedShort"),
-        ("[a /b", "", 3, "spec 0: Unsupported"),
-        ("a :#x", "/a\n", 3, "spec 1: UnimplementedShort"),
-        ("", "a\n\nb\n", 4, "line 2"),
-        ("", "\n", 4, "line 1"),
-        ("", "/a\n", 4, "line 1"),
-        ("", "a\nb\na//b\n/\n", 4, "line 3"),
-        ("", "a//\n", 4, "line 1"),
-        ("a", "b\n\n", 4, "line 2"),
+fn chosen_records_are_written(rt: HostRuntime) -> Result<(), Fail> {
+    const ROWS: &[Written] = &[
+        Written("a/b", "a/\na/b\nc/\nc/d\n", "a/b\n"),
+        Written(".", "a/\na/b\nc/\nc/d\n", "a/\na/b\nc/\nc/d\n"),
+        Written("a :!a/x", "a/x\na/y\nab\n", "a/y\n"),
+        Written(":!a/x a", "a/x\na/y\nab\n", "a/y\n"),
+        Written(":!a", "a\nb\n", "b\n"),
+        Written(":/b ./c", "b\na/b\nc\n", "b\nc\n"),
+        Written("", "", ""),
+        Written("", "b\na/\na", "b\na/\na\n"),
+        Written("a", "a", "a\n"),
+        Written("b a", "a\nb\na\nc\n", "a\nb\na\n"),
+        Written(": :^b", "a\nb\n", "a\n"),
+        Written("-- -x", "-x\nx\n", "-x\n"),
+        Written("a -- -z", "--\n-z\na\nb\n", "--\n-z\na\n"),
+        Written("a*", "a\nb\n", "a\n"),
+        Written("a/ a*/", "a/b\nabc/x\nab/\n", "a/b\nab/\n"),
+        Written("*.c", "s/t/x.c\ns/t/y.h\nz.c\n", "s/t/x.c\nz.c\n"),
+        Written(":(glob)*.c", "s/x.c\nz.c\n", "z.c\n"),
+        Written(":(glob)**/x :!*/b/*", "x\na/x\na/b/x\n", "x\na/x\n"),
+        Written(":(literal)a*", "a*\nab\n", "a*\n"),
+        Written(":(icase)A/B a/.. b", "a/B/c\nab\n", "a/B/c\nab\n"),
+        Written("a", "a/x\nb\na/y\n", "a/x\na/y\n"),
     ];
-    assert_refused(&rt, rt.alloc(), ROWS)
+    assert_each(&rt, rt.alloc(), ROWS)
 }
 
 #[test]
-fn an_empty_word_is_an_empty_spec(rt: HostRuntime) -> Result<(), Fail> {
-    let mut words = words_of(rt.alloc(), "a")?;
-    words.push(String::new(rt.alloc()))?;
-    let mut reader = b"a\n".as_slice();
-    let end = ended_over(rt.alloc(), words.as_slice(), &mut reader)?;
-    assert_eq!(rt; end.line.as_str(), "spec 1: Empty", "line");
-    assert_eq!(rt; end.status, 3, "status");
-    assert!(rt; end.written.is_empty(), "written");
-    Ok(())
+fn specs_are_read_in_a_prefix_and_a_root(rt: HostRuntime) -> Result<(), Fail> {
+    const ROWS: &[Written] = &[
+        Written("--prefix a", "a/b\nb\n", "a/b\n"),
+        Written("--prefix a :/b c", "b\na/b\na/c\n", "b\na/c\n"),
+        Written("--prefix a :(icase)B", "a/b\nA/b\n", "a/b\n"),
+        Written("--prefix a ../b", "a/x\nb\n", "b\n"),
+        Written("--prefix a/ ../b", "a/x\nb\n", "b\n"),
+        Written("--prefix a :!x", "a/x\na/y\nb\n", "a/y\nb\n"),
+        Written("--prefix a*", "a*/b\nab/b\n", "a*/b\n"),
+        Written("--root /r /r/a", "a/x\nb\n", "a/x\n"),
+        Written("--root /r --prefix b /r/a", "a/x\nb/a\n", "a/x\n"),
+    ];
+    assert_each(&rt, rt.alloc(), ROWS)
 }
 
-/// Asserts each row: a refusal, its status and its line.
-fn assert_lines(
-    rt: &impl Abort,
-    alloc: Global,
-    rows: &[(Refusal, u8, &str)],
-) -> Result<(), AllocError> {
-    for (refusal, status, line) in rows {
-        let printed = refusal.to_string(alloc)?;
-        assert_eq!(rt; printed.as_str(), *line, "line of {line}");
-        assert_eq!(rt; refusal.status(), *status, "status of {line}");
+#[test]
+fn records_end_by_nul_where_it_is_asked_for(rt: HostRuntime) -> Result<(), Fail> {
+    const ROWS: &[Written] = &[
+        Written("-z x", "x\0y\0x/z", "x\0x/z\0"),
+        Written("-z :!y", "x\n\0y\0", "x\n\0"),
+        Written("-z", "", ""),
+    ];
+    assert_each(&rt, rt.alloc(), ROWS)
+}
+
+#[test]
+fn attributes_are_those_of_the_options(rt: HostRuntime) -> Result<(), Fail> {
+    const ROWS: &[Written] = &[
+        Written("--attr x gen :(exclude,attr:gen).", "x\ny\n", "y\n"),
+        Written("--attr x gen --attr x -gen :(attr:-gen)x", "x\n", "x\n"),
+        Written("--attr x gen --attr x -gen :(attr:gen)x", "x\n", ""),
+        Written("--attr a/b k=v :(attr:k=v)a", "a/b\na/c\n", "a/b\n"),
+        Written("--attr a d :(attr:d).", "a/\na/b\nb\n", "a/\n"),
+        Written(":(attr:!gen)*", "x\na/y\n", "x\na/y\n"),
+    ];
+    assert_each(&rt, rt.alloc(), ROWS)
+}
+
+/// Variables, words, a listing, and what is written for them.
+#[derive(Clone, Copy)]
+struct Under(Variables, &'static str, &'static str, &'static str);
+
+impl Row for Under {
+    fn holds(&self, alloc: Global) -> Result<bool, Fail> {
+        writes(alloc, self.1, self.0, self.2.as_bytes(), self.3.as_bytes())
     }
-    Ok(())
 }
 
 #[test]
-fn refusals_have_a_line_each(rt: HostRuntime) -> Result<(), AllocError> {
+#[rattlefmt::skip]
+fn the_environment_is_read(rt: HostRuntime) -> Result<(), Fail> {
+    const ROWS: &[Under] = &[
+        Under(&[("literal", "yes")], "a*", "a*\nab\n", "a*\n"),
+        Under(&[("literal", "1"), ("glob", "1"), ("noglob", "1")], "a*", "a*\nab\n", "a*\n"),
+        Under(&[("icase", "1")], "--prefix a B", "a/b\nA/b\n", "a/b\n"),
+        Under(&[("glob", "on")], "*.c", "d/x.c\nx.c\n", "x.c\n"),
+        Under(&[("noglob", "2k")], "a* :(glob)b*", "a*\nab\nbc\n", "a*\nbc\n"),
+        Under(&[("noglob", "false"), ("glob", "")], "*.c", "d/x.c\nx.c\n", "d/x.c\nx.c\n"),
+    ];
+    assert_each(&rt, rt.alloc(), ROWS)
+}
+
+/// Whether a run over a listing is refused with this status and this line, and writes nothing.
+fn is_refused(
+    alloc: Global,
+    words: &[String],
+    listing: &str,
+    status: u8,
+    line: &str,
+) -> Result<bool, AllocError> {
+    let mut written = Vec::new(alloc);
+    match run_words(alloc, words, UNSET, listing.as_bytes(), &mut written)? {
+        Ok(()) => Ok(false),
+        Err(refusal) => Ok(written.is_empty() && is_told(alloc, &refusal, status, line)?),
+    }
+}
+
+/// Words, a listing, and the status and the line of their refusal, before which nothing is written.
+#[derive(Clone, Copy)]
+struct Refused(&'static str, &'static str, u8, &'static str);
+
+impl Row for Refused {
+    fn holds(&self, alloc: Global) -> Result<bool, Fail> {
+        let words = words_of(alloc, self.0)?;
+        Ok(is_refused(alloc, words.as_slice(), self.1, self.2, self.3)?)
+    }
+}
+
+#[test]
+fn the_first_fault_is_refused_and_nothing_is_written(rt: HostRuntime) -> Result<(), Fail> {
+    const ROWS: &[Refused] = &[
+        Refused("-x :#y", "/\n", 2, USAGE),
+        Refused("--attr x a=. x", "x\n", 2, USAGE),
+        Refused("a :#x", "/a\n", 3, "spec 1: UnimplementedShort"),
+        Refused("../x :#y", "", 3, "spec 1: UnimplementedShort"),
+        Refused("../a*", "a\n", 3, "spec 0: LeavesRepository"),
+        Refused("a /b", "", 3, "spec 1: OutsideRoot"),
+        Refused("", "a\n\nb\n", 4, "line 2"),
+        Refused("", "\n", 4, "line 1"),
+        Refused("", "/a\n", 4, "line 1"),
+        Refused("", "a\nb\na//b\n/\n", 4, "line 3"),
+        Refused("b", "b\na//\n", 4, "line 2"),
+        Refused("-z", "a\0\0", 4, "line 2"),
+    ];
+    assert_each(&rt, rt.alloc(), ROWS)
+}
+
+/// The words of a line, and a last one.
+fn words_and(alloc: Global, line: &str, last: &str) -> Result<Vec<String>, AllocError> {
+    let mut words = words_of(alloc, line)?;
+    words.push(String::from_str(alloc, last)?)?;
+    Ok(words)
+}
+
+#[test]
+fn a_word_may_hold_a_space(rt: HostRuntime) -> Result<(), Fail> {
+    let words = words_and(rt.alloc(), "-z", "y z")?;
+    let mut written = Vec::new(rt.alloc());
+    run_words(rt.alloc(), words.as_slice(), UNSET, b"x\0y z", &mut written)??;
+    assert!(rt; written.as_slice() == b"y z\0".as_slice());
+    Ok(())
+}
+
+/// Words before an empty one, and the status and the line of their refusal.
+#[derive(Clone, Copy)]
+struct BeforeEmpty(&'static str, u8, &'static str);
+
+impl Row for BeforeEmpty {
+    fn holds(&self, alloc: Global) -> Result<bool, Fail> {
+        let words = words_and(alloc, self.0, "")?;
+        Ok(is_refused(alloc, words.as_slice(), "a\n", self.1, self.2)?)
+    }
+}
+
+#[test]
+fn an_empty_word_is_an_empty_spec_or_list(rt: HostRuntime) -> Result<(), Fail> {
+    const ROWS: &[BeforeEmpty] = &[
+        BeforeEmpty("a", 3, "spec 1: Empty"),
+        BeforeEmpty("--attr x", 2, USAGE),
+    ];
+    assert_each(&rt, rt.alloc(), ROWS)
+}
+
+/// A refusal, its status and its line.
+#[derive(Drop)]
+struct Told(Refusal, u8, &'static str);
+
+impl Row for Told {
+    fn holds(&self, alloc: Global) -> Result<bool, Fail> {
+        Ok(is_told(alloc, &self.0, self.1, self.2)?)
+    }
+}
+
+#[test]
+fn refusals_have_a_line_each(rt: HostRuntime) -> Result<(), Fail> {
     let rows = [
-        (Refusal::Read, 5, "read"),
-        (
-            Refusal::Line(18446744073709551615),
-            4,
-            "line 18446744073709551615",
-        ),
-        (Refusal::Write, 5, "write"),
-        (Refusal::Memory, 6, "memory"),
+        Told(Refusal::Read, 5, "read"),
+        Told(Refusal::Line(usize::MAX), 4, "line 18446744073709551615"),
+        Told(Refusal::Write, 5, "write"),
+        Told(Refusal::Memory, 6, "memory"),
     ];
-    assert_lines(&rt, rt.alloc(), &rows)
+    assert_each(&rt, rt.alloc(), &rows)
+}
+
+/// Words, and a listing that is written as it is: a text so many times, and an end.
+#[derive(Clone, Copy)]
+struct Large(&'static str, &'static str, usize, &'static str);
+
+impl Row for Large {
+    fn holds(&self, alloc: Global) -> Result<bool, Fail> {
+        let mut listing = self.1.repeat(alloc, self.2)?;
+        listing.push_str(self.3)?;
+        writes(alloc, self.0, UNSET, listing.as_bytes(), listing.as_bytes())
+    }
+}
+
+#[test]
+fn listings_may_be_large(rt: HostRuntime) -> Result<(), Fail> {
+    const ROWS: &[Large] = &[
+        Large(":!b", "a", 1_000_000, "\n"),
+        Large(".", "a/", 9_999, "a\n"),
+        Large(".", "d/", 100_000, "\n"),
+        Large("d :!d/y", "d/x\n", 100_000, ""),
+        Large("a *.c", "a/x\nb/y.c\n", 5_000, ""),
+    ];
+    assert_each(&rt, rt.alloc(), ROWS)
 }
 
 #[test]
 fn records_hold_any_bytes(rt: HostRuntime) -> Result<(), Fail> {
-    let mut listing = Vec::new(rt.alloc());
-    for byte in 0..=255u8 {
-        if byte != b'\n' {
-            listing.push(byte)?;
-        }
-    }
-    listing.push(b'\n')?;
-    let end = ended(rt.alloc(), ":!a", listing.as_slice())?;
-    assert_eq!(rt; end.status, 0, "status");
-    assert_eq!(rt; end.written.as_slice(), listing.as_slice(), "written");
-    Ok(())
-}
-
-#[test]
-fn one_record_may_be_long(rt: HostRuntime) -> Result<(), Fail> {
-    let mut listing = vec![in rt.alloc(); b'a'; 1000000]?;
-    let whole = ended(rt.alloc(), ":!b", listing.as_slice())?;
-    listing.push(b'\n')?;
-    assert_eq!(rt; whole.status, 0, "status");
-    assert_eq!(rt; whole.written.as_slice(), listing.as_slice(), "written");
+    const LISTING: &[u8] = b"\0\x01\xff\r\t \"\\*\n\xc3/\xa4\n";
+    assert!(rt; writes(rt.alloc(), ":!a", UNSET, LISTING, LISTING)?);
     Ok(())
 }
 
@@ -288,37 +301,32 @@ impl<'a> Read for Faltering<'a> {
     }
 }
 
-/// What a run left whose listing ends in this way.
-fn faltered(alloc: Global, given: &str, fault: ErrorKind) -> Result<Ending, AllocError> {
-    let words = words_of(alloc, "a")?;
-    let mut reader = Faltering {
-        bytes: given.as_bytes(),
-        fault,
-    };
-    ended_over(alloc, words.as_slice(), &mut reader)
-}
+/// The bytes that a reader gives before it fails, and how it fails.
+#[derive(Clone, Copy)]
+struct Unread(&'static [u8], ErrorKind);
 
-/// Asserts that a read that fails in this way is refused after each text.
-fn assert_reads_refused(
-    rt: &impl Abort,
-    alloc: Global,
-    fault: ErrorKind,
-    texts: &[&str],
-) -> Result<(), AllocError> {
-    for given in texts {
-        let end = faltered(alloc, given, fault)?;
-        assert_eq!(rt; end.line.as_str(), "read", "line after {given}");
-        assert_eq!(rt; end.status, 5, "status after {given}");
-        assert!(rt; end.written.is_empty(), "written after {given}");
+impl Row for Unread {
+    fn holds(&self, alloc: Global) -> Result<bool, Fail> {
+        let environment = environment_of(alloc, UNSET)?;
+        let mut reader = Faltering {
+            bytes: self.0,
+            fault: self.1,
+        };
+        let mut written = Vec::new(alloc);
+        let outcome = run(alloc, &[], &environment, &mut reader, &mut written);
+        Ok(outcome == Err(Refusal::Read) && written.is_empty())
     }
-    Ok(())
 }
 
 #[test]
-fn a_failed_read_is_refused(rt: HostRuntime) -> Result<(), AllocError> {
-    const TEXTS: &[&str] = &["", "a", "a\n", "/"];
-    assert_reads_refused(&rt, rt.alloc(), ErrorKind::BrokenPipe, TEXTS)?;
-    assert_reads_refused(&rt, rt.alloc(), ErrorKind::Interrupted, TEXTS)
+fn a_failed_read_is_refused(rt: HostRuntime) -> Result<(), Fail> {
+    const ROWS: &[Unread] = &[
+        Unread(b"", ErrorKind::BrokenPipe),
+        Unread(b"a", ErrorKind::BrokenPipe),
+        Unread(b"a\n", ErrorKind::Interrupted),
+        Unread(b"/", ErrorKind::Interrupted),
+    ];
+    assert_each(&rt, rt.alloc(), ROWS)
 }
 
 /// Takes one byte a call, `left` times, and then answers in its way.
@@ -348,71 +356,97 @@ impl Write for Reluctant {
     }
 }
 
-/// What a run left whose writer takes so many calls, and then answers in its way.
-fn taken(alloc: Global, left: usize, fault: Option<ErrorKind>) -> Result<Ending, AllocError> {
-    let mut reader = b"a\nb\n".as_slice();
-    let mut writer = Reluctant {
-        taken: Vec::new(alloc),
-        left,
-        fault,
-    };
-    let outcome = run(alloc, &[], &no_environment(), &mut reader, &mut writer);
-    Ok(Ending {
-        status: status_of(&outcome),
-        line: line_of(alloc, &outcome)?,
-        written: writer.taken,
-    })
-}
+/// How many calls a writer takes, how it answers then, whether all is written, and what was taken.
+#[derive(Clone, Copy)]
+struct Taken(usize, Option<ErrorKind>, bool, &'static [u8]);
 
-/// Asserts each row: how many calls a writer takes, how it answers then, the line of the run, and what was taken.
-fn assert_taken(
-    rt: &impl Abort,
-    alloc: Global,
-    rows: &[(usize, Option<ErrorKind>, &str, &str)],
-) -> Result<(), AllocError> {
-    for (left, fault, line, want) in rows {
-        let end = taken(alloc, *left, *fault)?;
-        let status = if line.is_empty() { 0 } else { 5 };
-        assert_eq!(rt; end.line.as_str(), *line, "line after {left} calls");
-        assert_eq!(rt; end.status, status, "status after {left} calls");
-        assert_eq!(rt;
-            end.written.as_slice(),
-            want.as_bytes(),
-            "taken in {left} calls"
-        );
+impl Row for Taken {
+    fn holds(&self, alloc: Global) -> Result<bool, Fail> {
+        let environment = environment_of(alloc, UNSET)?;
+        let mut reader = b"a\nb\n".as_slice();
+        let mut writer = Reluctant {
+            taken: Vec::new(alloc),
+            left: self.0,
+            fault: self.1,
+        };
+        let outcome = run(alloc, &[], &environment, &mut reader, &mut writer);
+        let want = if self.2 { Ok(()) } else { Err(Refusal::Write) };
+        Ok(outcome == want && writer.taken.as_slice() == self.3)
     }
-    Ok(())
 }
 
 #[test]
-fn a_writer_may_take_one_byte_a_call(rt: HostRuntime) -> Result<(), AllocError> {
-    const ROWS: &[(usize, Option<ErrorKind>, &str, &str)] = &[
-        (4, Some(ErrorKind::BrokenPipe), "", "a\nb\n"),
-        (2, Some(ErrorKind::BrokenPipe), "write", "a\n"),
-        (2, Some(ErrorKind::Interrupted), "write", "a\n"),
-        (3, None, "write", "a\nb"),
-        (0, None, "write", ""),
+fn a_writer_may_take_one_byte_a_call(rt: HostRuntime) -> Result<(), Fail> {
+    const ROWS: &[Taken] = &[
+        Taken(4, Some(ErrorKind::BrokenPipe), true, b"a\nb\n"),
+        Taken(2, Some(ErrorKind::BrokenPipe), false, b"a\n"),
+        Taken(2, Some(ErrorKind::Interrupted), false, b"a\n"),
+        Taken(3, None, false, b"a\nb"),
+        Taken(0, None, false, b""),
     ];
-    assert_taken(&rt, rt.alloc(), ROWS)
+    assert_each(&rt, rt.alloc(), ROWS)
+}
+
+/// Does the job of the words of a line with a look-up, and gives what it writes.
+fn written_with<L: LookUp<Fault = AllocError>>(
+    alloc: Global,
+    job: &mut Job,
+    listing: &[u8],
+    look_up: &mut L,
+) -> Result<Vec<u8>, Refusal> {
+    let mut reader = listing;
+    let mut written = Vec::new(alloc);
+    run_with(alloc, job, &mut reader, &mut written, look_up)?;
+    Ok(written)
+}
+
+#[test]
+fn what_cannot_be_chosen_is_not_asked_about(rt: HostRuntime) -> Result<(), Fail> {
+    let (mut job, _) = job_of(rt.alloc(), "a/b b/c :(exclude,attr:g).", UNSET)??;
+    let mut recorder = Recorder::new(rt.alloc());
+    let written = written_with(rt.alloc(), &mut job, b"a/b\nc/d\n", &mut recorder)?;
+    assert!(rt; written.as_slice() == b"a/b\n".as_slice());
+    assert!(rt; recorder.asked.as_slice() == b"a\na/b\nc\n".as_slice());
+    Ok(())
+}
+
+/// After how many answers a look-up fails, of the three that a run asks for.
+#[derive(Clone, Copy)]
+struct FailsAfter(u64);
+
+impl Row for FailsAfter {
+    fn holds(&self, alloc: Global) -> Result<bool, Fail> {
+        let (mut job, _) = job_of(alloc, ":(attr:gen).", UNSET)??;
+        let mut marks = Marks::failing_after(self.0);
+        let is_refused = match written_with(alloc, &mut job, b"x\na/b\n", &mut marks) {
+            Ok(_) => false,
+            Err(refusal) => refusal == Refusal::Memory,
+        };
+        let written = written_with(alloc, &mut job, b"x\na/b\n", &mut marks)?;
+        Ok(is_refused && marks.failed == 1 && written.as_slice() == b"x\n".as_slice())
+    }
+}
+
+#[test]
+fn a_failed_look_up_is_refused_and_leaves_the_job(rt: HostRuntime) -> Result<(), Fail> {
+    const ROWS: &[FailsAfter] = &[FailsAfter(0), FailsAfter(1), FailsAfter(2)];
+    assert_each(&rt, rt.alloc(), ROWS)
+}
+
+/// Whether a run ends well, or for want of memory and without a byte written.
+fn runs(alloc: Global, line: &str, listing: &[u8]) -> Result<bool, AllocError> {
+    let mut written = Vec::new(alloc);
+    match run_line(alloc, line, UNSET, listing, &mut written)? {
+        Ok(()) => Ok(true),
+        Err(refusal) => Ok(refusal == Refusal::Memory && written.is_empty()),
+    }
 }
 
 #[test]
 fn a_refused_growth_tells_that_memory_ran_out(rt: HostRuntime) -> Result<(), Fail> {
-    let words = words_of(rt.alloc(), "a ./b/ :!a/x")?;
-    let mut reader = b"a/x\na/y\nb/\nb\n".as_slice();
-    let mut written = Vec::with_capacity(rt.alloc(), 64)?;
-    match run(
-        rt.alloc(),
-        words.as_slice(),
-        &no_environment(),
-        &mut reader,
-        &mut written,
-    ) {
-        Ok(()) => assert_eq!(rt; written.as_slice(), b"a/y\nb/\n".as_slice(), "written"),
-        Err(refusal) => {
-            assert_eq!(rt; refusal.status(), 6, "status");
-            assert!(rt; written.is_empty(), "written");
-        }
-    }
+    const LINE: &str = "--attr a/y g --prefix a :/b :!x :(attr:g)*";
+    const LISTING: &[u8] = b"a/x\na/y\nb/\nb\n";
+    assert!(rt; runs(rt.alloc(), LINE, LISTING)?);
+    assert!(rt; writes(rt.alloc(), LINE, UNSET, LISTING, b"a/y\nb/\nb\n")?);
     Ok(())
 }

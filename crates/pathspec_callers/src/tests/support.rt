@@ -2,42 +2,70 @@
 use bstr::BStr;
 use gix_pathspec::{BuildError, Defaults, Error, Pattern, Search};
 use pathspec_parts::path::is_clean_prefix;
+use pathspec_select::{Environment, Job, Refusal, Rows};
 use std::alloc::{AllocError, Global};
-use std::fmt::Debug;
 use std::hash::{DefaultHasher, Hash, Hasher};
 use std::process::Abort;
 use std::test::Fail;
 
+/// A row of a table: a question, and the answer that is wanted.
+pub(super) trait Row {
+    /// Whether the answer is the one that is wanted.
+    fn holds(&self, alloc: Global) -> Result<bool, Fail>;
+}
+
+/// Asserts each row of a table, which are numbered from 0.
+pub(super) fn assert_each<R: Row>(rt: &impl Abort, alloc: Global, rows: &[R]) -> Result<(), Fail> {
+    for (number, row) in rows.iter().enumerate() {
+        assert!(rt; row.holds(alloc)?, "row {number}");
+    }
+    Ok(())
+}
+
+/// Whether numbers are the same.
+pub(super) fn are_same(numbers: &[usize], others: &[usize]) -> bool {
+    numbers == others
+}
+
+/// The pattern of a text.
+pub(super) fn pattern_of(alloc: Global, text: &str) -> Result<Pattern, Error> {
+    Pattern::from_bytes(alloc, text.as_bytes(), Defaults::default())
+}
+
 /// The patterns of these texts.
-pub(super) fn patterns_of(alloc: Global, texts: &[&str]) -> Result<Vec<Pattern>, Error> {
+fn patterns_of(alloc: Global, texts: &[&str]) -> Result<Vec<Pattern>, Error> {
     let mut patterns = Vec::new(alloc);
     for text in texts {
-        patterns.push(Pattern::from_bytes(alloc, text.as_bytes(), Defaults::default())?)?;
+        patterns.push(pattern_of(alloc, text)?)?;
     }
     Ok(patterns)
 }
 
-/// What is built from these texts, given in this directory of a repository at `/r`.
-pub(super) fn build(
-    rt: &impl Abort,
+/// What is built from these patterns, given in this directory of a repository at `/r`.
+pub(super) fn build_from(
     alloc: Global,
-    texts: &[&str],
+    patterns: Vec<Pattern>,
     prefix: &str,
-) -> Result<Result<Search, BuildError>, Error> {
+) -> Result<Result<Search, BuildError>, Fail> {
     let prefix = BStr::new(prefix.as_bytes());
-    assert!(rt; is_clean_prefix(prefix));
-    let patterns = patterns_of(alloc, texts)?;
+    if !is_clean_prefix(prefix) {
+        return Err("the prefix isn't clean".into());
+    }
     Ok(Search::from_specs(alloc, patterns, Some(prefix), BStr::new(b"/r")))
 }
 
-/// The search of these texts, given in this directory of a repository at `/r`.
-pub(super) fn search_of(
-    rt: &impl Abort,
+/// What is built from these texts, given in this directory of a repository at `/r`.
+pub(super) fn build(
     alloc: Global,
     texts: &[&str],
     prefix: &str,
-) -> Result<Search, Fail> {
-    Ok(build(rt, alloc, texts, prefix)??)
+) -> Result<Result<Search, BuildError>, Fail> {
+    build_from(alloc, patterns_of(alloc, texts)?, prefix)
+}
+
+/// The search of these texts, given in this directory of a repository at `/r`.
+pub(super) fn search_of(alloc: Global, texts: &[&str], prefix: &str) -> Result<Search, Fail> {
+    Ok(build(alloc, texts, prefix)??)
 }
 
 /// The bytes that an error carries, if it carries some.
@@ -56,41 +84,51 @@ pub(super) fn carried(error: &Error) -> Option<&[u8]> {
     }
 }
 
-/// Asserts that equality and order go by the places of the values, in two tables with equal values in rising
-/// order.
-pub(super) fn assert_rising<T: Ord + Debug>(rt: &impl Abort, values: &[T], others: &[T]) {
-    for (place, value) in values.iter().enumerate() {
-        assert_place(rt, place, value, others);
+/// Whether an error is of this kind, and carries this byte or none.
+pub(super) fn carries_byte(error: &Error, kind: &str, byte: Option<u8>) -> bool {
+    let found = match error {
+        Error::UnimplementedShort(byte) | Error::InvalidValueByte(byte) => Some(*byte),
+        _ => None,
+    };
+    found == byte && error.kind() == kind
+}
+
+/// Whether an error is of this kind and carries these bytes.
+pub(super) fn carries(error: &Error, kind: &str, bytes: &[u8]) -> bool {
+    match carried(error) {
+        Some(found) => found == bytes && error.kind() == kind,
+        None => false,
     }
 }
 
-/// Asserts that a value is compared with each of a table in rising order as their places are.
-fn assert_place<T: Ord + Debug>(rt: &impl Abort, place: usize, value: &T, others: &[T]) {
+/// Asserts that equality, order and hash go by the places of the values, in two tables with equal values in rising
+/// order.
+pub(super) fn assert_rising<T: Ord + Hash>(rt: &impl Abort, values: &[T], others: &[T]) {
+    for (place, value) in values.iter().enumerate() {
+        assert!(rt; is_placed(place, value, others), "value {place}");
+        assert!(rt; is_hashed(place, value, others), "hash of value {place}");
+    }
+}
+
+/// Whether a value is compared with each of a table in rising order as their places are.
+pub(super) fn is_placed<T: Ord>(place: usize, value: &T, others: &[T]) -> bool {
     for (other_place, other) in others.iter().enumerate() {
         let order = place.cmp(&other_place);
-        assert_eq!(rt; value == other, order.is_eq(), "{value:?} == {other:?}");
-        assert_eq!(rt; value.cmp(other), order, "{value:?} cmp {other:?}");
-        assert_eq!(rt; value < other, order.is_lt(), "{value:?} < {other:?}");
+        if value.cmp(other) != order || (value == other) != order.is_eq() {
+            return false;
+        }
     }
+    true
 }
 
-/// Asserts that values have one hash just where they have one place, in two tables with equal values.
-pub(super) fn assert_hashes<T: Hash + Debug>(rt: &impl Abort, values: &[T], others: &[T]) {
-    for (place, value) in values.iter().enumerate() {
-        assert_hash(rt, place, value, others);
-    }
-}
-
-/// Asserts that just the value of a table that has this place has the value's hash.
-fn assert_hash<T: Hash + Debug>(rt: &impl Abort, place: usize, value: &T, others: &[T]) {
+/// Whether just the value of a table that has this place has the value's hash.
+fn is_hashed<T: Hash>(place: usize, value: &T, others: &[T]) -> bool {
     for (other_place, other) in others.iter().enumerate() {
-        let is_same = hash_of(value) == hash_of(other);
-        assert_eq!(rt;
-            is_same,
-            place == other_place,
-            "hash of {value:?} and {other:?}"
-        );
+        if (hash_of(value) == hash_of(other)) != (place == other_place) {
+            return false;
+        }
     }
+    true
 }
 
 fn hash_of<T: Hash>(value: &T) -> u64 {
@@ -103,6 +141,17 @@ fn hash_of<T: Hash>(value: &T) -> u64 {
 pub(super) const USAGE: &str =
     "usage: pathspec-select [-z] [--prefix P] [--root R] [--attr PATH LIST]... [--] [SPEC...]";
 
+/// Whether a refusal has this status and this line.
+pub(super) fn is_told(
+    alloc: Global,
+    refusal: &Refusal,
+    status: u8,
+    line: &str,
+) -> Result<bool, AllocError> {
+    let printed = refusal.to_string(alloc)?;
+    Ok(refusal.status() == status && printed.as_str() == line)
+}
+
 /// The words of a line, between spaces.
 pub(super) fn words_of(alloc: Global, line: &str) -> Result<Vec<String>, AllocError> {
     let mut words = Vec::new(alloc);
@@ -112,4 +161,56 @@ pub(super) fn words_of(alloc: Global, line: &str) -> Result<Vec<String>, AllocEr
         }
     }
     Ok(words)
+}
+
+/// Variables by their names, with their texts.
+pub(super) type Variables = &'static [(&'static str, &'static str)];
+
+/// No variables.
+pub(super) const UNSET: Variables = &[];
+
+/// The text of the variable with this name, if it is set.
+pub(super) fn text_of<'e>(variables: &'e [(&'e str, &'e str)], name: &str) -> Option<&'e str> {
+    for (other, text) in variables {
+        if *other == name {
+            return Some(*text);
+        }
+    }
+    None
+}
+
+/// A text of its own for the variable with this name, if it is set.
+fn owned_text_of(
+    alloc: Global,
+    variables: Variables,
+    name: &str,
+) -> Result<Option<String>, AllocError> {
+    match text_of(variables, name) {
+        Some(text) => Ok(Some(String::from_str(alloc, text)?)),
+        None => Ok(None),
+    }
+}
+
+/// The environment in which these variables are set, which have the names of its fields.
+pub(super) fn environment_of(
+    alloc: Global,
+    variables: Variables,
+) -> Result<Environment, AllocError> {
+    Ok(Environment {
+        literal: owned_text_of(alloc, variables, "literal")?,
+        icase: owned_text_of(alloc, variables, "icase")?,
+        glob: owned_text_of(alloc, variables, "glob")?,
+        noglob: owned_text_of(alloc, variables, "noglob")?,
+    })
+}
+
+/// What the words of a line ask for, with these variables.
+pub(super) fn job_of(
+    alloc: Global,
+    line: &str,
+    variables: Variables,
+) -> Result<Result<(Job, Rows), Refusal>, AllocError> {
+    let words = words_of(alloc, line)?;
+    let environment = environment_of(alloc, variables)?;
+    Ok(Job::from_words(alloc, words.as_slice(), &environment))
 }

@@ -1,7 +1,7 @@
 //! Trees, and walks over them by a cursor.
+use crate::tests::support::{Row, are_same, assert_each};
 use pathspec_parts::tree::{Cursor, Tree, TreeError};
 use std::alloc::Global;
-use std::process::Abort;
 use std::test::Fail;
 
 /// A call that a tree is made by.
@@ -12,13 +12,63 @@ enum Call {
     Close,
 }
 
-/// The calls of a tree, the directories that a walk enters, and the entries that it comes to: their numbers and
-/// paths, and whether they are directories.
+/// Makes a call.
+fn make(tree: &mut Tree, call: Call) -> Result<(), TreeError> {
+    match call {
+        Call::Open(name) => tree.open(name.as_bytes()),
+        Call::File(name) => tree.file(name.as_bytes()),
+        Call::Close => tree.close(),
+    }
+}
+
+/// The tree that the calls make.
+fn tree_of(alloc: Global, calls: &[Call]) -> Result<Tree, TreeError> {
+    let mut tree = Tree::new(alloc);
+    for call in calls {
+        make(&mut tree, *call)?;
+    }
+    Ok(tree)
+}
+
+/// An entry that a walk comes to: its number, its path, whether it is a directory, and whether the walk enters it.
+type Visit = (usize, &'static str, bool, bool);
+
+/// Whether a cursor comes to this entry, and enters it where it is a directory.
+fn is_next(cursor: &mut Cursor<'_>, visit: &Visit) -> bool {
+    let (number, path, is_dir, enters) = *visit;
+    if cursor.next() != Some(number) || cursor.is_new() {
+        return false;
+    }
+    if enters && cursor.enter() != is_dir {
+        return false;
+    }
+    cursor.path().as_bytes() == path.as_bytes() && cursor.is_dir() == is_dir
+}
+
+/// Whether a cursor stands at no entry.
+fn is_nowhere(cursor: &mut Cursor<'_>) -> bool {
+    !cursor.enter() && !cursor.is_dir() && cursor.path().as_bytes().is_empty()
+}
+
+/// The calls of a tree, the entries that a walk comes to, and the directories that it entered.
 #[derive(Clone, Copy)]
-struct Walk {
-    calls: &'static [Call],
-    entered: &'static [usize],
-    entries: &'static [(usize, &'static str, bool)],
+struct Walk(&'static [Call], &'static [Visit], &'static [usize]);
+
+impl Row for Walk {
+    fn holds(&self, alloc: Global) -> Result<bool, Fail> {
+        let tree = tree_of(alloc, self.0)?;
+        let mut cursor = Cursor::new(alloc, &tree)?;
+        if !cursor.is_new() || !is_nowhere(&mut cursor) {
+            return Ok(false);
+        }
+        for visit in self.1 {
+            if !is_next(&mut cursor, visit) {
+                return Ok(false);
+            }
+        }
+        let is_end = cursor.next().is_none() && is_nowhere(&mut cursor);
+        Ok(is_end && cursor.next().is_none() && are_same(cursor.entered(), self.2))
+    }
 }
 
 /// `a/`, `a/b/`, `a/b/c`, `a/b`, `d`, `a/`, `a/e`, of which the last directory is never closed.
@@ -34,191 +84,101 @@ const CALLS: &[Call] = &[
     Call::File("e"),
 ];
 
-const WALKS: &[Walk] = &[
-    Walk {
-        calls: &[],
-        entered: &[],
-        entries: &[],
-    },
-    Walk {
-        calls: CALLS,
-        entered: &[],
-        entries: &[(0, "a", true), (4, "d", false), (5, "a", true)],
-    },
-    Walk {
-        calls: CALLS,
-        entered: &[0],
-        entries: &[
-            (0, "a", true),
-            (1, "a/b", true),
-            (3, "a/b", false),
-            (4, "d", false),
-            (5, "a", true),
-        ],
-    },
-    Walk {
-        calls: CALLS,
-        entered: &[5],
-        entries: &[
-            (0, "a", true),
-            (4, "d", false),
-            (5, "a", true),
-            (6, "a/e", false),
-        ],
-    },
-    Walk {
-        calls: CALLS,
-        entered: &[0, 1, 5],
-        entries: &[
-            (0, "a", true),
-            (1, "a/b", true),
-            (2, "a/b/c", false),
-            (3, "a/b", false),
-            (4, "d", false),
-            (5, "a", true),
-            (6, "a/e", false),
-        ],
-    },
-    Walk {
-        calls: &[
-            Call::Open("a"),
-            Call::Close,
-            Call::Open("x/y"),
-            Call::File("\n"),
-            Call::Close,
-            Call::Open("long name"),
-            Call::Open("l"),
-            Call::Close,
-            Call::Close,
-            Call::File("z"),
-        ],
-        entered: &[0, 1, 3],
-        entries: &[
-            (0, "a", true),
-            (1, "x/y", true),
-            (2, "x/y/\n", false),
-            (3, "long name", true),
-            (4, "long name/l", true),
-            (5, "z", false),
-        ],
-    },
+/// `x/y/`, `x/y/` and a line feed, `long name/`, `long name/l/`, `z`.
+const ODD_CALLS: &[Call] = &[
+    Call::Open("x/y"),
+    Call::File("\n"),
+    Call::Close,
+    Call::Open("long name"),
+    Call::Open("l"),
+    Call::Close,
+    Call::Close,
+    Call::File("z"),
 ];
 
-/// The tree that the calls make.
-fn tree_of(alloc: Global, calls: &[Call]) -> Result<Tree, TreeError> {
-    let mut tree = Tree::new(alloc);
-    for call in calls {
-        match call {
-            Call::Open(name) => tree.open(name.as_bytes())?,
-            Call::File(name) => tree.file(name.as_bytes())?,
-            Call::Close => tree.close()?,
-        }
-    }
-    Ok(tree)
-}
-
-/// Asserts that a cursor stands at this entry.
-fn assert_at(rt: &impl Abort, cursor: &Cursor<'_>, path: &str, is_dir: bool) {
-    assert_eq!(rt; cursor.path().as_bytes(), path.as_bytes());
-    assert_eq!(rt; cursor.is_dir(), is_dir, "{path}");
-}
-
-/// Asserts that these directories were entered.
-fn assert_trail(rt: &impl Abort, cursor: &Cursor<'_>, entered: &[usize]) {
-    assert_eq!(rt; cursor.entered(), entered);
-}
-
-/// Asserts that a walk comes to its entries and leaves its trail.
-fn assert_walk(rt: &impl Abort, alloc: Global, walk: &Walk) -> Result<(), Fail> {
-    let tree = tree_of(alloc, walk.calls)?;
-    let mut cursor = Cursor::new(alloc, &tree)?;
-    assert!(rt; cursor.is_new());
-    assert_at(rt, &cursor, "", false);
-    assert!(rt; !cursor.enter());
-    for (number, path, is_dir) in walk.entries {
-        assert_eq!(rt; cursor.next(), Some(*number), "{path}");
-        assert!(rt; !cursor.is_new(), "{path}");
-        assert_at(rt, &cursor, path, *is_dir);
-        if walk.entered.contains(number) {
-            assert!(rt; cursor.enter(), "{path}");
-            assert!(rt; cursor.enter(), "{path}");
-            assert_at(rt, &cursor, path, *is_dir);
-        }
-    }
-    for _ in 0..2 {
-        assert_eq!(rt; cursor.next(), None);
-        assert_at(rt, &cursor, "", false);
-        assert!(rt; !cursor.enter());
-    }
-    assert_trail(rt, &cursor, walk.entered);
-    Ok(())
-}
-
 #[test]
+#[rattlefmt::skip]
 fn a_walk_comes_to_what_lies_in_directories_that_it_entered(rt: HostRuntime) -> Result<(), Fail> {
-    for walk in WALKS {
-        assert_walk(&rt, rt.alloc(), walk)?;
+    const ROWS: &[Walk] = &[
+        Walk(&[], &[], &[]),
+        Walk(CALLS, &[(0, "a", true, false), (4, "d", false, true), (5, "a", true, false)], &[]),
+        Walk(CALLS, &[(0, "a", true, true), (1, "a/b", true, false), (3, "a/b", false, false), (4, "d", false, false),
+            (5, "a", true, false)], &[0]),
+        Walk(CALLS, &[(0, "a", true, false), (4, "d", false, false), (5, "a", true, true), (6, "a/e", false, false)], &[5]),
+        Walk(CALLS, &[(0, "a", true, true), (1, "a/b", true, true), (2, "a/b/c", false, true), (3, "a/b", false, true),
+            (4, "d", false, true), (5, "a", true, true), (6, "a/e", false, true)], &[0, 1, 5]),
+        Walk(ODD_CALLS, &[(0, "x/y", true, true), (1, "x/y/\n", false, true), (2, "long name", true, true),
+            (3, "long name/l", true, false), (4, "z", false, true)], &[0, 2]),
+    ];
+    assert_each(&rt, rt.alloc(), ROWS)
+}
+
+/// Calls that make a tree, a call that it then refuses, and the error.
+#[derive(Clone, Copy)]
+struct Refused(&'static [Call], Call, TreeError);
+
+impl Row for Refused {
+    fn holds(&self, alloc: Global) -> Result<bool, Fail> {
+        let mut tree = tree_of(alloc, self.0)?;
+        let len = tree.len();
+        let is_refused = make(&mut tree, self.1) == Err(self.2);
+        Ok(is_refused && tree.len() == len && tree.is_empty() == (len == 0))
     }
-    Ok(())
 }
 
 #[test]
-fn a_file_is_not_entered(rt: HostRuntime) -> Result<(), Fail> {
-    let tree = tree_of(rt.alloc(), &[Call::File("a"), Call::File("b")])?;
-    let mut cursor = Cursor::new(rt.alloc(), &tree)?;
-    assert_eq!(rt; cursor.next(), Some(0));
-    assert!(rt; !cursor.enter());
-    assert_eq!(rt; cursor.next(), Some(1));
-    assert_at(&rt, &cursor, "b", false);
-    assert_trail(&rt, &cursor, &[]);
-    Ok(())
-}
-
-#[test]
+#[rattlefmt::skip]
 fn a_refused_call_changes_nothing(rt: HostRuntime) -> Result<(), Fail> {
-    let mut tree = Tree::new(rt.alloc());
-    assert!(rt; tree.is_empty());
-    assert_eq!(rt; tree.close(), Err(TreeError::NotOpen));
-    assert_eq!(rt; tree.open(b""), Err(TreeError::EmptyName));
-    assert_eq!(rt; tree.file(b""), Err(TreeError::EmptyName));
-    assert_eq!(rt; tree.close(), Err(TreeError::NotOpen));
-    tree.open(b"a")?;
-    assert_eq!(rt; tree.file(b""), Err(TreeError::EmptyName));
-    tree.file(b"b")?;
-    tree.close()?;
-    assert_eq!(rt; tree.close(), Err(TreeError::NotOpen));
-    assert_eq!(rt; tree.len(), 2);
-    assert!(rt; !tree.is_empty());
-    Ok(())
+    const ROWS: &[Refused] = &[
+        Refused(&[], Call::Close, TreeError::NotOpen),
+        Refused(&[], Call::Open(""), TreeError::EmptyName),
+        Refused(&[], Call::File(""), TreeError::EmptyName),
+        Refused(&[Call::Open("a")], Call::File(""), TreeError::EmptyName),
+        Refused(&[Call::Open("a"), Call::File("b"), Call::Close], Call::Close, TreeError::NotOpen),
+    ];
+    assert_each(&rt, rt.alloc(), ROWS)
+}
+
+/// An error, and its text.
+#[derive(Clone, Copy)]
+struct Told(TreeError, &'static str);
+
+impl Row for Told {
+    fn holds(&self, alloc: Global) -> Result<bool, Fail> {
+        Ok(self.0.to_string(alloc)?.as_str() == self.1)
+    }
 }
 
 #[test]
 fn errors_have_texts(rt: HostRuntime) -> Result<(), Fail> {
-    const ROWS: &[(TreeError, &str)] = &[
-        (TreeError::EmptyName, "name of an entry is empty"),
-        (TreeError::NotOpen, "no directory is open"),
-        (TreeError::Memory, "out of memory"),
+    const ROWS: &[Told] = &[
+        Told(TreeError::EmptyName, "name of an entry is empty"),
+        Told(TreeError::NotOpen, "no directory is open"),
+        Told(TreeError::Memory, "out of memory"),
     ];
-    for (error, want) in ROWS {
-        let text = format!(in rt.alloc(); "{error}")?;
-        assert_eq!(rt; text.as_str(), *want);
+    assert_each(&rt, rt.alloc(), ROWS)
+}
+
+/// Whether a call that was refused for want of memory left the tree, and goes the second time.
+fn goes_again(tree: &mut Tree, call: Call) -> bool {
+    let len = tree.len();
+    match make(tree, call) {
+        Ok(()) => true,
+        Err(error) => {
+            error == TreeError::Memory && tree.len() == len && make(tree, call).is_ok()
+        }
     }
-    Ok(())
 }
 
 #[test]
-fn a_tree_may_be_deep(rt: HostRuntime) -> Result<(), Fail> {
+fn a_refused_growth_leaves_the_tree(rt: HostRuntime) -> Result<(), Fail> {
     let mut tree = Tree::new(rt.alloc());
-    for _ in 0..10_000 {
-        tree.open(b"d")?;
+    for call in CALLS {
+        assert!(rt; goes_again(&mut tree, *call));
     }
-    let mut cursor = Cursor::new(rt.alloc(), &tree)?;
-    for number in 0..10_000_usize {
-        assert_eq!(rt; cursor.next(), Some(number));
-        assert_eq!(rt; cursor.path().as_bytes().len(), 2 * number + 1);
-        assert!(rt; cursor.enter());
-    }
-    assert_eq!(rt; cursor.next(), None);
-    assert_eq!(rt; cursor.entered().len(), 10_000);
+    let first = Cursor::new(rt.alloc(), &tree).is_ok();
+    let second = Cursor::new(rt.alloc(), &tree).is_ok();
+    assert!(rt; first || second);
+    assert_eq!(rt; tree.len(), 7);
     Ok(())
 }

@@ -1,88 +1,92 @@
 //! Words of truth.
+use crate::tests::support::{Row, assert_each};
 use pathspec_parts::truth::parse_truth;
-use std::process::Abort;
+use std::alloc::Global;
+use std::test::Fail;
 
-/// Asserts each row: a word, and what it says.
-fn assert_truths(rt: &impl Abort, rows: &[(&str, Option<bool>)]) {
-    for (word, want) in rows {
-        assert_eq!(rt; parse_truth(word.as_bytes()), *want, "{word:?}");
+/// A word, and what it says.
+#[derive(Clone, Copy)]
+struct Truth(&'static [u8], Option<bool>);
+
+impl Row for Truth {
+    fn holds(&self, _alloc: Global) -> Result<bool, Fail> {
+        Ok(parse_truth(self.0) == self.1)
     }
 }
 
 #[test]
-fn words_are_read_in_any_case(rt: HostRuntime) {
-    const ROWS: &[(&str, Option<bool>)] = &[
-        ("yes", Some(true)),
-        ("on", Some(true)),
-        ("true", Some(true)),
-        ("ON", Some(true)),
-        ("tRuE", Some(true)),
-        ("no", Some(false)),
-        ("off", Some(false)),
-        ("false", Some(false)),
-        ("oFF", Some(false)),
-        ("", Some(false)),
+fn words_are_read_in_any_case(rt: HostRuntime) -> Result<(), Fail> {
+    const ROWS: &[Truth] = &[
+        Truth(b"yes", Some(true)),
+        Truth(b"on", Some(true)),
+        Truth(b"true", Some(true)),
+        Truth(b"ON", Some(true)),
+        Truth(b"tRuE", Some(true)),
+        Truth(b"no", Some(false)),
+        Truth(b"off", Some(false)),
+        Truth(b"false", Some(false)),
+        Truth(b"oFF", Some(false)),
+        Truth(b"", Some(false)),
     ];
-    assert_truths(&rt, ROWS);
+    assert_each(&rt, rt.alloc(), ROWS)
 }
 
 #[test]
-fn numbers_are_true_but_for_zero(rt: HostRuntime) {
-    const ROWS: &[(&str, Option<bool>)] = &[
-        ("1", Some(true)),
-        ("-1", Some(true)),
-        ("+7", Some(true)),
-        ("2k", Some(true)),
-        ("3M", Some(true)),
-        ("010", Some(true)),
-        ("0", Some(false)),
-        ("00", Some(false)),
-        ("-0", Some(false)),
-        ("0k", Some(false)),
-        ("+0G", Some(false)),
+fn numbers_are_true_but_for_zero(rt: HostRuntime) -> Result<(), Fail> {
+    const ROWS: &[Truth] = &[
+        Truth(b"1", Some(true)),
+        Truth(b"-1", Some(true)),
+        Truth(b"+7", Some(true)),
+        Truth(b"2k", Some(true)),
+        Truth(b"3M", Some(true)),
+        Truth(b"010", Some(true)),
+        Truth(b"0", Some(false)),
+        Truth(b"00", Some(false)),
+        Truth(b"-0", Some(false)),
+        Truth(b"0k", Some(false)),
+        Truth(b"+0G", Some(false)),
     ];
-    assert_truths(&rt, ROWS);
+    assert_each(&rt, rt.alloc(), ROWS)
 }
 
 #[test]
-fn numbers_without_their_unit_fit_64_bits(rt: HostRuntime) {
-    const ROWS: &[(&str, Option<bool>)] = &[
-        ("9223372036854775807", Some(true)),
-        ("9223372036854775807g", Some(true)),
-        ("9223372036854775808", None),
-        ("+9223372036854775808", None),
-        ("-9223372036854775808", Some(true)),
-        ("-9223372036854775809", None),
-        ("18446744073709551616", None),
-        ("100000000000000000000000000000", None),
-        ("000000000000000000000000000001", Some(true)),
+fn numbers_without_their_unit_fit_64_bits(rt: HostRuntime) -> Result<(), Fail> {
+    const ROWS: &[Truth] = &[
+        Truth(b"9223372036854775807", Some(true)),
+        Truth(b"9223372036854775807g", Some(true)),
+        Truth(b"9223372036854775808", None),
+        Truth(b"+9223372036854775808", None),
+        Truth(b"-9223372036854775808", Some(true)),
+        Truth(b"-9223372036854775809", None),
+        Truth(b"18446744073709551616", None),
+        Truth(b"100000000000000000000000000000", None),
+        Truth(b"000000000000000000000000000001", Some(true)),
     ];
-    assert_truths(&rt, ROWS);
+    assert_each(&rt, rt.alloc(), ROWS)
 }
 
 #[test]
-fn other_words_say_nothing(rt: HostRuntime) {
-    const ROWS: &[(&str, Option<bool>)] = &[
-        ("k", None),
-        ("maybe", None),
-        ("y", None),
-        ("t", None),
-        ("yess", None),
-        ("1 ", None),
-        (" 1", None),
-        ("yes ", None),
-        ("yes\n", None),
-        ("+", None),
-        ("-", None),
-        ("--1", None),
-        ("1kk", None),
-        ("1k1", None),
-        ("1t", None),
-        ("-yes", None),
-        ("0x1", None),
-        ("1.0", None),
-        ("ｙes", None),
+fn other_words_say_nothing(rt: HostRuntime) -> Result<(), Fail> {
+    const ROWS: &[Truth] = &[
+        Truth(b"k", None),
+        Truth(b"maybe", None),
+        Truth(b"y", None),
+        Truth(b"t", None),
+        Truth(b"yess", None),
+        Truth(b"1 ", None),
+        Truth(b" 1", None),
+        Truth(b"yes ", None),
+        Truth(b"yes\n", None),
+        Truth(b"+", None),
+        Truth(b"-", None),
+        Truth(b"--1", None),
+        Truth(b"1kk", None),
+        Truth(b"1k1", None),
+        Truth(b"1t", None),
+        Truth(b"-yes", None),
+        Truth(b"0x1", None),
+        Truth(b"1.0", None),
+        Truth(b"\xffes", None),
     ];
-    assert_truths(&rt, ROWS);
-    assert_eq!(rt; parse_truth(b"\xff"), None);
+    assert_each(&rt, rt.alloc(), ROWS)
 }

@@ -1,12 +1,11 @@
 //! Rows on walks over trees: what a search chooses there, and which directories are entered.
 use crate::tests::look_ups::Marks;
-use crate::tests::support::search_of;
+use crate::tests::support::{Row, are_same, assert_each, search_of};
 use gix_pathspec::Search;
 use pathspec_parts::path;
 use pathspec_parts::tree::{Cursor, Tree, TreeError};
 use pathspec_select::{SelectError, select};
 use std::alloc::Global;
-use std::process::Abort;
 use std::test::Fail;
 
 /// A word with a slash at its end opens a directory, `..` closes the open one, and any other is a file.
@@ -30,116 +29,132 @@ fn tree_of(alloc: Global, words: &[&str]) -> Result<Tree, TreeError> {
     Ok(tree)
 }
 
-/// Asserts which numbers a walk gives, and which it enters, in the tree of these words.
-fn assert_walk(
-    rt: &impl Abort,
-    alloc: Global,
-    texts: &[&str],
-    prefix: &str,
-    words: &[&str],
-    want: (&[usize], &[usize]),
-) -> Result<(), Fail> {
-    let mut search = search_of(rt, alloc, texts, prefix)?;
-    let tree = tree_of(alloc, words)?;
-    let mut cursor = Cursor::new(alloc, &tree)?;
-    let given = select(alloc, &mut cursor, &mut search, &mut Marks::new())?;
-    assert_eq!(rt; given.as_slice(), want.0, "{texts:?}");
-    assert_eq!(rt; cursor.entered(), want.1, "{texts:?}");
-    Ok(())
-}
-
 /// Texts, the directory that they are given in, the words of a tree, and the numbers of the entries that are given and
 /// entered.
-type Row<'r> = (
-    &'r [&'r str],
-    &'r str,
-    &'r [&'r str],
-    (&'r [usize], &'r [usize]),
+#[derive(Clone, Copy)]
+struct Walk(
+    &'static [&'static str],
+    &'static str,
+    &'static [&'static str],
+    &'static [usize],
+    &'static [usize],
 );
+
+impl Row for Walk {
+    fn holds(&self, alloc: Global) -> Result<bool, Fail> {
+        let mut search = search_of(alloc, self.0, self.1)?;
+        let tree = tree_of(alloc, self.2)?;
+        is_walk(alloc, &tree, &mut search, &mut Marks::new(), self.3, self.4)
+    }
+}
+
+/// Whether a walk gives and enters just these entries.
+fn is_walk(
+    alloc: Global,
+    tree: &Tree,
+    search: &mut Search,
+    marks: &mut Marks,
+    given: &[usize],
+    entered: &[usize],
+) -> Result<bool, Fail> {
+    let mut cursor = Cursor::new(alloc, tree)?;
+    let found = select(alloc, &mut cursor, search, marks)?;
+    Ok(are_same(found.as_slice(), given) && are_same(cursor.entered(), entered))
+}
 
 #[test]
 #[rattlefmt::skip]
 fn a_walk_gives_what_is_chosen_and_enters_what_can_hold_it(rt: HostRuntime) -> Result<(), Fail> {
-    const ROWS: &[Row<'_>] = &[
-        (&["a/b"], "", &["a/", "b", "..", "c/", "d"], (&[1], &[0])),
-        (&["."], "", &["a/", "b", "..", "c/", "d"], (&[0, 1, 2, 3], &[0, 2])),
-        (&[], "", &["a/", "b", "..", "c/", "d"], (&[0, 1, 2, 3], &[0, 2])),
-        (&[":!c"], "", &["a/", "b", "..", "c/", "d"], (&[0, 1], &[0, 2])),
-        (&["d", ":!."], "", &["a/", "b", "..", "c/", "d"], (&[], &[])),
-        (&[":(icase)B"], "a", &["a/", "b", "..", "A/", "b"], (&[1], &[0])),
-        (&["a"], "", &["a/", "b/", "c", "..", "d", "..", "e/", "f"], (&[0, 1, 2, 3], &[0, 1])),
-        (&["a", ":!a/b"], "", &["a/", "b/", "c", "..", "d"], (&[0, 3], &[0, 1])),
-        (&["a"], "", &["a", "b/", "a"], (&[0], &[])),
-        (&["*.c"], "", &["s/", "t/", "x.c", "y.h", "..", "..", "z.c"], (&[2, 4], &[0, 1])),
-        (&["a"], "", &[], (&[], &[])),
+    const ROWS: &[Walk] = &[
+        Walk(&["a/b"], "", &["a/", "b", "..", "c/", "d"], &[1], &[0]),
+        Walk(&["."], "", &["a/", "b", "..", "c/", "d"], &[0, 1, 2, 3], &[0, 2]),
+        Walk(&[], "", &["a/", "b", "..", "c/", "d"], &[0, 1, 2, 3], &[0, 2]),
+        Walk(&[":!c"], "", &["a/", "b", "..", "c/", "d"], &[0, 1], &[0, 2]),
+        Walk(&["d", ":!."], "", &["a/", "b", "..", "c/", "d"], &[], &[]),
+        Walk(&[":(icase)B"], "a", &["a/", "b", "..", "A/", "b"], &[1], &[0]),
+        Walk(&["a"], "", &["a/", "b/", "c", "..", "d", "..", "e/", "f"], &[0, 1, 2, 3], &[0, 1]),
+        Walk(&["a", ":!a/b"], "", &["a/", "b/", "c", "..", "d"], &[0, 3], &[0, 1]),
+        Walk(&["a"], "", &["a", "b/", "a"], &[0], &[]),
+        Walk(&["*.c"], "", &["s/", "t/", "x.c", "y.h", "..", "..", "z.c"], &[2, 4], &[0, 1]),
+        Walk(&[":(attr:gen)."], "", &["x", "a/", "b"], &[0], &[1]),
+        Walk(&["a"], "", &[], &[], &[]),
     ];
-    for (texts, prefix, words, want) in ROWS {
-        assert_walk(&rt, rt.alloc(), texts, prefix, words, *want)?;
-    }
-    Ok(())
+    assert_each(&rt, rt.alloc(), ROWS)
 }
 
-/// Asserts that a fault of the look-up after so many answers ends a walk at once, at the entry that was asked.
-fn assert_fault(
-    rt: &impl Abort,
+/// After how many answers a look-up fails, and the path of the entry that was asked about then, where the walk ends.
+#[derive(Clone, Copy)]
+struct FailsAfter(u64, &'static str);
+
+impl Row for FailsAfter {
+    fn holds(&self, alloc: Global) -> Result<bool, Fail> {
+        let mut search = search_of(alloc, &[":(attr:gen)."], "")?;
+        let tree = tree_of(alloc, &["x", "a/", "b"])?;
+        let mut marks = Marks::failing_after(self.0);
+        let is_end = ends_at(alloc, &tree, &mut search, &mut marks, self.1)?;
+        let is_again = is_walk(alloc, &tree, &mut search, &mut marks, &[0], &[1])?;
+        Ok(is_end && is_again && marks.failed == 1 && marks.asked == self.0.saturating_add(4))
+    }
+}
+
+/// Whether a walk ends by a fault of its look-up, at the entry with this path.
+fn ends_at(
     alloc: Global,
-    search: &mut Search,
     tree: &Tree,
-    answered: u64,
+    search: &mut Search,
+    marks: &mut Marks,
     path: &str,
-) -> Result<(), Fail> {
+) -> Result<bool, Fail> {
     let mut cursor = Cursor::new(alloc, tree)?;
-    let mut marks = Marks::failing_after(answered);
-    let is_fault = match select(alloc, &mut cursor, search, &mut marks) {
-        Ok(_) | Err(SelectError::Memory) => false,
-        Err(SelectError::LookUp(_)) => true,
-    };
-    assert!(rt; is_fault, "after {answered}");
-    assert_eq!(rt;
-        cursor.path().as_bytes(),
-        path.as_bytes(),
-        "after {answered}"
-    );
-    assert_eq!(rt; marks.failed, 1, "after {answered}");
-    assert_eq!(rt; marks.asked, answered.saturating_add(1), "after {answered}");
-    Ok(())
+    match select(alloc, &mut cursor, search, marks) {
+        Err(SelectError::LookUp(_)) => Ok(cursor.path().as_bytes() == path.as_bytes()),
+        Ok(_) | Err(SelectError::Memory) => Ok(false),
+    }
 }
 
 #[test]
 fn a_fault_ends_a_walk_and_leaves_the_search(rt: HostRuntime) -> Result<(), Fail> {
-    let alloc = rt.alloc();
-    let mut search = search_of(&rt, alloc, &[":(attr:gen)."], "")?;
-    let tree = tree_of(alloc, &["x", "a/", "b"])?;
-    for (answered, path) in [(0, "x"), (1, "a"), (2, "a/b")] {
-        assert_fault(&rt, alloc, &mut search, &tree, answered, path)?;
-    }
-    let mut cursor = Cursor::new(alloc, &tree)?;
-    let mut marks = Marks::failing_after(3);
-    let given = select(alloc, &mut cursor, &mut search, &mut marks)?;
-    assert_eq!(rt; given.as_slice(), [0].as_slice());
-    assert_eq!(rt; marks.asked, 3);
-    Ok(())
+    const ROWS: &[FailsAfter] = &[FailsAfter(0, "x"), FailsAfter(1, "a"), FailsAfter(2, "a/b")];
+    assert_each(&rt, rt.alloc(), ROWS)
 }
 
-/// Asserts what is printed of an error.
-fn assert_text(
-    rt: &impl Abort,
-    alloc: Global,
-    error: &SelectError<u8>,
-    text: &str,
-) -> Result<(), Fail> {
-    let printed = error.to_string(alloc)?;
-    assert_eq!(rt; printed.as_str(), text);
-    Ok(())
+/// A fault of a look-up or none, and what is printed of the error of a walk.
+#[derive(Clone, Copy)]
+struct Told(Option<u8>, &'static str);
+
+impl Row for Told {
+    fn holds(&self, alloc: Global) -> Result<bool, Fail> {
+        let error = match self.0 {
+            Some(fault) => SelectError::LookUp(fault),
+            None => SelectError::Memory,
+        };
+        Ok(error.to_string(alloc)?.as_str() == self.1)
+    }
 }
 
 #[test]
 fn errors_of_a_walk_have_a_text_each(rt: HostRuntime) -> Result<(), Fail> {
-    assert_text(
-        &rt,
-        rt.alloc(),
-        &SelectError::LookUp(7),
-        "look-up failed: 7",
-    )?;
-    assert_text(&rt, rt.alloc(), &SelectError::Memory, "out of memory")
+    const ROWS: &[Told] = &[
+        Told(Some(7), "look-up failed: 7"),
+        Told(None, "out of memory"),
+    ];
+    assert_each(&rt, rt.alloc(), ROWS)
+}
+
+/// Whether a walk ends well, or for want of memory.
+fn walks(alloc: Global, tree: &Tree, search: &mut Search) -> Result<bool, Fail> {
+    let mut cursor = Cursor::new(alloc, tree)?;
+    match select(alloc, &mut cursor, search, &mut Marks::new()) {
+        Ok(_) | Err(SelectError::Memory) => Ok(true),
+        Err(SelectError::LookUp(_)) => Ok(false),
+    }
+}
+
+#[test]
+fn a_refused_growth_ends_a_walk_and_leaves_the_search(rt: HostRuntime) -> Result<(), Fail> {
+    let tree = tree_of(rt.alloc(), &["x", "a", "b/"])?;
+    let mut search = search_of(rt.alloc(), &["a*", ":!b"], "")?;
+    assert!(rt; walks(rt.alloc(), &tree, &mut search)?);
+    assert!(rt; is_walk(rt.alloc(), &tree, &mut search, &mut Marks::new(), &[1], &[])?);
+    Ok(())
 }
