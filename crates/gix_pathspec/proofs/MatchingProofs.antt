@@ -1,5 +1,5 @@
 -- What lies below a path, byte by byte, and the ways in which a spec fits.
-use Rattle.std.proofs.Common.{◌≡◌, ◌≢◌, ℕ, ◌+◌, ◌<◌, ◌≤◌, Bool, true, false, not, ◌&&◌, cond, inl, inr, refl, sym, ◌∙◌, ap, List, [], ◌∷◌, length, take, get_or, arith, ◌==◌, Some, None, Option, is_some}
+use Rattle.std.proofs.Common.{◌≡◌, ◌≢◌, ℕ, ◌+◌, ◌<◌, ◌≤◌, Bool, true, false, ◌&&◌, inl, inr, refl, sym, ◌∙◌, ap, List, [], ◌∷◌, length, take, get_or, arith, ◌==◌, Some, None, Option, is_some}
 use Rattle.std.proofs.lemmas.Bool.{ne_eqb, cases_lt, lt-ltb, le-ltb}
 use Rattle.std.proofs.lemmas.List.{length-map, take-map, get_or-map}
 use Rattle.std.proofs.Math.Bool.{and-false, and-true}
@@ -7,13 +7,10 @@ use Rattle.std.specs.Prelude.{bytes_eq}
 use Rattle.std.specs.Char.{to_ascii_lowercase}
 use Rattle.pathspec_parts.specs.Bytes.{slash, fold_case, is_empty}
 use Rattle.pathspec_parts.specs.Attributes.{Table}
-use Rattle.pathspec_pattern.specs.declared.SearchMode.{SearchMode}
-use Rattle.pathspec_pattern.specs.declared.SearchMode.TheVariants.{ShellGlob, Literal, PathAwareGlob}
 use Rattle.gix_pathspec.specs.declared.search.MatchKind.{MatchKind}
 use Rattle.gix_pathspec.specs.declared.search.MatchKind.TheVariants.{Always, Prefix, WildcardMatch, Verbatim}
-use Rattle.gix_pathspec.specs.Specs.{Spec, has_wildcard, is_literal, is_glob, always_matches}
+use Rattle.gix_pathspec.specs.Specs.{Spec, always_matches}
 use Rattle.gix_pathspec.specs.Matching.{fit, match_way, spec_matches, has_attributes, is_in_prefix_directory, is_glob_match, is_verbatim_match, is_prefix_match}
-use Rattle.gix_pathspec.specs.Compiled.{glob_in_mode, glob_of}
 use Rattle.pathspec_parts.specs.Paths.{is_below}
 
 -- ---- below a path
@@ -104,15 +101,6 @@ module _ (s : Spec) (path : List ℕ) (is_dir : Bool) (kept : is_in_prefix_direc
 
   pub fit-none : always_matches s ≡ false → is_glob_match s path is_dir ≡ false → is_verbatim_match s path is_dir ≡ false → is_prefix_match s path ≡ false → None ≡ fit s path is_dir
   fit-none a g v p = sym (fit-kept ∙ (rw (a, g, v, p) refl))
-
--- a spec that isn't a glob is compared as none
-pub no_glob : (s : Spec) → is_glob s ≡ false → None ≡ glob_of s
-no_glob s plain = plain_in (has_wildcard s) s.mode plain where
-  plain_in : (wild : Bool) (mode : SearchMode) → (wild && not (is_literal mode)) ≡ false → None ≡ cond wild (glob_in_mode mode s.path) None
-  plain_in false mode h = refl
-  plain_in true ShellGlob h = cc
-  plain_in true Literal h = refl
-  plain_in true PathAwareGlob h = cc
 
 -- a spec that lists no attributes means what it fits
 pub spec_matches-fits : (s : Spec) (path : List ℕ) (is_dir : Bool) (kind : Option MatchKind) → is_empty s.attributes ≡ true → kind ≡ fit s path is_dir → (table : Table) → is_some kind ≡ spec_matches table s path is_dir

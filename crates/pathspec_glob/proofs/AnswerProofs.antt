@@ -1,5 +1,5 @@
 -- An answer that is the function's is the relation's, within the bound.
-use Rattle.std.proofs.Common.{◌≡◌, ℕ, ◌+◌, ◌-◌, ◌*◌, ◌≤◌, ◌<◌, ◌^◌, ◌&&◌, Bool, true, false, inl, inr, refl, sym, ◌∙◌, ap, subst, arith, List, [], ◌∷◌, length, drop, if◌then◌else◌}
+use Rattle.std.proofs.Common.{◌≡◌, ℕ, ◌+◌, ◌*◌, ◌≤◌, ◌&&◌, Bool, true, false, inl, inr, refl, sym, ◌∙◌, ap, subst, arith, List, [], ◌∷◌, length, drop, if◌then◌else◌}
 use Rattle.std.proofs.lemmas.Bool.{cases_Bool, and_parts, eqb-true, not-true}
 use Rattle.std.proofs.Math.Nat.{mul-le-mul, add-mul}
 use Rattle.std.specs.Prelude.{not, ◌==◌}
@@ -12,7 +12,7 @@ use Rattle.pathspec_glob.specs.Tokens.{tokens}
 use Rattle.pathspec_glob.specs.GlobRelation.{matches}
 use Rattle.pathspec_glob.specs.GlobSteps.{TokenList}
 use Rattle.pathspec_glob.specs.GlobParts.{middle_of, takes_front, takes_end, behind_front, before_end, IsParted}
-use Rattle.pathspec_glob.specs.Globs.{GlobSource, glob_tokens, AnswersGlob, AnswersTail, is_tail_pattern}
+use Rattle.pathspec_glob.specs.Globs.{GlobSource, AnswersGlob, AnswersTail, is_tail_pattern}
 use Rattle.pathspec_glob.proofs.GlobProofs.{glob_is_relation}
 use Rattle.pathspec_glob.proofs.TokenProofs.{few_tokens}
 use Rattle.pathspec_glob.proofs.TailProofs.{matches-ends_with, tail-fits, tokens-tail}
@@ -90,13 +90,6 @@ module _ (mode : Mode) (case : Case) (pattern : List ℕ) (h m t : TokenList) (p
       let both : (length pattern + 1) * length text ≡ length pattern * length text + 1 * length text = add-mul (length pattern) 1 (length text) in
       omega arith
 
-  -- they fit
-  pub steps-fit : (before between : ℕ) → before + between ≡ length text → length pattern < 2 ^ 64 → length text < 2 ^ 64 → before + length m.tokens * between < 2 ^ 128
-  steps-fit before between parts pattern_fits text_fits =
-      let most = all-steps before between (before + length m.tokens * between) parts (omega arith) in
-      let wider = mul-le-mul {n₁ = length pattern + 1} {m₁ = length text} {n₂ = 2 ^ 64} {m₂ = 2 ^ 64 - 1} (omega arith) (omega arith) in
-      omega arith
-
 -- between the star of a tail pattern and its rest stands nothing else
 middle-alone : (mode : Mode) (pattern : List ℕ) → is_tail_pattern pattern ≡ true → length (middle_of mode (tokens mode pattern)) ≡ 1
 middle-alone mode [] tail = cc
@@ -121,11 +114,3 @@ parts-count mode pattern h m t parted = rw (parted.head_is, parted.middle_is, pa
 
 pub parts-few : (mode : Mode) (pattern : List ℕ) (h m t : TokenList) → IsParted mode pattern h m t → length h.tokens + length m.tokens + length t.tokens ≤ length pattern
 parts-few mode pattern h m t parted = let all = parts-count mode pattern h m t parted in let few = few_tokens mode pattern in omega arith
-
--- a scratch for all of them has room for those between
-pub middle-fits : (mode : Mode) (pattern : List ℕ) (h m t : TokenList) → IsParted mode pattern h m t → (glob : GlobSource) → record { mode = mode; pattern = pattern } ≡ glob
-    → (room : ℕ) → length (glob_tokens glob) ≤ room → length m.tokens ≤ room
-middle-fits mode pattern h m t parted glob view room fits =
-    let all = parts-count mode pattern h m t parted in
-    let within = subst (λ g. length (glob_tokens g) ≤ room) (sym view) fits in
-    omega arith

@@ -3,7 +3,7 @@ use Rattle.std.proofs.Common.{◌≡◌, ℕ, zero, suc, ◌+◌, ◌-◌, ◌�
 use Rattle.std.proofs.lemmas.Bool.{cases_lt, false_from_ne_true, and_parts, not-true}
 use Rattle.std.proofs.Math.Bool.{or-false, and-false, and-true}
 use Rattle.std.proofs.Math.Seq.{drop-length}
-use Rattle.std.proofs.lemmas.List.{drop_more, drop_all, take_all}
+use Rattle.std.proofs.lemmas.List.{drop_more, take_all}
 use Rattle.std.specs.List.{list_all}
 use Rattle.pathspec_glob.specs.declared.Mode.{Mode}
 use Rattle.pathspec_glob.specs.declared.Case.{Case}
@@ -34,10 +34,6 @@ module _ (mode : Mode) (case : Case) where
       let token : drop place ts ≡ get_or ts place Star ∷ drop (place + 1) ts = rw (add-one place) (from-place ts place h) in
       let byte : drop place text ≡ get_or text place 0 ∷ drop (place + 1) text = drop_more text place 0 (omega arith) in
       rw (token, byte) refl
-
-  -- all of them
-  pub takes_each-all : (ts : List Token) (text : List ℕ) (place : ℕ) → length ts ≤ place → length text ≤ place → takes_each mode case (drop place ts) (drop place text) ≡ true
-  takes_each-all ts text place h g = rw (drop_all place ts h, drop_all place text g) refl
 
   -- a text that is shorter is taken by no end and no front of it
   pub front-short : (ts : List Token) (text : List ℕ) → length text < length ts → takes_each mode case ts (take (length ts) text) ≡ false
