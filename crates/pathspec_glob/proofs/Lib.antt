@@ -8,6 +8,10 @@ pub mod EndProofs
 pub mod PlaceProofs
 pub mod AcceptProofs
 pub mod WindowProofs
+pub mod BitProofs
+pub mod CellProofs
+pub mod TokenCells
+pub mod WordProofs
 pub mod AnswerProofs
 mod Asking
 mod GlobRows

@@ -44,6 +44,11 @@ takes_byte mode case (One single) b = takes mode case single b
 takes_byte mode case Star b = not (b == slash)
 takes_byte mode case Deep b = true
 
+-- the first of the tokens takes a byte, alone or with others
+abbrev pub takes_at : Mode → Case → List Token → ℕ → Bool
+takes_at mode case [] b = false
+takes_at mode case (t ∷ ts) b = takes_byte mode case t b
+
 -- The first of the tokens takes the first byte of the text. None takes the text's end.
 abbrev pub tests_at : Mode → Case → List Token → List ℕ → Bool
 tests_at mode case [] text = false

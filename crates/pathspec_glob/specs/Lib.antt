@@ -4,6 +4,8 @@ pub mod GlobRelation
 pub mod GlobForms
 pub mod GlobSteps
 pub mod GlobParts
+pub mod GlobCells
+pub mod GlobWords
 pub mod GlobPlaces
 pub mod Globs
 pub mod Counts

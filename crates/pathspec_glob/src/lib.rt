@@ -9,6 +9,7 @@ ghost use Rattle.pathspec_glob.specs.Globs.{MatchBeginsStem};
 mod brackets;
 mod ends;
 mod matcher;
+mod middle;
 mod places;
 mod reading;
 mod scratch;

@@ -1,13 +1,11 @@
 //! Globs and texts: the head of a glob and its tail first, and then what stands between.
-ghost use Rattle.std.specs.Prelude.{◌≡◌, ◌≤◌, ◌<◌, ◌+◌, ◌*◌, ◌^◌, ◌↔◌, length, IfOk, IsTrue};
+ghost use Rattle.std.specs.Prelude.{◌≡◌, ◌≤◌, ◌↔◌, length, IfOk, IsTrue};
 ghost use Rattle.pathspec_glob.specs.Globs.{glob_tokens, is_tail_pattern, AnswersGlob, AnswersTail, GlobIsRelation};
-ghost use Rattle.pathspec_glob.specs.GlobRelation.{matches};
-ghost use Rattle.pathspec_glob.specs.GlobPlaces.{HasRoom, KeepsRoom};
-ghost use Rattle.pathspec_glob.specs.Counts.{Counts, KeepsCount};
+ghost use Rattle.pathspec_glob.specs.Counts.{Counts};
 
-use crate::places::Places;
+use crate::middle::Middle;
 use crate::scratch::Scratch;
-use crate::scratch::tokens::{Steps, Tokens};
+use crate::scratch::tokens::Tokens;
 use crate::{Case, Mode, ends};
 use std::alloc::{AllocError, Global};
 use std::marker::Model;
@@ -19,7 +17,7 @@ pub struct Glob {
     /// The tokens before the first that takes any number of bytes.
     head: Tokens,
     /// Those up to the last that does, with a slash that this one may stand for nothing with.
-    middle: Tokens,
+    middle: Middle,
     /// Those behind.
     tail: Tokens,
 }
@@ -36,7 +34,8 @@ impl Model for Glob {
 }
 
 impl Glob {
-    /// The glob of a pattern. Every byte string is one. The cost is linear in the pattern.
+    /// The glob of a pattern. Every byte string is one. The cost is linear in the pattern, and so is the memory; where 1 to
+    /// 63 tokens for one byte stand between head and tail, each of them is tested on every byte, for a table of 4 kB.
     ///
     /// # Errors
     /// Memory runs out.
@@ -51,7 +50,7 @@ impl Glob {
         Ok(Glob {
             pattern: Vec::from_slice(alloc, pattern)?,
             head,
-            middle,
+            middle: Middle::of_tokens(alloc, middle)?,
             tail,
         })
     }
@@ -99,29 +98,6 @@ impl Glob {
         let Some(between) = ends::before_end(&self.tail, behind, case, steps) else {
             return false;
         };
-        matches_between(&self.middle, between, case, places, steps)
-    }
-}
-
-/// Whether the tokens between head and tail match the whole of what stands in a text between those.
-fn matches_between(
-    tokens: &Tokens,
-    text: &[u8],
-    case: Case,
-    places: &mut Places,
-    steps: &mut Steps,
-) -> bool
-    requires room { HasRoom (length tokens.now.tokens) places.old }
-    requires steps { steps.old.last + length tokens.now.tokens * length text.now < 2 ^ 128 }
-    ensures answer { result ≡ matches tokens.now.mode case tokens.now.tokens text.now }
-    ensures most { steps.new.last ≤ steps.old.last + length tokens.now.tokens * length text.now }
-    ensures least { IsTrue result → steps.old.last + length text.now ≤ steps.new.last }
-    ensures counted { KeepsCount steps.old steps.new }
-    ensures room { KeepsRoom places.old places.new }
-{
-    if tokens.len() == 1 && tokens.is_wide(0) {
-        tokens.test_all(text, steps)
-    } else {
-        places.run(tokens, text, case, steps)
+        self.middle.matches(between, case, places, steps)
     }
 }

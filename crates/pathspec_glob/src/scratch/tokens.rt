@@ -4,9 +4,11 @@ ghost use Rattle.std.specs.List.{prefix_len};
 ghost use Rattle.pathspec_glob.specs.Bytes.{slash};
 ghost use Rattle.pathspec_glob.specs.GlobRelation.{is_same_byte, is_barred, takes, passes_over};
 ghost use Rattle.pathspec_glob.specs.GlobForms.{single_view, token_view, tokens_view};
-ghost use Rattle.pathspec_glob.specs.GlobSteps.{is_deep_token, is_wide, is_wide_at, may_pass_over_at, token_list, takes_byte, token_takes};
+ghost use Rattle.pathspec_glob.specs.GlobSteps.{is_deep_token, is_wide, is_wide_at, may_pass_over_at, token_list, takes_at, takes_byte, token_takes};
 ghost use Rattle.pathspec_glob.specs.GlobParts.{head_size, wide_size, wide_takes};
 ghost use Rattle.pathspec_glob.specs.Counts.{BeginsAnew, HasNoSteps, KeepsCount};
+
+pub mod word;
 
 use crate::brackets::{self, Item};
 use crate::{Case, Mode, reading};
@@ -102,6 +104,22 @@ impl Tokens {
         ensures next { IsTrue result → place + 1 < length self.now.tokens }
     {
         may_pass_over(self.mode, &self.all[place..])
+    }
+
+    /// Whether they are one token, which takes any number of bytes.
+    pub fn is_alone(&self) -> bool
+        ensures one { IsTrue result → length self.now.tokens ≡ 1 }
+        ensures wide { IsTrue result → IsTrue (is_wide_at self.now.tokens) }
+    {
+        self.len() == 1 && self.is_wide(0)
+    }
+
+    /// Whether the token at a place takes a byte, alone or with others.
+    fn takes(&self, place: usize, byte: u8, case: Case) -> bool
+        requires { place < length self.now.tokens }
+        ensures { result ≡ takes_at self.now.mode case (drop place self.now.tokens) byte }
+    {
+        self.all[place].takes(self.mode, case, byte)
     }
 
     /// Splits off the tokens from a place on.

@@ -3,7 +3,7 @@ use Rattle.pathspec_glob.specs.Tokens.{tokens}
 use Rattle.pathspec_glob.specs.GlobRelation.{matches}
 use Rattle.pathspec_glob.proofs.AnswerProofs.{glob-answers, glob-answers-tail, no-front, no-end, between-decides, few-steps, all-steps, tail-steps}
 use Rattle.pathspec_glob.proofs.GlobProofs.{glob_is_relation}
-use Rattle.pathspec_glob.proofs.matcher.Glob.matches.Goals.{In_default, In_default-before_end, After-matches_between, In-Some-before_end}
+use Rattle.pathspec_glob.proofs.matcher.Glob.matches.Goals.{In_default, In_default-before_end, After-matches, In-Some-before_end}
 use Rattle.pathspec_glob.proofs.matcher.Glob.matches.Goals as goal
 
 -- the head takes no front
@@ -53,12 +53,12 @@ pub returns-in_default-before_end-clause-function : goal.returns-in_default-befo
 returns-in_default-before_end-clause-function c = glob_is_relation
 
 -- what stands between decides
-decided : (c : After-matches_between) → c.matches_between.result ≡ matches c.self.inside.head.mode c.args.case (tokens c.self.inside.head.mode c.self.inside.pattern.items) c.args.text.now
+decided : (c : After-matches) → c.matches.result ≡ matches c.self.inside.head.mode c.args.case (tokens c.self.inside.head.mode c.self.inside.pattern.items) c.args.text.now
 decided c =
     let parts = c.self.inside in
     between-decides parts.head.mode c.args.case parts.pattern.items parts.head parts.middle parts.tail c.self.invariant c.args.text.now
-    c.in-Some.behind.now c.in-Some-before_end.between.now c.matches_between.result c.in-Some.ensures.behind c.in-Some.ensures.taken
-    c.in-Some-before_end.ensures.before c.in-Some-before_end.ensures.taken c.matches_between.ensures.answer
+    c.in-Some.behind.now c.in-Some-before_end.between.now c.matches.result c.in-Some.ensures.behind c.in-Some.ensures.taken
+    c.in-Some-before_end.ensures.before c.in-Some-before_end.ensures.taken c.matches.ensures.answer
 
 -- a step for each byte of the head and of the tail
 ends-spent : (c : In-Some-before_end) → c.before_end.new.steps.last + length c.in-Some-before_end.between.now ≡ length c.args.text.now
@@ -68,19 +68,19 @@ pub returns-clause-answer : goal.returns-clause-answer
 returns-clause-answer c =
     let parts = c.self.inside in
     let spent = ends-spent (goal.at.returns-clause-answer c).In-Some-before_end in
-    glob-answers parts.head.mode parts.pattern.items c.args.self.now c.args.case c.args.text.now c.matches_between.result c.matches_between.new.steps.last c.self.view_is (decided (goal.at.returns-clause-answer c).After-matches_between)
-    (all-steps parts.head.mode c.args.case parts.pattern.items parts.head parts.middle parts.tail c.self.invariant c.args.text.now c.before_end.new.steps.last (length c.in-Some-before_end.between.now) c.matches_between.new.steps.last spent c.matches_between.ensures.most)
-    (λ h. omega (arith, c.matches_between.ensures.least h, spent))
+    glob-answers parts.head.mode parts.pattern.items c.args.self.now c.args.case c.args.text.now c.matches.result c.matches.new.steps.last c.self.view_is (decided (goal.at.returns-clause-answer c).After-matches)
+    (all-steps parts.head.mode c.args.case parts.pattern.items parts.head parts.middle parts.tail c.self.invariant c.args.text.now c.before_end.new.steps.last (length c.in-Some-before_end.between.now) c.matches.new.steps.last spent c.matches.ensures.most)
+    (λ h. omega (arith, c.matches.ensures.least h, spent))
 
 pub returns-clause-tail : goal.returns-clause-tail
 returns-clause-tail c =
-    glob-answers-tail c.self.inside.head.mode c.self.inside.pattern.items c.args.self.now c.args.case c.args.text.now c.matches_between.result c.self.view_is (decided (goal.at.returns-clause-tail c).After-matches_between)
+    glob-answers-tail c.self.inside.head.mode c.self.inside.pattern.items c.args.self.now c.args.case c.args.text.now c.matches.result c.self.view_is (decided (goal.at.returns-clause-tail c).After-matches)
 
 pub returns-clause-few : goal.returns-clause-few
 returns-clause-few c tail =
     let parts = c.self.inside in
     tail-steps parts.head.mode parts.pattern.items parts.head parts.middle parts.tail c.self.invariant c.args.self.now c.self.view_is c.args.text.now
-    c.before_end.new.steps.last (length c.in-Some-before_end.between.now) c.matches_between.new.steps.last (ends-spent (goal.at.returns-clause-few c).In-Some-before_end) c.matches_between.ensures.most tail
+    c.before_end.new.steps.last (length c.in-Some-before_end.between.now) c.matches.new.steps.last (ends-spent (goal.at.returns-clause-few c).In-Some-before_end) c.matches.ensures.most tail
 
 pub returns-clause-function : goal.returns-clause-function
 returns-clause-function c = glob_is_relation

@@ -1,0 +1,71 @@
+-- The places that a number holds.
+use Rattle.std.proofs.Common.{◌≡◌, ℕ, zero, suc, ◌*◌, ◌/◌, ◌%◌, ◌^◌, ◌<◌, true, false, ◌&&◌, ◌||◌, refl, sym, ◌∙◌, ap, arith, ◌==◌, min, max}
+use Rattle.std.proofs.Math.Bool.{or-false}
+use Rattle.std.specs.Int.{bit_at}
+use Rattle.std.specs.Int.Bits.{bit_and}
+use Rattle.std.specs.Int.RustNames.{bit_or}
+use Rattle.std.proofs.lemmas.Nat.Bits.{bit_at_and, bit_at_or, bit_at-lt, bit_at-suc, bit_at_lowest, bit_at-zero, bit_at_cat_low}
+use Rattle.std.proofs.lemmas.Nat.{shl-shr, shr_split}
+use Rattle.pathspec_glob.specs.GlobCells.{has, further, with_first}
+
+and-cases : (x y : ℕ) → x < 2 → y < 2 → (min x y == 1) ≡ ((x == 1) && (y == 1))
+and-cases zero zero h k = refl
+and-cases zero (suc zero) h k = refl
+and-cases (suc zero) zero h k = refl
+and-cases (suc zero) (suc zero) h k = refl
+and-cases (suc (suc x)) y h k = absurd (let no : ⊥ = omega arith in no)
+and-cases x (suc (suc y)) h k = absurd (let no : ⊥ = omega arith in no)
+
+or-cases : (x y : ℕ) → x < 2 → y < 2 → (max x y == 1) ≡ ((x == 1) || (y == 1))
+or-cases zero zero h k = refl
+or-cases zero (suc zero) h k = refl
+or-cases (suc zero) zero h k = refl
+or-cases (suc zero) (suc zero) h k = refl
+or-cases (suc (suc x)) y h k = absurd (let no : ⊥ = omega arith in no)
+or-cases x (suc (suc y)) h k = absurd (let no : ⊥ = omega arith in no)
+
+pub has-and : (a b i : ℕ) → has (bit_and a b) i ≡ (has a i && has b i)
+has-and a b i = rw (bit_at_and a b i) (and-cases (bit_at a i) (bit_at b i) (bit_at-lt a i) (bit_at-lt b i))
+
+pub has-or : (a b i : ℕ) → has (bit_or a b) i ≡ (has a i || has b i)
+has-or a b i = rw (bit_at_or a b i) (or-cases (bit_at a i) (bit_at b i) (bit_at-lt a i) (bit_at-lt b i))
+
+pub has-zero : (i : ℕ) → has 0 i ≡ false
+has-zero i = rw (bit_at-zero i) refl
+
+-- below the width, a product that is cut to the width has the product's bits
+bit_at-cut : (n i : ℕ) → i < 64 → bit_at (n % 2 ^ 64) i ≡ bit_at n i
+bit_at-cut n i h = sym (bit_at_cat_low (n / 2 ^ 64) 64 (n % 2 ^ 64) i h) ∙ ap (λ x. bit_at x i) (shr_split n 64)
+
+-- `n << 1` has the bits of n, one further
+pub has-shl : (n i : ℕ) → suc i < 64 → has (n * 2 ^ 1 % 2 ^ 64) (suc i) ≡ has n i
+has-shl n i h = ap (λ x. x == 1) (bit_at-cut (n * 2 ^ 1) (suc i) h ∙ bit_at-suc (n * 2 ^ 1) i ∙ ap (λ x. bit_at x i) (shl-shr n 1))
+
+pub has-shl_first : (n : ℕ) → has (n * 2 ^ 1 % 2 ^ 64) 0 ≡ false
+has-shl_first n =
+    let low : n * 2 % 2 ≡ 0 = omega arith in
+    ap (λ x. x == 1) (bit_at-cut (n * 2 ^ 1) 0 (omega arith) ∙ bit_at_lowest (n * 2 ^ 1) ∙ low)
+
+-- the first place alone
+pub alone : (i : ℕ) → has 1 (suc i) ≡ false
+alone i = ap (λ x. x == 1) (bit_at-suc 1 i ∙ bit_at-zero i)
+
+-- a word with each place one further
+pub has-further : (n i : ℕ) → i < 64 → has (n * 2 ^ 1 % 2 ^ 64) i ≡ further false (has n) i
+has-further n zero h = has-shl_first n
+has-further n (suc i) h = has-shl n i h
+
+pub has-further_first : (n i : ℕ) → i < 64 → has (bit_or (n * 2 ^ 1 % 2 ^ 64) 1) i ≡ further true (has n) i
+has-further_first n zero h = has-or (n * 2 ^ 1 % 2 ^ 64) 1 0 ∙ rw (has-shl_first n) refl
+has-further_first n (suc i) h = has-or (n * 2 ^ 1 % 2 ^ 64) 1 (suc i) ∙ rw (alone i, has-shl n i h) (or-false (has n i))
+
+-- a word with its first place besides
+pub has-first : (n i : ℕ) → has (bit_or n 1) i ≡ with_first true (has n) i
+has-first n zero = has-or n 1 0
+has-first n (suc i) = has-or n 1 (suc i) ∙ rw (alone i) (or-false (has n (suc i)))
+
+-- a word of which no two places stand side by side
+pub apart : (n : ℕ) → bit_and n (n / 2) ≡ 0 → (i : ℕ) → (has n i && has n (suc i)) ≡ false
+apart n none i =
+    let next : has (n / 2) i ≡ has n (suc i) = ap (λ x. x == 1) (sym (bit_at-suc n i)) in
+    rw (sym next) (sym (has-and n (n / 2) i) ∙ rw none (has-zero i))

@@ -1,0 +1,20 @@
+-- Tokens as words.
+use Rattle.std.specs.Prelude.{◌≡◌, ℕ, suc, ◌<◌, ◌&&◌, true, false, length}
+use Rattle.pathspec_glob.specs.declared.Case.TheVariants.{Sensitive, Fold}
+use Rattle.pathspec_glob.specs.declared.scratch.tokens.word.Word.{Word}
+use Rattle.pathspec_glob.specs.Bytes.{slash}
+use Rattle.pathspec_glob.specs.GlobSteps.{TokenList}
+use Rattle.pathspec_glob.specs.GlobCells.{has, kept_at, passed_at, cell_count, alternates_behind, IsTable}
+
+-- the word is that of the tokens: what takes each byte, what stays at a byte other than a slash and at a slash, and what may be passed over
+pub record IsWordOf (parts : TokenList) (word : Word) : Type 0 where
+  pub last : word.last ≡ cell_count parts.tokens
+  pub some : 0 < cell_count parts.tokens
+  pub tokens : word.tokens ≡ length parts.tokens
+  pub alternate : alternates_behind false parts.tokens ≡ true
+  pub exact : IsTable parts Sensitive word.exact.items
+  pub folded : IsTable parts Fold word.folded.items
+  pub loops : (i : ℕ) → i < 64 → has word.loops i ≡ kept_at parts.tokens 0 i
+  pub deeps : (i : ℕ) → i < 64 → has word.deeps i ≡ kept_at parts.tokens slash i
+  pub overs : (i : ℕ) → i < 64 → has word.overs i ≡ passed_at parts.mode parts.tokens i
+  pub apart : (i : ℕ) → (has word.overs i && has word.overs (suc i)) ≡ false

@@ -1,0 +1,83 @@
+//! Tokens as sets of places in one word: a bit for each token that takes one byte, and one for the end.
+ghost use Rattle.std.specs.Prelude.{◌≡◌, ◌<◌, ◌≤◌, ◌+◌, ◌*◌, ◌^◌, length, vec_len, IfOk, IfSome, IsTrue};
+ghost use Rattle.pathspec_glob.specs.Counts.{KeepsCount};
+ghost use Rattle.pathspec_glob.specs.GlobRelation.{matches};
+ghost use Rattle.pathspec_glob.specs.GlobSteps.{TokenList};
+
+mod masks;
+mod sets;
+
+use super::{Steps, Tokens};
+use crate::Case;
+use std::alloc::{AllocError, Global};
+
+/// Tokens as words. A place stands before each token that takes one byte, and one at the end; a token that takes any
+/// number of bytes lets the place behind it stay.
+#[derive(Debug, Drop)]
+pub struct Word {
+    /// For each byte the places whose tokens take it.
+    exact: Vec<u64>,
+    /// The same without case.
+    folded: Vec<u64>,
+    /// The places that may stay at a byte, and at a slash.
+    loops: u64,
+    deeps: u64,
+    /// The places that may be passed over.
+    overs: u64,
+    /// The last place.
+    last: usize,
+    /// How many tokens they stand for.
+    tokens: usize,
+    ghost exact_all: { vec_len exact ≡ 256 },
+    ghost folded_all: { vec_len folded ≡ 256 },
+    ghost last_within: { last < 64 },
+}
+
+impl Word {
+    ghost use Rattle.pathspec_glob.specs.GlobWords.{IsWordOf};
+
+    /// The word of tokens, where 1 to 63 of them take one byte, no two others stand side by side, and no two places that
+    /// may be passed over do.
+    ///
+    /// The cost is linear in the tokens; it tests each of them on each of the 256 bytes, with case and without.
+    ///
+    /// # Errors
+    /// Memory runs out.
+    pub fn of_tokens(alloc: Global, tokens: &Tokens) -> Result<Option<Word>, AllocError>
+        ensures { IfOk result (λ found. IfSome found (λ word. IsWordOf tokens.now word)) }
+    {
+        let last = masks::cells(tokens);
+        let overs = masks::overs(tokens);
+        if last == 0 || last > 63 || !masks::alternate(tokens) || !masks::are_apart(overs) {
+            return Ok(None);
+        }
+        Ok(Some(Word {
+            exact: masks::rows(alloc, tokens, Case::Sensitive)?,
+            folded: masks::rows(alloc, tokens, Case::Fold)?,
+            loops: masks::kept(tokens, 0),
+            deeps: masks::kept(tokens, b'/'),
+            overs,
+            last,
+            tokens: tokens.len(),
+        }))
+    }
+
+    /// Whether the tokens match the whole text. A byte asks which of them take it, which is counted as a step for each.
+    pub fn test(&self, text: &[u8], case: Case, steps: &mut Steps) -> bool
+        requires { steps.old.last + self.now.tokens * length text.now < 2 ^ 128 }
+        ensures answer { (parts : TokenList) → IsWordOf parts self.now
+            → result ≡ matches parts.mode case parts.tokens text.now }
+        ensures most { steps.new.last ≤ steps.old.last + self.now.tokens * length text.now }
+        ensures least { IsTrue result
+            → steps.new.last ≡ steps.old.last + self.now.tokens * length text.now }
+        ensures counted { KeepsCount steps.old steps.new }
+    {
+        let rows = match case {
+            Case::Sensitive => &self.exact,
+            Case::Fold => &self.folded,
+        };
+        let ran = sets::run(rows, self.loops, self.deeps, self.overs, self.last, text);
+        steps.raise_by(self.tokens as u128 * ran.read as u128);
+        ran.accepted
+    }
+}
