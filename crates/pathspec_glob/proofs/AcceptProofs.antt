@@ -11,7 +11,8 @@ use Rattle.pathspec_glob.specs.Tokens.{Token}
 use Rattle.pathspec_glob.specs.Tokens.Token.{One, Star, Deep}
 use Rattle.pathspec_glob.specs.GlobRelation.{matches, some_suffix}
 use Rattle.pathspec_glob.specs.GlobSteps.{is_wide, is_wide_at, may_pass_over_at, takes_byte, tests_at}
-use Rattle.pathspec_glob.specs.GlobPlaces.{matches_within, holds, accepts_at, accepts, accepts_before, either_holds, with_place, rows_closure}
+use Rattle.pathspec_glob.specs.GlobPlaces.{matches_within, accepts_at, accepts, accepts_before, either_holds, with_place, rows_closure}
+use Rattle.pathspec_glob.specs.GlobRows.{holds}
 
 -- deep alone takes any text
 any_end : (mode : Mode) (case : Case) (text : List ℕ) → some_suffix (λ b. true) (matches mode case []) text ≡ true

@@ -9,6 +9,7 @@ pub mod PlaceProofs
 pub mod AcceptProofs
 pub mod WindowProofs
 pub mod BitProofs
+pub mod RowProofs
 pub mod CellProofs
 pub mod TokenCells
 pub mod WordProofs

@@ -9,7 +9,8 @@ use Rattle.pathspec_glob.specs.declared.Case.{Case}
 use Rattle.pathspec_glob.specs.Tokens.{Token}
 use Rattle.pathspec_glob.specs.GlobRelation.{matches}
 use Rattle.pathspec_glob.specs.GlobSteps.{is_wide_at, may_pass_over_at}
-use Rattle.pathspec_glob.specs.GlobPlaces.{holds, accepts, accepts_before, either_holds, with_place, rows_closure, HoldsWithin, window_start, window_end, closure_end}
+use Rattle.pathspec_glob.specs.GlobPlaces.{accepts, accepts_before, either_holds, with_place, rows_closure, HoldsWithin, window_start, window_end, closure_end}
+use Rattle.pathspec_glob.specs.GlobRows.{holds}
 use Rattle.pathspec_glob.proofs.AcceptProofs.{goes_on, holds-with_place, accepts-split, accepts-from, accepts-after, matches-after, accepts_before-same, accepts-end_come}
 
 -- a place that is raised changes none after it

@@ -1,5 +1,5 @@
 -- Places in the tokens of a glob: a place is before a token that has just been come to, or within one that has taken bytes and may take more.
-use Rattle.std.specs.Prelude.{◌≡◌, ◌<◌, ◌≤◌, nat_lt, ℕ, zero, suc, ◌+◌, Bool, true, false, not, ◌&&◌, ◌||◌, List, [], ◌∷◌, get_or, set, drop, ◌==◌, if◌then◌else◌, length}
+use Rattle.std.specs.Prelude.{◌≡◌, ◌<◌, ◌≤◌, nat_lt, ℕ, zero, suc, ◌+◌, ◌^◌, Bool, true, false, not, ◌&&◌, ◌||◌, List, [], ◌∷◌, set, drop, ◌==◌, if◌then◌else◌, length}
 use Rattle.pathspec_glob.specs.declared.Mode.{Mode}
 use Rattle.pathspec_glob.specs.declared.Case.{Case}
 use Rattle.pathspec_glob.specs.declared.places.Places.{Places}
@@ -7,6 +7,7 @@ use Rattle.pathspec_glob.specs.Bytes.{slash, is_empty}
 use Rattle.pathspec_glob.specs.Tokens.{Token}
 use Rattle.pathspec_glob.specs.Tokens.Token.{One, Star, Deep}
 use Rattle.pathspec_glob.specs.GlobRelation.{matches, takes_first, some_suffix, takes}
+use Rattle.pathspec_glob.specs.GlobRows.{holds}
 use Rattle.pathspec_glob.specs.GlobSteps.{TokenList, is_wide_at, may_pass_over_at, token_takes}
 
 -- The tokens match from within the first one: a deep token that has been come to before is no longer left out together with its slash.
@@ -15,10 +16,6 @@ matches_within mode case [] text = is_empty text
 matches_within mode case (One single ∷ ts) text = takes_first (takes mode case single) (matches mode case ts) text
 matches_within mode case (Star ∷ ts) text = some_suffix (λ b. not (b == slash)) (matches mode case ts) text
 matches_within mode case (Deep ∷ ts) text = some_suffix (λ b. true) (matches mode case ts) text
-
--- whether a row holds a place
-abbrev pub holds : List Bool → ℕ → Bool
-holds row place = get_or row place false
 
 -- one of two rows holds the first place, and from there the tokens match the text
 abbrev pub accepts_at : Mode → Case → List Token → Bool → Bool → List ℕ → Bool
@@ -70,36 +67,39 @@ window_end held place end = if held then place + 1 else end
 
 -- ---- the same of a set of places
 
--- a place more can be come to than tokens can stay
-abbrev pub IsPaired : Places → Type 0
-IsPaired places = length places.entered.items ≡ length places.staying.items + 1
+-- a place more can be come to than tokens can stay, and there are no more than memory holds
+pub record IsPaired (places : Places) : Type 0 where
+  pub pair : length places.entered ≡ length places.staying + 1
+  pub small : length places.entered < 2 ^ 63
 
 -- the set is made for just so many tokens
 pub record IsMadeFor (tokens : ℕ) (places : Places) : Type 0 where
-  pub staying : length places.staying.items ≡ tokens
-  pub entered : length places.entered.items ≡ tokens + 1
+  pub staying : length places.staying ≡ tokens
+  pub entered : length places.entered ≡ tokens + 1
+  pub small : tokens < 2 ^ 62
 
 -- the set has room for the places of so many tokens
 pub record HasRoom (tokens : ℕ) (places : Places) : Type 0 where
-  pub entered : tokens < length places.entered.items
-  pub staying : tokens ≤ length places.staying.items
+  pub entered : tokens < length places.entered
+  pub staying : tokens ≤ length places.staying
+  pub small : length places.entered < 2 ^ 63
 
 -- the set has the room that it had
 pub record KeepsRoom (old new : Places) : Type 0 where
-  pub entered : length new.entered.items ≡ length old.entered.items
-  pub staying : length new.staying.items ≡ length old.staying.items
+  pub entered : length new.entered ≡ length old.entered
+  pub staying : length new.staying ≡ length old.staying
 
 -- the set holds no place before its first or from its end on
 abbrev pub IsBounded : ℕ → Places → Type 0
-IsBounded tokens places = HoldsWithin tokens places.first places.end places.entered.items places.staying.items
+IsBounded tokens places = HoldsWithin tokens places.first places.end places.entered places.staying
 
 -- the set holds the place
 abbrev pub is_held : Places → ℕ → Bool
-is_held places place = either_holds places.entered.items places.staying.items place
+is_held places place = either_holds places.entered places.staying place
 
 -- from some place of the set, the tokens match the text
 abbrev pub places_accept : TokenList → Case → Places → List ℕ → Bool
-places_accept parts case places text = accepts parts.mode case parts.tokens places.entered.items places.staying.items text
+places_accept parts case places text = accepts parts.mode case parts.tokens places.entered places.staying text
 
 -- the places lead to just what the tokens match
 abbrev pub AcceptsFromStart : TokenList → Places → Type 0
@@ -117,7 +117,7 @@ AcceptsAfterByte parts case old new text =
 
 -- the places that are come to once those that the token at this place leads to without a byte are too
 abbrev pub closure_at : TokenList → ℕ → Places → List Bool
-closure_at parts place places = rows_closure parts.mode parts.tokens place places.entered.items places.staying.items
+closure_at parts place places = rows_closure parts.mode parts.tokens place places.entered places.staying
 
 -- the first byte of the text leads from this place to the next
 abbrev pub moves_on : TokenList → Case → Places → ℕ → List ℕ → Bool
@@ -135,7 +135,7 @@ entered_after parts place arrives places = set (closure_at parts place places) p
 
 abbrev pub staying_after : TokenList → Case → ℕ → List ℕ → Places → List Bool
 staying_after parts case place text places =
-    set places.staying.items place (moves_within parts case places place text)
+    set places.staying place (moves_within parts case places place text)
 
 -- the steps that a place takes on one byte
 abbrev pub steps_at : Places → ℕ → ℕ

@@ -32,7 +32,7 @@ room_for tokens = record { tokens = tokens; steps = 0; total_steps = 0 }
 
 -- the room that a set of places and a count make
 abbrev pub room_of : Places → Steps → Room
-room_of places steps = record { tokens = length places.staying.items; steps = steps.last; total_steps = steps.total }
+room_of places steps = record { tokens = length places.staying; steps = steps.last; total_steps = steps.total }
 
 -- case does not count
 abbrev pub folds : Case → Bool

@@ -6,6 +6,7 @@ pub mod GlobSteps
 pub mod GlobParts
 pub mod GlobCells
 pub mod GlobWords
+pub mod GlobRows
 pub mod GlobPlaces
 pub mod Globs
 pub mod Counts

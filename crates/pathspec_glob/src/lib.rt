@@ -12,6 +12,7 @@ mod matcher;
 mod middle;
 mod places;
 mod reading;
+mod rows;
 mod scratch;
 
 pub use matcher::Glob;

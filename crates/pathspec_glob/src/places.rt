@@ -6,6 +6,7 @@ ghost use Rattle.pathspec_glob.specs.GlobRelation.{matches};
 ghost use Rattle.pathspec_glob.specs.declared.Case.{Case};
 
 use crate::Case;
+use crate::rows::Row;
 use crate::scratch::tokens::{Steps, Tokens};
 use std::alloc::{AllocError, Global};
 
@@ -13,9 +14,9 @@ use std::alloc::{AllocError, Global};
 #[derive(Debug, Drop)]
 pub struct Places {
     /// Whether a place has just been come to. They are one more than the tokens: the last is after them all.
-    entered: Vec<bool>,
+    entered: Row,
     /// Whether a token that takes any number of bytes has taken some, and may take more.
-    staying: Vec<bool>,
+    staying: Row,
     /// No place before this one is held.
     first: usize,
     /// No place from this one on is held.
@@ -30,8 +31,8 @@ impl Places {
     pub fn for_tokens(alloc: Global, tokens: usize) -> Result<Places, AllocError>
         ensures { IfOk result (λ places. IsMadeFor tokens places) }
     {
-        let staying = vec![in alloc; false; tokens]?;
-        let entered = vec![in alloc; false; staying.len() + 1]?;
+        let staying = Row::of_len(alloc, tokens)?;
+        let entered = Row::of_len(alloc, tokens + 1)?;
         Ok(Places {
             entered,
             staying,
@@ -42,7 +43,7 @@ impl Places {
 
     /// For how many tokens it was made.
     pub fn room(&self) -> usize
-        ensures { result ≡ length self.now.staying.items }
+        ensures { result ≡ length self.now.staying }
     {
         self.staying.len()
     }
@@ -76,20 +77,20 @@ impl Places {
         ensures bounds { IsBounded (length tokens.now.tokens) self.new }
         ensures room { KeepsRoom self.old self.new }
     {
-        leave(&mut self.entered, tokens.len() + 1);
-        leave(&mut self.staying, tokens.len());
-        self.entered[0] = true;
+        self.entered.leave(tokens.len() + 1);
+        self.staying.leave(tokens.len());
+        self.entered.put(0, true);
         self.first = 0;
         self.end = 1;
     }
 
     /// Whether the place is come to, or its token stays.
     fn holds(&self, place: usize) -> bool
-        requires entered { place < length self.now.entered.items }
-        requires staying { place < length self.now.staying.items }
+        requires entered { place < length self.now.entered }
+        requires staying { place < length self.now.staying }
         ensures { result ≡ is_held self.now place }
     {
-        self.entered[place] || self.staying[place]
+        self.entered.holds(place) || self.staying.holds(place)
     }
 
     /// Comes to each place that the token at this one leads to without a byte, and says whether this one is held.
@@ -97,17 +98,17 @@ impl Places {
         requires place { place < length tokens.now.tokens }
         requires room { HasRoom (length tokens.now.tokens) self.old }
         ensures inside { result ≡ is_held self.old place }
-        ensures entered { self.new.entered.items ≡ closure_at tokens.now place self.old }
-        ensures staying { self.new.staying.items ≡ self.old.staying.items }
+        ensures entered { self.new.entered ≡ closure_at tokens.now place self.old }
+        ensures staying { self.new.staying ≡ self.old.staying }
         ensures end { self.new.end ≡ closure_end (is_held self.old place) place self.old.end }
     {
-        let entered = self.entered[place];
-        let inside = entered || self.staying[place];
+        let entered = self.entered.holds(place);
+        let inside = entered || self.staying.holds(place);
         if inside && tokens.is_wide(place) {
-            self.entered[place + 1] = true;
+            self.entered.put(place + 1, true);
         }
         if entered && tokens.may_pass_over(place) {
-            self.entered[place + 2] = true;
+            self.entered.put(place + 2, true);
         }
         if inside && self.end < place + 3 {
             self.end = place + 3;
@@ -130,21 +131,21 @@ impl Places {
         requires room { HasRoom (length tokens.now.tokens) self.old }
         requires steps { steps.old.last + 1 < 2 ^ 128 }
         ensures after { result ≡ moves_on tokens.now case self.old place text.now }
-        ensures entered { self.new.entered.items ≡ entered_after tokens.now place arrives self.old }
-        ensures staying { self.new.staying.items
+        ensures entered { self.new.entered ≡ entered_after tokens.now place arrives self.old }
+        ensures staying { self.new.staying
             ≡ staying_after tokens.now case place text.now self.old }
         ensures end { self.new.end ≡ closure_end (is_held self.old place) place self.old.end }
         ensures steps { steps.new.last ≡ steps.old.last + steps_at self.old place }
         ensures counted { KeepsCount steps.old steps.new }
     {
         let inside = self.close(tokens, place);
-        self.entered[place] = arrives;
+        self.entered.put(place, arrives);
         if !inside {
             return false;
         }
         let taken = tokens.test(place, text, case, steps);
         let wide = tokens.is_wide(place);
-        self.staying[place] = taken && wide;
+        self.staying.put(place, taken && wide);
         taken && !wide
     }
 
@@ -175,7 +176,7 @@ impl Places {
             end = window_end(end, place, held);
             place += 1;
         }
-        self.entered[place] = arrives;
+        self.entered.put(place, arrives);
         self.first = first;
         self.end = if arrives { place + 1 } else { end };
         steps.last() > before
@@ -193,7 +194,7 @@ impl Places {
             self.close(tokens, place);
             place += 1;
         }
-        self.entered[tokens.len()]
+        self.entered.holds(tokens.len())
     }
 }
 
@@ -215,22 +216,4 @@ fn window_end(end: usize, place: usize, held: bool) -> usize
     ensures { result ≡ window_end held place end }
 {
     if held { place + 1 } else { end }
-}
-
-/// Leaves the first places of a row.
-fn leave(row: &mut Vec<bool>, places: usize)
-    requires { places ≤ length row.old.items }
-    ensures left { row.new.items ≡ replicate places false ++ drop places row.old.items }
-    ensures len { length row.new.items ≡ length row.old.items }
-{
-    clear(row, places);
-}
-
-/// Makes the first values of a row false.
-fn clear(row: &mut [bool], count: usize)
-    requires { count ≤ length row.old }
-    ensures cleared { row.new ≡ replicate count false ++ drop count row.old }
-    ensures len { length row.new ≡ length row.old }
-{
-    row[..count].fill(false);
 }

@@ -1,7 +1,7 @@
 use Rattle.std.proofs.Common.{◌≡◌, ◌≤◌, ◌+◌, false, arith, length}
 use Rattle.pathspec_glob.specs.Tokens.{tokens}
 use Rattle.pathspec_glob.specs.GlobRelation.{matches}
-use Rattle.pathspec_glob.proofs.AnswerProofs.{glob-answers, glob-answers-tail, no-front, no-end, between-decides, few-steps, all-steps, tail-steps}
+use Rattle.pathspec_glob.proofs.AnswerProofs.{glob-answers, glob-answers-tail, no-front, no-end, between-decides, few-steps, all-steps, steps-fit, tail-steps}
 use Rattle.pathspec_glob.proofs.GlobProofs.{glob_is_relation}
 use Rattle.pathspec_glob.proofs.matcher.Glob.matches.Goals.{In_default, In_default-before_end, After-matches, In-Some-before_end}
 use Rattle.pathspec_glob.proofs.matcher.Glob.matches.Goals as goal
@@ -63,6 +63,12 @@ decided c =
 -- a step for each byte of the head and of the tail
 ends-spent : (c : In-Some-before_end) → c.before_end.new.steps.last + length c.in-Some-before_end.between.now ≡ length c.args.text.now
 ends-spent c = omega (arith, c.in-Some-before_end.ensures.least, c.in-Some.ensures.least, c.begin.ensures.last)
+
+pub matches-requires-clause-steps : goal.matches-requires-clause-steps
+matches-requires-clause-steps c =
+    let parts = c.self.inside in
+    steps-fit parts.head.mode c.args.case parts.pattern.items parts.head parts.middle parts.tail c.self.invariant c.args.text.now c.before_end.new.steps.last (length c.in-Some-before_end.between.now)
+    (ends-spent (goal.at.matches-requires-clause-steps c).In-Some-before_end) (omega (arith, parts.pattern.ok, parts.pattern.small)) (omega arith)
 
 pub returns-clause-answer : goal.returns-clause-answer
 returns-clause-answer c =

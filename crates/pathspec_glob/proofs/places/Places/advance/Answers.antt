@@ -2,7 +2,8 @@ use Rattle.std.proofs.Common.{rules, ◌≡◌, ◌+◌, ◌<◌, ◌≤◌, ℕ
 use Rattle.std.specs.Prelude.{◌⊎◌}
 use Rattle.std.proofs.lemmas.Bool.{ltb-false, or_parts}
 use Rattle.std.proofs.lemmas.List.{length-set, get_or-set_other}
-use Rattle.pathspec_glob.specs.GlobPlaces.{holds, either_holds}
+use Rattle.pathspec_glob.specs.GlobPlaces.{either_holds}
+use Rattle.pathspec_glob.specs.GlobRows.{holds}
 use Rattle.pathspec_glob.specs.GlobSteps.{is_wide_at, tests_at}
 use Rattle.pathspec_glob.proofs.AcceptProofs.{byte-step, none-step, length-rows_closure}
 use Rattle.pathspec_glob.proofs.WindowProofs.{window-accepts, before-none, stopped-come, stopped-accepts, comes-before, comes-after, end-least, first-within, end-within, before-first, left-after}
@@ -31,8 +32,8 @@ loop-place-init c =
     let window = c.requires.bounds in
     let mode = c.args.tokens.now.mode in
     let tokens = c.args.tokens.now.tokens in
-    let entered = c.args.self.now.entered.items in
-    let staying = c.args.self.now.staying.items in
+    let entered = c.args.self.now.entered in
+    let staying = c.args.self.now.staying in
     let first = c.args.self.now.first in
     record {
       accepts = λ b bs is. rw (before-none mode c.args.case first tokens entered staying bs window.before_entered window.before_staying)
@@ -61,13 +62,13 @@ loop-place-preserved c =
     let mode = c.args.tokens.now.mode in
     let tokens = c.args.tokens.now.tokens in
     let case = c.args.case in
-    let entered = c.loop-place.self.entered.items in
-    let staying = c.loop-place.self.staying.items in
+    let entered = c.loop-place.self.entered in
+    let staying = c.loop-place.self.staying in
     let invariant = c.loop-place.invariant in
     let visit = c.visit-arrives.ensures in
     let arrives = c.loop-place.arrives in
-    let come = c.visit-arrives.new.self.entered.items in
-    let matches_within = c.visit-arrives.new.self.staying.items in
+    let come = c.visit-arrives.new.self.entered in
+    let matches_within = c.visit-arrives.new.self.staying in
     let end = c.loop-place.self.end in
     let within : place < length tokens = omega (arith, c.if-place-len.true, c.len.ensures) in
     let longer : length tokens < length entered = omega (arith, c.requires.room.entered, invariant.entered) in
@@ -116,12 +117,12 @@ returns-clause-accepts c = λ b bs is.
     let tokens = c.args.tokens.now in
     let place = c.loop-place.place in
     let invariant = c.loop-place.invariant in
-    let longer : length tokens.tokens < length c.loop-place.self.entered.items = omega (arith, c.requires.room.entered, invariant.entered) in
+    let longer : length tokens.tokens < length c.loop-place.self.entered = omega (arith, c.requires.room.entered, invariant.entered) in
     let stop : (place ≡ length tokens.tokens) ⊎ (c.loop-place.self.end ≤ place) = elim c.loop-place-test.branch [
       | then-loop-place-test+else-place-len w ↦ inl (omega (arith, w.if-place-len.false, w.len.ensures, invariant.within))
       | else-loop-place-test w ↦ inr w.loop-place-test.false
     ] in
-    rw is (stopped-accepts tokens.mode c.args.case place c.loop-place.self.end tokens.tokens c.loop-place.self.entered.items c.loop-place.self.staying.items
+    rw (c.put.ensures, is) (stopped-accepts tokens.mode c.args.case place c.loop-place.self.end tokens.tokens c.loop-place.self.entered c.loop-place.self.staying
     invariant.within stop invariant.after_entered invariant.after_staying c.loop-place.arrives b bs longer ∙ invariant.accepts b bs is)
 
 pub returns-clause-none : goal.returns-clause-none
@@ -129,12 +130,12 @@ returns-clause-none c = λ no rest.
     let tokens = c.args.tokens.now in
     let place = c.loop-place.place in
     let invariant = c.loop-place.invariant in
-    let longer : length tokens.tokens < length c.loop-place.self.entered.items = omega (arith, c.requires.room.entered, invariant.entered) in
+    let longer : length tokens.tokens < length c.loop-place.self.entered = omega (arith, c.requires.room.entered, invariant.entered) in
     let stop : (place ≡ length tokens.tokens) ⊎ (c.loop-place.self.end ≤ place) = elim c.loop-place-test.branch [
       | then-loop-place-test+else-place-len w ↦ inl (omega (arith, w.if-place-len.false, w.len.ensures, invariant.within))
       | else-loop-place-test w ↦ inr w.loop-place-test.false
     ] in
     let same : c.loop-place.steps.last ≡ c.args.steps.now.last =
     omega (arith, ltb-false c.last-before.result c.last.result no, c.last-before.ensures, c.last.ensures, invariant.least) in
-    rw (invariant.none same) (stopped-come tokens.mode c.args.case place c.loop-place.self.end tokens.tokens c.loop-place.self.entered.items c.loop-place.self.staying.items
+    rw (c.put.ensures, invariant.none same) (stopped-come tokens.mode c.args.case place c.loop-place.self.end tokens.tokens c.loop-place.self.entered c.loop-place.self.staying
     invariant.within stop invariant.after_entered invariant.after_staying false rest longer ∙ rw (invariant.nothing same rest) refl)

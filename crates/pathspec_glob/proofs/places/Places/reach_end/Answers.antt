@@ -1,6 +1,6 @@
-use Rattle.std.proofs.Common.{rules, ◌≡◌, ◌<◌, ◌≤◌, false, [], length, sym, ◌∙◌, add-one, arith}
-use Rattle.std.proofs.lemmas.List.{get_or_default}
-use Rattle.pathspec_glob.specs.GlobPlaces.{holds, either_holds}
+use Rattle.std.proofs.Common.{rules, ◌≡◌, ◌<◌, ◌≤◌, [], length, sym, ◌∙◌, add-one, arith}
+use Rattle.pathspec_glob.specs.GlobPlaces.{either_holds}
+use Rattle.pathspec_glob.specs.GlobRows.{holds}
 use Rattle.pathspec_glob.proofs.AcceptProofs.{end-step, end-end, length-rows_closure}
 use Rattle.pathspec_glob.proofs.WindowProofs.{window-accepts, after-none, rows_closure-after, end-least}
 use Rattle.pathspec_glob.proofs.places.Places.reach_end.Goals.{then-loop-place-test+else-place-len, else-loop-place-test}
@@ -10,7 +10,7 @@ pub loop-place-init : goal.loop-place-init
 loop-place-init c =
     let window = c.requires.bounds in
     record {
-      accepts = λ case. window-accepts c.args.tokens.now.mode case c.args.self.now.first c.args.tokens.now.tokens c.args.self.now.entered.items c.args.self.now.staying.items [] window.within window.before_entered window.before_staying;
+      accepts = λ case. window-accepts c.args.tokens.now.mode case c.args.self.now.first c.args.tokens.now.tokens c.args.self.now.entered c.args.self.now.staying [] window.within window.before_entered window.before_staying;
       within = window.within;
       after_entered = window.after_entered;
       after_staying = window.after_staying;
@@ -22,8 +22,8 @@ pub loop-place-preserved : goal.loop-place-preserved
 loop-place-preserved c =
     let place = c.loop-place.place in
     let tokens = c.args.tokens.now in
-    let entered = c.loop-place.self.entered.items in
-    let staying = c.loop-place.self.staying.items in
+    let entered = c.loop-place.self.entered in
+    let staying = c.loop-place.self.staying in
     let invariant = c.loop-place.invariant in
     let within : place < length tokens.tokens = omega (arith, c.if-place-len.true, c.len.ensures) in
     let longer : length tokens.tokens < length entered = omega (arith, c.requires.room.entered, invariant.entered) in
@@ -44,12 +44,12 @@ loop-place-preserved c =
 pub returns-clause-accepts : goal.returns-clause-accepts
 returns-clause-accepts c = λ case.
     let tokens = c.args.tokens.now in
-    let entered = c.loop-place.self.entered.items in
-    let staying = c.loop-place.self.staying.items in
+    let entered = c.loop-place.self.entered in
+    let staying = c.loop-place.self.staying in
     let invariant = c.loop-place.invariant in
     let n = length tokens.tokens in
     let longer : n < length entered = omega (arith, c.requires.room.entered, invariant.entered) in
-    let there : c.index.result.now ≡ holds entered n = (rw c.len-2.ensures at c.index.ensures) ∙ get_or_default entered n c.index.result.now false longer in
+    let there : c.holds.result ≡ holds entered n = rw c.len-2.ensures at c.holds.ensures in
     elim c.loop-place-test.branch [
       | then-loop-place-test+else-place-len w ↦
           let all : c.loop-place.place ≡ n = omega (arith, w.if-place-len.false, w.len.ensures, invariant.within) in

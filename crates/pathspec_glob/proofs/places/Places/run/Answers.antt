@@ -30,7 +30,7 @@ loop-position-preserved c =
     let next : drop position text ≡ get_or text position 0 ∷ drop (position + 1) text = drop_more text position 0 c.loop-position-test.true in
     let advance = c.if-not-advance.ensures in
     let invariant = c.loop-position.invariant in
-    let before = accepts c.args.tokens.now.mode c.args.case c.args.tokens.now.tokens c.loop-position.self.entered.items c.loop-position.self.staying.items in
+    let before = accepts c.args.tokens.now.mode c.args.case c.args.tokens.now.tokens c.loop-position.self.entered c.loop-position.self.staying in
     let rest = take_rest text position in
     let tested = advance.tested refl in
     record {
@@ -49,7 +49,7 @@ no-match c =
     let text = c.args.text.now in
     let next : drop position text ≡ get_or text position 0 ∷ drop (position + 1) text = drop_more text position 0 c.loop-position-test.true in
     let advance = c.if-not-advance.ensures in
-    let before = accepts c.args.tokens.now.mode c.args.case c.args.tokens.now.tokens c.loop-position.self.entered.items c.loop-position.self.staying.items in
+    let before = accepts c.args.tokens.now.mode c.args.case c.args.tokens.now.tokens c.loop-position.self.entered c.loop-position.self.staying in
     let rest = take_rest text position in
     sym (advance.none refl (drop (position + 1) text)) ∙ advance.accepts (get_or text position 0) (drop (position + 1) text) (rest ∙ next) ∙ ap before rest ∙ c.loop-position.invariant.accepts
 

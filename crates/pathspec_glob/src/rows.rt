@@ -1,0 +1,98 @@
+//! Rows of truth values, one bit each.
+ghost use Rattle.std.specs.Prelude.{◌≡◌, ℕ, ◌<◌, ◌≤◌, ◌==◌, if◌then◌else◌, ◌^◌, IfOk, OnOk, length, take, set, replicate, drop, false, ◌++◌};
+ghost use Rattle.pathspec_glob.specs.GlobCells.{has};
+ghost use Rattle.pathspec_glob.specs.GlobRows.{holds};
+
+use std::alloc::{AllocError, Global};
+use std::marker::Model;
+
+/// A row of truth values in words.
+#[derive(Debug, Drop)]
+pub struct Row {
+    words: Vec<u64>,
+    /// How many values it has.
+    len: usize,
+}
+
+impl Model for Row {
+    ghost use Rattle.std.specs.Prelude.{◌≡◌, ◌+◌, ◌/◌, List, Bool, vec_len};
+    ghost use Rattle.pathspec_glob.specs.GlobRows.{row_of};
+
+    ghost Value = { List Bool };
+
+    ghost view = { λ r. row_of r.words.items r.len };
+
+    ghost invariant = { λ r. vec_len r.words ≡ r.len / 64 + 1 };
+}
+
+impl Row {
+    /// So many values, all false.
+    ///
+    /// # Errors
+    /// Memory runs out, or no memory holds so many.
+    pub fn of_len(alloc: Global, len: usize) -> Result<Row, AllocError>
+        ensures row { IfOk result (λ row. row ≡ replicate len false) }
+        ensures small { OnOk result (len < 2 ^ 62) }
+    {
+        if len >= 1 << 62 {
+            return Err(AllocError);
+        }
+        Ok(Row {
+            words: vec![in alloc; 0u64; len / 64 + 1]?,
+            len,
+        })
+    }
+
+    /// How many values it has.
+    pub fn len(&self) -> usize
+        ensures { result ≡ length self.now }
+    {
+        self.len
+    }
+
+    /// The value at a place.
+    pub fn holds(&self, place: usize) -> bool
+        requires { place < length self.now }
+        ensures { result ≡ holds self.now place }
+    {
+        (self.words[place / 64] >> (place % 64)) & 1 == 1
+    }
+
+    /// Sets the value at a place.
+    pub fn put(&mut self, place: usize, value: bool)
+        requires { place < length self.old }
+        ensures { self.new ≡ set self.old place value }
+    {
+        let word = with_bit(self.words[place / 64], place % 64, value);
+        self.words[place / 64] = word;
+    }
+
+    /// Makes the first values false, and it may be others behind them.
+    pub fn leave(&mut self, count: usize)
+        requires { count ≤ length self.old }
+        ensures left { take count self.new ≡ replicate count false }
+        ensures len { length self.new ≡ length self.old }
+    {
+        clear(&mut self.words, count / 64 + 1);
+    }
+}
+
+/// A word with this bit set or not.
+fn with_bit(word: u64, place: usize, value: bool) -> u64
+    requires { place < 64 }
+    ensures { (i : ℕ) → i < 64 → has result i ≡ (if i == place then value else has word i) }
+{
+    if value {
+        word | (1 << place)
+    } else {
+        word & !(1 << place)
+    }
+}
+
+/// Makes the first words 0.
+fn clear(words: &mut [u64], count: usize)
+    requires { count ≤ length words.old }
+    ensures { words.new ≡ replicate count 0 ++ drop count words.old }
+{
+    words[..count].fill(0);
+}
