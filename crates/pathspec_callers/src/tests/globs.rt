@@ -488,3 +488,81 @@ fn the_first_wildcard_is_found(rt: HostRuntime) -> Result<(), Fail> {
     ];
     assert_each(&rt, rt.alloc(), ROWS)
 }
+
+/// Asserts that a glob of so many bytes between two stars takes a text with as many side by side, and none with fewer.
+fn assert_between(rt: &impl Abort, alloc: Global, count: usize) -> Result<(), AllocError> {
+    let bytes = "a".repeat(alloc, count)?;
+    let fewer = "a".repeat(alloc, count.saturating_sub(1))?;
+    let pattern = format!(in alloc; "*{bytes}*")?;
+    let text = format!(in alloc; "b{fewer}b{bytes}b")?;
+    let shorter = format!(in alloc; "b{fewer}b{fewer}b")?;
+    assert_row(rt, alloc, &pattern, &bytes, true)?;
+    assert_row(rt, alloc, &pattern, &text, true)?;
+    assert_row(rt, alloc, &pattern, &shorter, false)
+}
+
+#[test]
+fn long_globs_between_stars_take_each_byte(rt: HostRuntime) -> Result<(), AllocError> {
+    const COUNTS: &[usize] = &[1, 63, 64, 65, 127, 128, 129];
+    for count in COUNTS {
+        assert_between(&rt, rt.alloc(), *count)?;
+    }
+    Ok(())
+}
+
+#[test]
+fn deep_stands_for_nothing_only_where_it_is_come_to(rt: HostRuntime) -> Result<(), AllocError> {
+    const ROWS: &[(&str, &str, bool)] = &[
+        ("**/**/x", "x", true),
+        ("**/**/x", "a/x", true),
+        ("**/**/x", "a/b/c/x", true),
+        ("**/**/x", "ax", false),
+        ("**/**/x", "a/bx", false),
+        ("**/x", "ax", false),
+        ("**/x*", "ax", false),
+        ("**/x*", "a/xb", true),
+        ("a/**/b", "a/xb", false),
+        ("a/**/b*c", "a/bc", true),
+        ("a/**/b*c", "a/xbc", false),
+        ("*a*", "b/a", false),
+        ("**/*a*/**", "b/cad/e", true),
+        ("**/*a*/**", "b/c/e", false),
+    ];
+    assert_rows(&rt, rt.alloc(), PathAware, Sensitive, ROWS)
+}
+
+#[test]
+fn brackets_between_stars_go_by_case(rt: HostRuntime) -> Result<(), AllocError> {
+    const EXACT: &[(&str, &str, bool)] = &[
+        ("*[b-d]*", "xcx", true),
+        ("*[b-d]*", "xCx", false),
+        ("*[!b-d]*", "bcd", false),
+        ("*[!b-d]*", "bCd", true),
+        ("*B*", "abc", false),
+    ];
+    const FOLDED: &[(&str, &str, bool)] = &[
+        ("*[b-d]*", "xCx", true),
+        ("*[B-D]*", "xcx", true),
+        ("*[!b-d]*", "bCd", false),
+        ("*B*", "abc", true),
+        ("*b*", "ABC", true),
+    ];
+    assert_rows(&rt, rt.alloc(), Shell, Sensitive, EXACT)?;
+    assert_rows(&rt, rt.alloc(), Shell, Fold, FOLDED)
+}
+
+#[test]
+fn an_empty_text_is_taken_by_stars_alone(rt: HostRuntime) -> Result<(), AllocError> {
+    const ROWS: &[(&str, &str, bool)] = &[
+        ("", "", true),
+        ("*", "", true),
+        ("**", "", true),
+        ("**/**", "", true),
+        ("*a*", "", false),
+        ("?*", "", false),
+        ("*?", "", false),
+        ("**/", "", true),
+        ("a", "", false),
+    ];
+    assert_rows(&rt, rt.alloc(), PathAware, Sensitive, ROWS)
+}
