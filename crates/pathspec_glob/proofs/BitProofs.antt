@@ -1,10 +1,14 @@
 -- The places that a number holds.
-use Rattle.std.proofs.Common.{◌≡◌, ℕ, zero, suc, ◌*◌, ◌/◌, ◌%◌, ◌^◌, ◌<◌, true, false, ◌&&◌, ◌||◌, refl, sym, ◌∙◌, ap, arith, ◌==◌, min, max}
+use Rattle.std.proofs.Common.{◌≡◌, ℕ, zero, suc, ◌+◌, ◌*◌, ◌/◌, ◌%◌, ◌^◌, ◌<◌, true, false, ◌&&◌, ◌||◌, refl, sym, ◌∙◌, ap, arith, ◌==◌, min, max, inl, inr, w64}
 use Rattle.std.proofs.Math.Bool.{or-false}
+use Rattle.std.proofs.Math.Nat.{div-div-eq-div-mul}
+use Rattle.std.proofs.lemmas.Nat.{pow-add}
+use Rattle.std.proofs.lemmas.Bool.{cases_eq}
+use Rattle.std.specs.Int.Count.{count_trailing_zeros}
 use Rattle.std.specs.Int.{bit_at}
 use Rattle.std.specs.Int.Bits.{bit_and}
 use Rattle.std.specs.Int.RustNames.{bit_or}
-use Rattle.std.proofs.lemmas.Nat.Bits.{bit_at_and, bit_at_or, bit_at-lt, bit_at-suc, bit_at_lowest, bit_at-zero, bit_at_cat_low}
+use Rattle.std.proofs.lemmas.Nat.Bits.{bit_at-trailing_zeros, bit_at_and, bit_at_or, bit_at-lt, bit_at-suc, bit_at_lowest, bit_at-zero, bit_at_cat_low}
 use Rattle.std.proofs.lemmas.Nat.{shl-shr, shr_split}
 use Rattle.pathspec_glob.specs.GlobCells.{has, further, with_first}
 
@@ -69,3 +73,14 @@ pub apart : (n : ℕ) → bit_and n (n / 2) ≡ 0 → (i : ℕ) → (has n i && 
 apart n none i =
     let next : has (n / 2) i ≡ has n (suc i) = ap (λ x. x == 1) (sym (bit_at-suc n i)) in
     rw (sym next) (sym (has-and n (n / 2) i) ∙ rw none (has-zero i))
+
+-- a word from a bit on
+pub has-shr : (n k i : ℕ) → has (n / 2 ^ k) i ≡ has n (k + i)
+has-shr n k i = ap (λ x. x % 2 == 1) (div-div-eq-div-mul n (2 ^ k) (2 ^ i) ∙ ap (λ d. n / d) (sym (pow-add 2 k i)))
+
+-- no bit stands below the lowest
+pub below-lowest : (n i : ℕ) → n < 2 ^ 64 → i < count_trailing_zeros 64 n → has n i ≡ false
+below-lowest n i fits h = elim (cases_eq n 0) [
+  | inl e ↦ rw e (has-zero i)
+  | inr d ↦ ap (λ x. x == 1) ((bit_at-trailing_zeros w64 n (omega arith) fits).2 i h)
+]

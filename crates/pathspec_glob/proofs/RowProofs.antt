@@ -1,14 +1,15 @@
 -- Rows of words.
-use Rattle.std.proofs.Common.{◌≡◌, ℕ, ◌+◌, ◌-◌, ◌*◌, ◌/◌, ◌%◌, ◌^◌, ◌<◌, ◌≤◌, Bool, true, false, refl, sym, ◌∙◌, ap, arith, List, length, get_or, set, take, drop, replicate, ◌++◌, ◌==◌, inl, inr, if◌then◌else◌, bit_and, bit_or}
+use Rattle.std.proofs.Common.{◌≡◌, ℕ, ◌+◌, ◌-◌, ◌*◌, ◌/◌, ◌%◌, ◌^◌, ◌<◌, ◌≤◌, Bool, true, false, refl, sym, ◌∙◌, ap, arith, List, length, get_or, set, take, drop, replicate, ◌++◌, ◌==◌, ◌||◌, min, inl, inr, if◌then◌else◌, bit_and, bit_or}
 use Rattle.std.proofs.Common.{w64}
-use Rattle.std.proofs.lemmas.Bool.{cases_eq, eq-eqb, ne_eqb}
-use Rattle.std.proofs.lemmas.List.{same_lists, length-set, get_or-set_same, get_or-set_other, get_or-take, length-take-le, get_or_append_left, get_or-replicate, length-replicate}
+use Rattle.std.proofs.lemmas.Bool.{cases_eq, cases_lt, eq-eqb, ne_eqb, or_parts, or_from}
+use Rattle.std.proofs.lemmas.List.{same_lists, length-set, get_or-set_same, get_or-set_other, get_or-take, length-take-le, get_or_append_left, get_or-replicate, length-replicate, get_or_past}
 use Rattle.std.proofs.lemmas.List.FromFn.{length-map-range_with_len, get_or-map-range_with_len}
-use Rattle.std.proofs.lemmas.Nat.{div-add-mod', mod_below, div_below}
+use Rattle.std.proofs.lemmas.Nat.{div-add-mod', mod_below, div_below, or_lt}
+use Rattle.std.specs.Int.Count.{count_trailing_zeros}
 use Rattle.std.proofs.lemmas.Nat.Bits.{bit_at_set_same, bit_at_set_other, bit_at_clear_same, bit_at_clear_other}
 use Rattle.pathspec_glob.specs.GlobCells.{has}
 use Rattle.pathspec_glob.specs.GlobRows.{holds, words_hold, row_of}
-use Rattle.pathspec_glob.proofs.BitProofs.{has-zero}
+use Rattle.pathspec_glob.proofs.BitProofs.{has-zero, has-or, has-shr, below-lowest}
 
 pub put-true : (n k i : ℕ) → k < 64 → i < 64 → has (bit_or n (1 * 2 ^ k % 18446744073709551616)) i ≡ (if i == k then true else has n i)
 put-true n k i h g = elim (cases_eq i k) [
@@ -96,3 +97,30 @@ row_of-none places =
     get_or-map-range_with_len (words_hold words) 0 places k k d low (omega arith)
     ∙ none-held words k (get_or-replicate (places / 64 + 1) (k / 64) 0 0 at)
     ∙ sym (get_or-replicate places k false d low))
+
+-- the values of a row from a place on
+pub row_of-from : (words : List ℕ) (places place i word : ℕ) → word ≡ get_or words (place / 64) 0 → place % 64 + i < 64 → place + i < places
+    → has (word / 2 ^ (place % 64)) i ≡ holds (row_of words places) (place + i)
+row_of-from words places place i word is low within =
+    let whole : (place + i) / 64 ≡ place / 64 = omega arith in
+    let part : (place + i) % 64 ≡ place % 64 + i = omega arith in
+    has-shr word (place % 64) i ∙ sym (row_of-holds words places (place + i) within ∙ rw (whole, part, is) refl)
+
+-- no value before the lowest bit of two rows' words is true
+pub none-before : (E S : List Bool) (place entered staying from : ℕ) → entered < 2 ^ 64 → staying < 2 ^ 64
+    → ((i : ℕ) → place % 64 + i < 64 → place + i < length E → has entered i ≡ holds E (place + i)) → ((i : ℕ) → place % 64 + i < 64 → place + i < length S → has staying i ≡ holds S (place + i))
+    → from ≡ min (count_trailing_zeros 64 (bit_or entered staying)) (64 - place % 64)
+    → (i : ℕ) → place ≤ i → i < place + from → (holds E i || holds S i) ≡ false
+none-before E S place entered staying from e s es ss is i least most =
+    let j = i - place in
+    let there : place + j ≡ i = omega arith in
+    let low : j < count_trailing_zeros 64 (bit_or entered staying) = omega arith in
+    let word : place % 64 + j < 64 = omega arith in
+    let off = or_parts (has entered j) (has staying j) (sym (has-or entered staying j) ∙ below-lowest (bit_or entered staying) j (or_lt 64 entered staying e s) low) in
+    or_from (holds E i) (holds S i) (off-there E j entered there (es j word) off.0) (off-there S j staying there (ss j word) off.1)
+  where
+    off-there : (row : List Bool) (j word : ℕ) → place + j ≡ i → (place + j < length row → has word j ≡ holds row (place + j)) → has word j ≡ false → holds row i ≡ false
+    off-there row j word there holds_are off = elim (cases_lt i (length row)) [
+      | inl l ↦ rw (sym there) (sym (holds_are (omega arith)) ∙ off)
+      | inr g ↦ get_or_past row i false g
+    ]

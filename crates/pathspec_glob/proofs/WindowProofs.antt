@@ -1,5 +1,5 @@
 -- Places that are held within a window lead to what all places lead to.
-use Rattle.std.proofs.Common.{◌≡◌, ℕ, zero, suc, ◌+◌, ◌<◌, ◌≤◌, Bool, true, false, ◌&&◌, ◌||◌, inl, inr, refl, sym, ◌∙◌, ap, arith, List, [], ◌∷◌, ◌++◌, replicate, length, set, drop, ◌==◌}
+use Rattle.std.proofs.Common.{◌≡◌, ℕ, zero, suc, ◌+◌, ◌-◌, ◌<◌, ◌≤◌, Bool, true, false, ◌&&◌, ◌||◌, inl, inr, refl, sym, ◌∙◌, ap, arith, List, [], ◌∷◌, ◌++◌, replicate, length, set, drop, ◌==◌}
 use Rattle.std.specs.Prelude.{◌⊎◌}
 use Rattle.std.proofs.lemmas.Bool.{cases_Bool, cases_lt, lt-ltb, le-ltb, or_parts, eqb-true}
 use Rattle.std.proofs.Math.Bool.{or-false, and-false}
@@ -185,3 +185,44 @@ left-after false place end row left there i g h = elim (cases_lt i place) [
   | inl l ↦ left i g l
   | inr k ↦ let this : i ≡ place = omega arith in rw this (there refl)
 ]
+
+-- ---- places that are gone over
+
+module _ (mode : Mode) (case : Case) (ts : List Token) (E S : List Bool) where
+  -- a place that isn't held
+  over-one : (n : ℕ) (b : ℕ) (bs : List ℕ) → n < length ts → holds E n ≡ false → holds S n ≡ false → goes_on mode case n ts E S false b bs ≡ goes_on mode case (suc n) ts E S false b bs
+  over-one n b bs h e s =
+      rw (accepts-from mode case n ts E S (b ∷ bs) h, e, s) (ap (λ x. x || accepts mode case (drop (suc n) ts) (drop (suc n) E) (drop (suc n) S) (b ∷ bs)) (sym (or-false (accepts_before mode case n ts E S bs || false))))
+
+  before-one : (n : ℕ) (text : List ℕ) → holds E n ≡ false → holds S n ≡ false → accepts_before mode case (suc n) ts E S text ≡ accepts_before mode case n ts E S text
+  before-one n text e s = rw (e, s) (or-false (accepts_before mode case n ts E S text))
+
+  over-more : (d n : ℕ) (b : ℕ) (bs : List ℕ) → n + d ≤ length ts → ((i : ℕ) → n ≤ i → i < n + d → (holds E i || holds S i) ≡ false)
+      → goes_on mode case n ts E S false b bs ≡ goes_on mode case (n + d) ts E S false b bs
+  over-more zero n b bs h none = let same : n + zero ≡ n = omega arith in rw same refl
+  over-more (suc d) n b bs h none =
+      let here = or_parts (holds E n) (holds S n) (none n (omega arith) (omega arith)) in
+      let more : suc n + d ≡ n + suc d = omega arith in
+      over-one n b bs (omega arith) here.0 here.1 ∙ over-more d (suc n) b bs (omega arith) (λ i f g. none i (omega arith) (omega arith)) ∙ ap (λ k. goes_on mode case k ts E S false b bs) more
+
+  before-more : (d n : ℕ) (text : List ℕ) → ((i : ℕ) → n ≤ i → i < n + d → (holds E i || holds S i) ≡ false)
+      → accepts_before mode case (n + d) ts E S text ≡ accepts_before mode case n ts E S text
+  before-more zero n text none = let same : n + zero ≡ n = omega arith in rw same refl
+  before-more (suc d) n text none =
+      let here = or_parts (holds E n) (holds S n) (none n (omega arith) (omega arith)) in
+      let more : n + suc d ≡ suc n + d = omega arith in
+      ap (λ k. accepts_before mode case k ts E S text) more ∙ before-more d (suc n) text (λ i f g. none i (omega arith) (omega arith)) ∙ before-one n text here.0 here.1
+
+  -- Where nothing arrives, places that aren't held may be gone over.
+  pub goes-over : (n m : ℕ) (arrives : Bool) (b : ℕ) (bs : List ℕ) → n ≤ m → m ≤ length ts → (arrives ≡ true → m ≡ n) → ((i : ℕ) → n ≤ i → i < m → (holds E i || holds S i) ≡ false)
+      → goes_on mode case n ts E S arrives b bs ≡ goes_on mode case m ts E S arrives b bs
+  goes-over n m true b bs from within next none = rw (next refl) refl
+  goes-over n m false b bs from within next none =
+      let d : n + (m - n) ≡ m = omega arith in
+      over-more (m - n) n b bs (omega arith) (λ i f g. none i f (omega arith)) ∙ ap (λ k. goes_on mode case k ts E S false b bs) d
+
+  pub before-over : (n m : ℕ) (text : List ℕ) → n ≤ m → ((i : ℕ) → n ≤ i → i < m → (holds E i || holds S i) ≡ false)
+      → accepts_before mode case m ts E S text ≡ accepts_before mode case n ts E S text
+  before-over n m text from none =
+      let d : m ≡ n + (m - n) = omega arith in
+      ap (λ k. accepts_before mode case k ts E S text) d ∙ before-more (m - n) n text (λ i f g. none i f (omega arith))

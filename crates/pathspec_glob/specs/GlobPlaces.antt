@@ -97,6 +97,10 @@ IsBounded tokens places = HoldsWithin tokens places.first places.end places.ente
 abbrev pub is_held : Places → ℕ → Bool
 is_held places place = either_holds places.entered places.staying place
 
+-- no place from one up to another is held
+abbrev pub IsUnheld : Places → ℕ → ℕ → Type 0
+IsUnheld places from end = (i : ℕ) → from ≤ i → i < end → is_held places i ≡ false
+
 -- from some place of the set, the tokens match the text
 abbrev pub places_accept : TokenList → Case → Places → List ℕ → Bool
 places_accept parts case places text = accepts parts.mode case parts.tokens places.entered places.staying text

@@ -1,7 +1,7 @@
 //! The places in a glob that the front of a text leads to.
 ghost use Rattle.std.specs.Prelude.{[], false, IsTrue, IsFalse, ◌≡◌, ◌≤◌, ◌<◌, ◌+◌, ◌*◌, ◌^◌, IfOk, length, drop, replicate, ◌++◌};
 ghost use Rattle.pathspec_glob.specs.Counts.{KeepsCount};
-ghost use Rattle.pathspec_glob.specs.GlobPlaces.{closure_at, closure_end, window_end, entered_after, window_start, HasRoom, is_held, IsBounded, IsMadeFor, KeepsRoom, AcceptsFromStart, AcceptsNothing, AcceptsAfterByte, moves_on, places_accept, staying_after, steps_at};
+ghost use Rattle.pathspec_glob.specs.GlobPlaces.{closure_at, closure_end, window_end, entered_after, window_start, HasRoom, is_held, IsBounded, IsMadeFor, IsUnheld, KeepsRoom, AcceptsFromStart, AcceptsNothing, AcceptsAfterByte, moves_on, places_accept, staying_after, steps_at};
 ghost use Rattle.pathspec_glob.specs.GlobRelation.{matches};
 ghost use Rattle.pathspec_glob.specs.declared.Case.{Case};
 
@@ -149,9 +149,39 @@ impl Places {
         taken && !wide
     }
 
+    /// The place to go on to behind one of so many tokens: the next where `arrives` is true, and else the next that is held,
+    /// or at which a word begins.
+    fn behind(&self, place: usize, arrives: bool, tokens: usize) -> usize
+        requires place { place < tokens }
+        requires room { HasRoom tokens self.now }
+        ensures from { place + 1 ≤ result }
+        ensures within { result ≤ tokens }
+        ensures next { IsTrue arrives → result ≡ place + 1 }
+        ensures none { IsUnheld self.now (place + 1) result }
+    {
+        let next = place + 1;
+        if arrives || next == tokens {
+            return next;
+        }
+        self.held_from(next).min(tokens)
+    }
+
+    /// The first place from this one on that is held, or at which a word begins.
+    fn held_from(&self, place: usize) -> usize
+        requires staying { place < length self.now.staying }
+        requires entered { place < length self.now.entered }
+        requires small { length self.now.entered < 2 ^ 63 }
+        ensures from { place ≤ result }
+        ensures none { IsUnheld self.now place result }
+    {
+        let word = self.entered.from(place) | self.staying.from(place);
+        place + (word.trailing_zeros() as usize).min(64 - place % 64)
+    }
+
     /// Goes on by the first byte of a text, and says whether a token was tested. Where none was, no place is held.
     ///
-    /// It tests each token at most once, and looks at no place before the first that is held or after the last.
+    /// It tests each token at most once. It looks at no place before the first that is held or after the last, and of those
+    /// between that aren't held only at the first of each word.
     fn advance(&mut self, tokens: &Tokens, text: &[u8], case: Case, steps: &mut Steps) -> bool
         requires room { HasRoom (length tokens.now.tokens) self.old }
         requires bounds { IsBounded (length tokens.now.tokens) self.old }
@@ -174,7 +204,7 @@ impl Places {
             let held = self.holds(place);
             first = window_start(first, place, held);
             end = window_end(end, place, held);
-            place += 1;
+            place = self.behind(place, arrives, tokens.len());
         }
         self.entered.put(place, arrives);
         self.first = first;

@@ -1,5 +1,5 @@
 //! Rows of truth values, one bit each.
-ghost use Rattle.std.specs.Prelude.{◌≡◌, ℕ, ◌<◌, ◌≤◌, ◌==◌, if◌then◌else◌, ◌^◌, IfOk, OnOk, length, take, set, replicate, drop, false, ◌++◌};
+ghost use Rattle.std.specs.Prelude.{◌≡◌, ℕ, ◌<◌, ◌+◌, ◌%◌, ◌≤◌, ◌==◌, if◌then◌else◌, ◌^◌, IfOk, OnOk, length, take, set, replicate, drop, false, ◌++◌};
 ghost use Rattle.pathspec_glob.specs.GlobCells.{has};
 ghost use Rattle.pathspec_glob.specs.GlobRows.{holds};
 
@@ -56,6 +56,15 @@ impl Row {
         ensures { result ≡ holds self.now place }
     {
         (self.words[place / 64] >> (place % 64)) & 1 == 1
+    }
+
+    /// The values from a place on, as bits, as far as they stand in one word.
+    pub fn from(&self, place: usize) -> u64
+        requires { place < length self.now }
+        ensures { (i : ℕ) → place % 64 + i < 64 → place + i < length self.now
+            → has result i ≡ holds self.now (place + i) }
+    {
+        self.words[place / 64] >> (place % 64)
     }
 
     /// Sets the value at a place.

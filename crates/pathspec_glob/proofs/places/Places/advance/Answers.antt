@@ -1,12 +1,12 @@
 use Rattle.std.proofs.Common.{rules, ◌≡◌, ◌+◌, ◌<◌, ◌≤◌, ℕ, Bool, true, false, ◌&&◌, ◌∷◌, length, drop, sym, ◌∙◌, inl, inr, add-one, arith, refl, if◌then◌else◌}
 use Rattle.std.specs.Prelude.{◌⊎◌}
-use Rattle.std.proofs.lemmas.Bool.{ltb-false, or_parts}
+use Rattle.std.proofs.lemmas.Bool.{cases_lt, ltb-false, or_parts}
 use Rattle.std.proofs.lemmas.List.{length-set, get_or-set_other}
 use Rattle.pathspec_glob.specs.GlobPlaces.{either_holds}
 use Rattle.pathspec_glob.specs.GlobRows.{holds}
 use Rattle.pathspec_glob.specs.GlobSteps.{is_wide_at, tests_at}
 use Rattle.pathspec_glob.proofs.AcceptProofs.{byte-step, none-step, length-rows_closure}
-use Rattle.pathspec_glob.proofs.WindowProofs.{window-accepts, before-none, stopped-come, stopped-accepts, comes-before, comes-after, end-least, first-within, end-within, before-first, left-after}
+use Rattle.pathspec_glob.proofs.WindowProofs.{window-accepts, before-none, stopped-come, stopped-accepts, comes-before, comes-after, end-least, first-within, end-within, before-first, left-after, goes-over, before-over}
 use Rattle.pathspec_glob.proofs.places.Places.advance.Goals.{then-loop-place-test+else-place-len, else-loop-place-test}
 use Rattle.pathspec_glob.proofs.places.Places.advance.Goals as goal
 
@@ -78,30 +78,43 @@ loop-place-preserved c =
     let held = c.holds-held.result in
     let off : held ≡ false → (holds come place ≡ false) × (holds matches_within place ≡ false) = λ n. or_parts (holds come place) (holds matches_within place) (sym c.holds-held.ensures ∙ n) in
     let least_end = end-least inside place end in
+    let next = c.behind-place.result in
+    let over = c.behind-place.ensures in
+    -- the rows up to the next place that is gone to
+    let come_over : (i : ℕ) → place + 1 ≤ i → i < next → holds come i ≡ false = λ i f g. (or_parts (holds come i) (holds matches_within i) (over.none i f g)).0 in
+    let staying_over : (i : ℕ) → place + 1 ≤ i → i < next → holds matches_within i ≡ false = λ i f g. (or_parts (holds come i) (holds matches_within i) (over.none i f g)).1 in
     record {
-      accepts = λ b bs is. rw (add-one place, visit.entered, visit.staying, visit.after, is)
+      accepts = λ b bs is. sym (goes-over mode case tokens come matches_within (place + 1) next c.visit-arrives.result b bs over.from (rw c.len-in-loop-place.ensures at over.within) over.next over.none)
+          ∙ rw (add-one place, visit.entered, visit.staying, visit.after, is)
           (sym (byte-step mode case place tokens entered staying arrives b bs within longer long) ∙ invariant.accepts b bs is);
       none = λ same. let off = not_raised inside _ _ _ visit.steps invariant.least same in rw (visit.after, off) refl;
       nothing = λ same rest.
           let off = not_raised inside _ _ _ visit.steps invariant.least same in
           let before = as_before inside _ _ _ visit.steps invariant.least same in
           let quiet : stay ≡ false = rw off refl in
-          rw (add-one place, visit.entered, visit.staying, invariant.none before)
+          before-over mode case tokens come matches_within (place + 1) next rest over.from over.none
+          ∙ rw (add-one place, visit.entered, visit.staying, invariant.none before)
           (none-step mode case place tokens entered staying stay rest within longer long quiet (invariant.nothing before rest));
       least = raised_least inside _ _ _ visit.steps invariant.least;
-      most = let more = raised_most inside _ _ _ visit.steps invariant.most in omega arith;
+      most = let more = raised_most inside _ _ _ visit.steps invariant.most in omega (arith, more, over.from);
       counted = λ before was. visit.counted before (invariant.counted before was);
-      within = omega arith;
-      first = rw c.window_start-first.ensures (first-within held place c.loop-place.first invariant.first);
-      end = rw c.window_end-end.ensures (end-within held place c.loop-place.end invariant.end);
+      within = omega (arith, over.within, c.len-in-loop-place.ensures);
+      first = let one = rw (sym c.window_start-first.ensures) at (first-within held place c.loop-place.first invariant.first) in omega (arith, one, over.from);
+      end = let one = rw (sym c.window_end-end.ensures) at (end-within held place c.loop-place.end invariant.end) in omega (arith, one, over.from);
       before_entered = λ i h. before-first held place c.loop-place.first come
           (λ j k. rw visit.entered (comes-before mode tokens place j entered staying arrives (omega (arith, k, invariant.first)) ∙ invariant.before_entered j k)) (λ n. (off n).0) i (rw c.window_start-first.ensures at h);
       before_staying = λ i h. before-first held place c.loop-place.first matches_within
           (λ j k. rw visit.staying (get_or-set_other staying place j stay false (λ e. omega (arith, k, invariant.first, e)) ∙ invariant.before_staying j k)) (λ n. (off n).1) i (rw c.window_start-first.ensures at h);
-      left_entered = λ i g h. left-after held place c.loop-place.end come
-          (λ j k l. rw visit.entered (comes-before mode tokens place j entered staying arrives l ∙ invariant.left_entered j k l)) (λ n. (off n).0) i (rw c.window_end-end.ensures at g) h;
-      left_staying = λ i g h. left-after held place c.loop-place.end matches_within
-          (λ j k l. rw visit.staying (get_or-set_other staying place j stay false (λ e. omega (arith, l, e)) ∙ invariant.left_staying j k l)) (λ n. (off n).1) i (rw c.window_end-end.ensures at g) h;
+      left_entered = λ i g h. elim (cases_lt i (place + 1)) [
+        | inr f ↦ come_over i f h
+        | inl b ↦ left-after held place c.loop-place.end come
+            (λ j k l. rw visit.entered (comes-before mode tokens place j entered staying arrives l ∙ invariant.left_entered j k l)) (λ n. (off n).0) i (rw c.window_end-end.ensures at g) b
+      ];
+      left_staying = λ i g h. elim (cases_lt i (place + 1)) [
+        | inr f ↦ staying_over i f h
+        | inl b ↦ left-after held place c.loop-place.end matches_within
+            (λ j k l. rw visit.staying (get_or-set_other staying place j stay false (λ e. omega (arith, l, e)) ∙ invariant.left_staying j k l)) (λ n. (off n).1) i (rw c.window_end-end.ensures at g) b
+      ];
       after_entered = λ i far short.
           let past = rw visit.end at far in
           rw visit.entered (comes-after mode tokens place end i entered staying arrives (omega (arith, past, least_end, c.loop-place-test.true)) past ∙ invariant.after_entered i (omega (arith, past, least_end)) short);
