@@ -489,80 +489,89 @@ fn the_first_wildcard_is_found(rt: HostRuntime) -> Result<(), Fail> {
     assert_each(&rt, rt.alloc(), ROWS)
 }
 
-/// Asserts that a glob of so many bytes between two stars takes a text with as many side by side, and none with fewer.
-fn assert_between(rt: &impl Abort, alloc: Global, count: usize) -> Result<(), AllocError> {
-    let bytes = "a".repeat(alloc, count)?;
-    let fewer = "a".repeat(alloc, count.saturating_sub(1))?;
-    let pattern = format!(in alloc; "*{bytes}*")?;
-    let text = format!(in alloc; "b{fewer}b{bytes}b")?;
-    let shorter = format!(in alloc; "b{fewer}b{fewer}b")?;
-    assert_row(rt, alloc, &pattern, &bytes, true)?;
-    assert_row(rt, alloc, &pattern, &text, true)?;
-    assert_row(rt, alloc, &pattern, &shorter, false)
-}
+/// How many bytes a glob has between two stars: it takes a text with as many side by side, and none with fewer.
+#[derive(Clone, Copy)]
+struct Between(usize);
 
-#[test]
-fn long_globs_between_stars_take_each_byte(rt: HostRuntime) -> Result<(), AllocError> {
-    const COUNTS: &[usize] = &[1, 63, 64, 65, 127, 128, 129];
-    for count in COUNTS {
-        assert_between(&rt, rt.alloc(), *count)?;
+impl Row for Between {
+    fn holds(&self, alloc: Global) -> Result<bool, Fail> {
+        let bytes = "a".repeat(alloc, self.0)?;
+        let fewer = "a".repeat(alloc, self.0.saturating_sub(1))?;
+        let pattern = format!(in alloc; "*{bytes}*")?;
+        let text = format!(in alloc; "b{fewer}b{bytes}b")?;
+        let shorter = format!(in alloc; "b{fewer}b{fewer}b")?;
+        let (found, _) = answer(alloc, Shell, Sensitive, &pattern, text.as_bytes())?;
+        let (too_short, _) = answer(alloc, Shell, Sensitive, &pattern, shorter.as_bytes())?;
+        Ok(found && !too_short)
     }
-    Ok(())
 }
 
 #[test]
-fn deep_stands_for_nothing_only_where_it_is_come_to(rt: HostRuntime) -> Result<(), AllocError> {
-    const ROWS: &[(&str, &str, bool)] = &[
-        ("**/**/x", "x", true),
-        ("**/**/x", "a/x", true),
-        ("**/**/x", "a/b/c/x", true),
-        ("**/**/x", "ax", false),
-        ("**/**/x", "a/bx", false),
-        ("**/x", "ax", false),
-        ("**/x*", "ax", false),
-        ("**/x*", "a/xb", true),
-        ("a/**/b", "a/xb", false),
-        ("a/**/b*c", "a/bc", true),
-        ("a/**/b*c", "a/xbc", false),
-        ("*a*", "b/a", false),
-        ("**/*a*/**", "b/cad/e", true),
-        ("**/*a*/**", "b/c/e", false),
+fn long_globs_between_stars_take_each_byte(rt: HostRuntime) -> Result<(), Fail> {
+    const ROWS: &[Between] = &[
+        Between(1),
+        Between(63),
+        Between(64),
+        Between(65),
+        Between(127),
+        Between(128),
+        Between(129),
     ];
-    assert_rows(&rt, rt.alloc(), PathAware, Sensitive, ROWS)
+    assert_each(&rt, rt.alloc(), ROWS)
 }
 
 #[test]
-fn brackets_between_stars_go_by_case(rt: HostRuntime) -> Result<(), AllocError> {
-    const EXACT: &[(&str, &str, bool)] = &[
-        ("*[b-d]*", "xcx", true),
-        ("*[b-d]*", "xCx", false),
-        ("*[!b-d]*", "bcd", false),
-        ("*[!b-d]*", "bCd", true),
-        ("*B*", "abc", false),
+fn deep_stands_for_nothing_only_where_it_is_come_to(rt: HostRuntime) -> Result<(), Fail> {
+    const ROWS: &[Aware] = &[
+        Aware("**/**/x", "x", true),
+        Aware("**/**/x", "a/x", true),
+        Aware("**/**/x", "a/b/c/x", true),
+        Aware("**/**/x", "ax", false),
+        Aware("**/**/x", "a/bx", false),
+        Aware("**/x*", "ax", false),
+        Aware("**/x*", "a/xb", true),
+        Aware("a/**/b", "a/xb", false),
+        Aware("a/**/b*c", "a/bc", true),
+        Aware("a/**/b*c", "a/xbc", false),
+        Aware("*a*", "b/a", false),
+        Aware("**/*a*/**", "b/cad/e", true),
+        Aware("**/*a*/**", "b/c/e", false),
     ];
-    const FOLDED: &[(&str, &str, bool)] = &[
-        ("*[b-d]*", "xCx", true),
-        ("*[B-D]*", "xcx", true),
-        ("*[!b-d]*", "bCd", false),
-        ("*B*", "abc", true),
-        ("*b*", "ABC", true),
-    ];
-    assert_rows(&rt, rt.alloc(), Shell, Sensitive, EXACT)?;
-    assert_rows(&rt, rt.alloc(), Shell, Fold, FOLDED)
+    assert_each(&rt, rt.alloc(), ROWS)
 }
 
 #[test]
-fn an_empty_text_is_taken_by_stars_alone(rt: HostRuntime) -> Result<(), AllocError> {
-    const ROWS: &[(&str, &str, bool)] = &[
-        ("", "", true),
-        ("*", "", true),
-        ("**", "", true),
-        ("**/**", "", true),
-        ("*a*", "", false),
-        ("?*", "", false),
-        ("*?", "", false),
-        ("**/", "", true),
-        ("a", "", false),
+fn brackets_between_stars_go_by_case(rt: HostRuntime) -> Result<(), Fail> {
+    const EXACT: &[Plain] = &[
+        Plain("*[b-d]*", b"xcx", true),
+        Plain("*[b-d]*", b"xCx", false),
+        Plain("*[!b-d]*", b"bcd", false),
+        Plain("*[!b-d]*", b"bCd", true),
+        Plain("*B*", b"abc", false),
     ];
-    assert_rows(&rt, rt.alloc(), PathAware, Sensitive, ROWS)
+    const FOLDED: &[Folded] = &[
+        Folded("*[b-d]*", "xCx", true),
+        Folded("*[B-D]*", "xcx", true),
+        Folded("*[!b-d]*", "bCd", false),
+        Folded("*B*", "abc", true),
+        Folded("*b*", "ABC", true),
+    ];
+    assert_each(&rt, rt.alloc(), EXACT)?;
+    assert_each(&rt, rt.alloc(), FOLDED)
+}
+
+#[test]
+fn an_empty_text_is_taken_by_stars_alone(rt: HostRuntime) -> Result<(), Fail> {
+    const ROWS: &[Aware] = &[
+        Aware("", "", true),
+        Aware("*", "", true),
+        Aware("**", "", true),
+        Aware("**/**", "", true),
+        Aware("*a*", "", false),
+        Aware("?*", "", false),
+        Aware("*?", "", false),
+        Aware("**/", "", true),
+        Aware("a", "", false),
+    ];
+    assert_each(&rt, rt.alloc(), ROWS)
 }
