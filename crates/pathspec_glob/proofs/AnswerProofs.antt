@@ -1,5 +1,5 @@
 -- An answer that is the function's is the relation's, within the bound.
-use Rattle.std.proofs.Common.{◌≡◌, ℕ, ◌+◌, ◌*◌, ◌≤◌, ◌&&◌, Bool, true, false, inl, inr, refl, sym, ◌∙◌, ap, subst, arith, List, [], ◌∷◌, length, drop, if◌then◌else◌}
+use Rattle.std.proofs.Common.{◌≡◌, ℕ, ◌+◌, ◌-◌, ◌*◌, ◌≤◌, ◌<◌, ◌^◌, ◌&&◌, Bool, true, false, inl, inr, refl, sym, ◌∙◌, ap, subst, arith, List, [], ◌∷◌, length, drop, if◌then◌else◌}
 use Rattle.std.proofs.lemmas.Bool.{cases_Bool, and_parts, eqb-true, not-true}
 use Rattle.std.proofs.Math.Nat.{mul-le-mul, add-mul}
 use Rattle.std.specs.Prelude.{not, ◌==◌}
@@ -88,6 +88,13 @@ module _ (mode : Mode) (case : Case) (pattern : List ℕ) (h m t : TokenList) (p
       let few = few-middle in
       let wider = mul-le-mul {n₁ = length m.tokens} {m₁ = between} {n₂ = length pattern} {m₂ = length text} few (omega arith) in
       let both : (length pattern + 1) * length text ≡ length pattern * length text + 1 * length text = add-mul (length pattern) 1 (length text) in
+      omega arith
+
+  -- they fit
+  pub steps-fit : (before between : ℕ) → before + between ≡ length text → length pattern < 2 ^ 64 → length text < 2 ^ 64 → before + length m.tokens * between < 2 ^ 128
+  steps-fit before between parts pattern_fits text_fits =
+      let most = all-steps before between (before + length m.tokens * between) parts (omega arith) in
+      let wider = mul-le-mul {n₁ = length pattern + 1} {m₁ = length text} {n₂ = 2 ^ 64} {m₂ = 2 ^ 64 - 1} (omega arith) (omega arith) in
       omega arith
 
 -- between the star of a tail pattern and its rest stands nothing else

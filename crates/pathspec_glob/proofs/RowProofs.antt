@@ -64,6 +64,10 @@ row_of-put words new p value put places =
 pub length-row_of : (words : List ℕ) (places : ℕ) → length (row_of words places) ≡ places
 length-row_of words places = length-map-range_with_len (words_hold words) 0 places
 
+-- places of a row that is seen as this are so many
+pub place-within : (words : List ℕ) (places : ℕ) (row : List Bool) (place : ℕ) → row_of words places ≡ row → place < length row → place < places
+place-within words places row place is within = omega (arith, within, ap length is, length-row_of words places)
+
 -- the value at a place
 pub row_of-holds : (words : List ℕ) (places place : ℕ) → place < places → holds (row_of words places) place ≡ words_hold words place
 row_of-holds words places place h = get_or-map-range_with_len (words_hold words) 0 places place place false h (omega arith)

@@ -182,9 +182,7 @@ impl Tokens {
             Some(byte) => self.all[place].takes(self.mode, case, *byte),
         }
     }
-}
 
-impl Tokens {
     /// Tests the first token, which takes any number of bytes, on the bytes of a text up to one that it doesn't take, each
     /// of which is counted as one step: whether it takes them all.
     pub fn test_all(&self, text: &[u8], steps: &mut Steps) -> bool

@@ -4,8 +4,9 @@ ghost use Rattle.pathspec_glob.specs.Counts.{KeepsCount};
 ghost use Rattle.pathspec_glob.specs.GlobRelation.{matches};
 ghost use Rattle.pathspec_glob.specs.GlobSteps.{TokenList};
 
-mod masks;
-mod sets;
+mod closure;
+mod states;
+mod step;
 
 use super::{Steps, Tokens};
 use crate::Case;
@@ -46,16 +47,16 @@ impl Word {
     pub fn of_tokens(alloc: Global, tokens: &Tokens) -> Result<Option<Word>, AllocError>
         ensures { IfOk result (λ found. IfSome found (λ word. IsWordOf tokens.now word)) }
     {
-        let last = masks::cells(tokens);
-        let overs = masks::overs(tokens);
-        if last == 0 || last > 63 || !masks::alternate(tokens) || !masks::are_apart(overs) {
+        let last = states::cells(tokens);
+        let overs = states::overs(tokens);
+        if last == 0 || last > 63 || !states::alternate(tokens) || !states::are_apart(overs) {
             return Ok(None);
         }
         Ok(Some(Word {
-            exact: masks::rows(alloc, tokens, Case::Sensitive)?,
-            folded: masks::rows(alloc, tokens, Case::Fold)?,
-            loops: masks::kept(tokens, 0),
-            deeps: masks::kept(tokens, b'/'),
+            exact: states::rows(alloc, tokens, Case::Sensitive)?,
+            folded: states::rows(alloc, tokens, Case::Fold)?,
+            loops: states::kept(tokens, 0),
+            deeps: states::kept(tokens, b'/'),
             overs,
             last,
             tokens: tokens.len(),
@@ -76,7 +77,7 @@ impl Word {
             Case::Sensitive => &self.exact,
             Case::Fold => &self.folded,
         };
-        let ran = sets::run(rows, self.loops, self.deeps, self.overs, self.last, text);
+        let ran = step::run(rows, self.loops, self.deeps, self.overs, self.last, text);
         steps.raise_by(self.tokens as u128 * ran.read as u128);
         ran.accepted
     }

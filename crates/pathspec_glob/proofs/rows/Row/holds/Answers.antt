@@ -3,13 +3,13 @@ use Rattle.std.proofs.lemmas.List.{get_or_read}
 use Rattle.std.proofs.lemmas.Nat.Bits.{shr_and_one}
 use Rattle.pathspec_glob.specs.GlobCells.{has}
 use Rattle.pathspec_glob.specs.GlobRows.{holds}
-use Rattle.pathspec_glob.proofs.RowProofs.{length-row_of, row_of-holds}
+use Rattle.pathspec_glob.proofs.RowProofs.{place-within, row_of-holds}
 use Rattle.pathspec_glob.proofs.rows.Row.holds.Goals.{After-self}
 use Rattle.pathspec_glob.proofs.rows.Row.holds.Goals as goal
 
 -- the place is one of the row's
 within : (c : After-self) → c.args.place < c.self.inside.len
-within c = omega (arith, c.requires, ap length c.self.view_is, length-row_of c.self.inside.words.items c.self.inside.len)
+within c = place-within c.self.inside.words.items c.self.inside.len c.args.self.now c.args.place c.self.view_is c.requires
 
 pub index-requires : goal.index-requires
 index-requires c = omega (arith, within (goal.at.index-requires c).After-self, c.self.invariant)
