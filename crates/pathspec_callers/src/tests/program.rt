@@ -435,7 +435,7 @@ fn a_failed_look_up_is_refused_and_leaves_the_job(rt: HostRuntime) -> Result<(),
 
 /// Whether a run ends well, or for want of memory and without a byte written.
 fn runs(alloc: Global, line: &str, listing: &[u8]) -> Result<bool, AllocError> {
-    let mut written = Vec::new(alloc);
+    let mut written = Vec::with_capacity(alloc, 64)?;
     match run_line(alloc, line, UNSET, listing, &mut written)? {
         Ok(()) => Ok(true),
         Err(refusal) => Ok(refusal == Refusal::Memory && written.is_empty()),
