@@ -11,7 +11,7 @@ use Rattle.pathspec_glob.specs.Bytes.{is_empty, slash}
 use Rattle.pathspec_glob.specs.Tokens.{Token}
 use Rattle.pathspec_glob.specs.Tokens.Token.{One, Star, Deep}
 use Rattle.pathspec_glob.specs.GlobRelation.{takes, takes_first, matches, some_suffix, passes_over}
-use Rattle.pathspec_glob.specs.GlobSteps.{takes_byte, tests_at, is_wide_at, may_pass_over_at}
+use Rattle.pathspec_glob.specs.GlobSteps.{takes_byte, takes_at, is_wide_at, may_pass_over_at}
 use Rattle.pathspec_glob.specs.GlobParts.{head_of, middle_of, tail_of, takes_each, wide_takes}
 use Rattle.pathspec_glob.proofs.AcceptProofs.{from-place}
 use Rattle.pathspec_glob.proofs.PartProofs.{is_single, stands, head-singles, tail-singles, tail-stands, parts-all}
@@ -28,11 +28,11 @@ module _ (mode : Mode) (case : Case) where
   takes_each-apart ts text n = false_from_ne_true (takes_each mode case ts text) (λ h. n (length-takes_each ts text h))
 
   -- one token and one byte of them
-  pub takes_each-step : (ts : List Token) (text : List ℕ) (place : ℕ) → place < length ts → length text ≡ length ts
-      → takes_each mode case (drop place ts) (drop place text) ≡ (tests_at mode case (drop place ts) (drop place text) && takes_each mode case (drop (place + 1) ts) (drop (place + 1) text))
+  pub takes_each-step : (ts : List Token) (text : List ℕ) (place : ℕ) → place < length text → length text ≡ length ts
+      → takes_each mode case (drop place ts) (drop place text) ≡ (takes_at mode case (drop place ts) (get_or text place 0) && takes_each mode case (drop (place + 1) ts) (drop (place + 1) text))
   takes_each-step ts text place h len =
-      let token : drop place ts ≡ get_or ts place Star ∷ drop (place + 1) ts = rw (add-one place) (from-place ts place h) in
-      let byte : drop place text ≡ get_or text place 0 ∷ drop (place + 1) text = drop_more text place 0 (omega arith) in
+      let token : drop place ts ≡ get_or ts place Star ∷ drop (place + 1) ts = rw (add-one place) (from-place ts place (omega arith)) in
+      let byte : drop place text ≡ get_or text place 0 ∷ drop (place + 1) text = drop_more text place 0 h in
       rw (token, byte) refl
 
   -- a text that is shorter is taken by no end and no front of it

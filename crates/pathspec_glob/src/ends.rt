@@ -1,7 +1,7 @@
 //! The ends of a glob, its head and its tail: each of their tokens takes one byte.
 ghost use Rattle.std.specs.Prelude.{◌≡◌, ◌≤◌, ◌<◌, ◌+◌, ◌^◌, length, is_some, IfSome, IsTrue};
 ghost use Rattle.pathspec_glob.specs.Counts.{KeepsCount};
-ghost use Rattle.pathspec_glob.specs.GlobParts.{before_end, behind_front, takes_each, takes_end, takes_front};
+ghost use Rattle.pathspec_glob.specs.GlobParts.{before_end, behind_front, takes_end, takes_front};
 
 use crate::Case;
 use crate::scratch::tokens::{Steps, Tokens};
@@ -27,7 +27,7 @@ pub fn behind_front<'t>(
         return None;
     }
     let (front, behind) = text.split_at(tokens.len());
-    if takes_each(tokens, front, case, steps) {
+    if tokens.test_each(front, case, steps) {
         Some(behind)
     } else {
         None
@@ -55,26 +55,9 @@ pub fn before_end<'t>(
         return None;
     }
     let (before, end) = text.split_at(text.len() - tokens.len());
-    if takes_each(tokens, end, case, steps) {
+    if tokens.test_each(end, case, steps) {
         Some(before)
     } else {
         None
     }
-}
-
-/// Whether the tokens take the bytes of a text one by one. It tests none after one that doesn't.
-fn takes_each(tokens: &Tokens, text: &[u8], case: Case, steps: &mut Steps) -> bool
-    requires len { length text.now ≡ length tokens.now.tokens }
-    requires room { steps.old.last + length text.now < 2 ^ 128 }
-    ensures answer { result ≡ takes_each tokens.now.mode case tokens.now.tokens text.now }
-    ensures most { steps.new.last ≤ steps.old.last + length text.now }
-    ensures least { IsTrue result → steps.new.last ≡ steps.old.last + length text.now }
-    ensures counted { KeepsCount steps.old steps.new }
-{
-    for place in 0..tokens.len() {
-        if !tokens.test(place, &text[place..], case, steps) {
-            return false;
-        }
-    }
-    true
 }

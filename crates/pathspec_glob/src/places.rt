@@ -53,6 +53,7 @@ impl Places {
     /// Whether the tokens match the whole text: by the places that each front of the text leads to.
     ///
     /// It tests each token at most once on a byte, and takes no memory.
+    #[inline(never)]
     pub fn run(&mut self, tokens: &Tokens, text: &[u8], case: Case, steps: &mut Steps) -> bool
         requires room { HasRoom (length tokens.now.tokens) self.old }
         requires steps { steps.old.last + length tokens.now.tokens * length text.now < 2 ^ 128 }

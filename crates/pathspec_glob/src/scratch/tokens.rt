@@ -5,7 +5,7 @@ ghost use Rattle.pathspec_glob.specs.Bytes.{slash};
 ghost use Rattle.pathspec_glob.specs.GlobRelation.{is_same_byte, is_barred, takes, passes_over};
 ghost use Rattle.pathspec_glob.specs.GlobForms.{single_view, token_view, tokens_view};
 ghost use Rattle.pathspec_glob.specs.GlobSteps.{is_deep_token, is_wide, is_wide_at, may_pass_over_at, token_list, takes_at, takes_byte, token_takes};
-ghost use Rattle.pathspec_glob.specs.GlobParts.{head_size, wide_size, wide_takes};
+ghost use Rattle.pathspec_glob.specs.GlobParts.{head_size, takes_each, wide_size, wide_takes};
 ghost use Rattle.pathspec_glob.specs.Counts.{BeginsAnew, HasNoSteps, KeepsCount};
 
 pub mod word;
@@ -183,6 +183,43 @@ impl Tokens {
         }
     }
 
+    /// Tests the tokens on the bytes of a text one by one, up to a byte that its token doesn't take, each of which is
+    /// counted as one step: whether they take them all.
+    #[inline(always)]
+    pub fn test_each(&self, text: &[u8], case: Case, steps: &mut Steps) -> bool
+        requires len { length text.now ≡ length self.now.tokens }
+        requires room { steps.old.last + length text.now < 2 ^ 128 }
+        ensures answer { result ≡ takes_each self.now.mode case self.now.tokens text.now }
+        ensures most { steps.new.last ≤ steps.old.last + length text.now }
+        ensures least { IsTrue result → steps.new.last ≡ steps.old.last + length text.now }
+        ensures counted { KeepsCount steps.old steps.new }
+    {
+        text.is_empty() || (self.test(0, text, case, steps) && self.test_others(text, case, steps))
+    }
+
+    // Out of line, since most texts fail at the first token of a head.
+    /// The same of the tokens behind the first, on the bytes behind the first.
+    #[inline(never)]
+    fn test_others(&self, text: &[u8], case: Case, steps: &mut Steps) -> bool
+        requires some { 0 < length text.now }
+        requires len { length text.now ≡ length self.now.tokens }
+        requires room { steps.old.last + length text.now ≤ 2 ^ 128 }
+        ensures answer { result
+            ≡ takes_each self.now.mode case (drop 1 self.now.tokens) (drop 1 text.now) }
+        ensures most { steps.new.last < steps.old.last + length text.now }
+        ensures least { IsTrue result → steps.new.last + 1 ≡ steps.old.last + length text.now }
+        ensures counted { KeepsCount steps.old steps.new }
+    {
+        for place in 1..text.len() {
+            if !self.takes(place, text[place], case) {
+                steps.raise_by(place as u128);
+                return false;
+            }
+        }
+        steps.raise_by((text.len() - 1) as u128);
+        true
+    }
+
     /// Tests the first token, which takes any number of bytes, on the bytes of a text up to one that it doesn't take, each
     /// of which is counted as one step: whether it takes them all.
     pub fn test_all(&self, text: &[u8], steps: &mut Steps) -> bool
@@ -311,6 +348,8 @@ impl Token {
         ensures { result ≡ takes_byte mode case (token_view self.now) byte }
     {
         match self {
+            // The same as of other tokens for one byte, and in line.
+            Token::One(Single::Byte(own)) => is_same_byte(case, *own, byte),
             Token::One(single) => single.takes(mode, case, byte),
             Token::Star => byte != b'/',
             Token::Deep => true,
@@ -320,6 +359,7 @@ impl Token {
 
 impl Single {
     /// Whether a byte is as this wants it.
+    #[inline(never)]
     fn takes(&self, mode: Mode, case: Case, byte: u8) -> bool
         ensures { result ≡ takes mode case (single_view self.now) byte }
     {

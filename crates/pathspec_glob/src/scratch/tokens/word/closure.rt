@@ -4,7 +4,7 @@ ghost use Rattle.std.specs.Int.Bits.{bit_and};
 ghost use Rattle.std.specs.Int.RustNames.{bit_or};
 
 /// The places that are come to, and those that may be passed over to.
-#[inline]
+#[inline(always)]
 pub fn enter(come: u64, overs: u64) -> u64
     ensures { result ≡ bit_or come (bit_and come overs * 2 ^ 1 % 2 ^ 64) }
 {

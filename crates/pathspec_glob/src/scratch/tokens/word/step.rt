@@ -1,5 +1,5 @@
 //! The step by one byte.
-ghost use Rattle.std.specs.Prelude.{◌≡◌, ℕ, suc, List, ◌∷◌, ◌<◌, ◌≤◌, ◌==◌, ◌&&◌, false, length, IsTrue, if◌then◌else◌};
+ghost use Rattle.std.specs.Prelude.{◌≡◌, ℕ, suc, List, ◌∷◌, ◌<◌, ◌≤◌, ◌/◌, ◌==◌, ◌&&◌, false, length, drop, IsTrue, if◌then◌else◌};
 ghost use Rattle.pathspec_glob.specs.Bytes.{slash};
 ghost use Rattle.pathspec_glob.specs.declared.Mode.{Mode};
 ghost use Rattle.pathspec_glob.specs.declared.Case.{Case};
@@ -16,6 +16,14 @@ pub struct Ran {
     pub read: usize,
 }
 
+/// Where a text, as far as it was read, leads to.
+#[derive(Clone, Copy)]
+struct Reached {
+    places: u64,
+    /// How many bytes were read.
+    read: usize,
+}
+
 /// Runs through a text, up to a byte before which no place is held.
 pub fn run(rows: &[u64], loops: u64, deeps: u64, overs: u64, last: usize, text: &[u8]) -> Ran
     requires rows { length rows.now ≡ 256 }
@@ -26,11 +34,53 @@ pub fn run(rows: &[u64], loops: u64, deeps: u64, overs: u64, last: usize, text: 
     ensures most { result.read ≤ length text.now }
     ensures least { IsTrue result.accepted → result.read ≡ length text.now }
 {
-    let mut places = enter(1, overs);
+    let places = enter(1, overs);
+    let reached = if !is_plain(loops, deeps, overs) {
+        reach(places, rows, loops, deeps, overs, true, text)
+    } else if loops == deeps {
+        reach(places, rows, loops, loops, 0, false, text)
+    } else {
+        reach(places, rows, loops, deeps, 0, false, text)
+    };
+    Ran {
+        accepted: (reached.places >> last) & 1 == 1,
+        read: reached.read,
+    }
+}
+
+/// Whether the first place stays at every byte, so that some place is always held, and no other may be passed over.
+fn is_plain(loops: u64, deeps: u64, overs: u64) -> bool
+    ensures { IsTrue result → overs / 2 ≡ 0 }
+{
+    overs <= 1 && loops & deeps & 1 == 1
+}
+
+// In line, so that each call has a loop of its own, which tests only what that call leaves open.
+/// The places that a text leads to from others, or none, where it halts at a byte before which none is held. Whether the
+/// first place may be passed over makes no difference, since no byte leads to it.
+#[inline(always)]
+fn reach(
+    from: u64,
+    rows: &[u64],
+    loops: u64,
+    deeps: u64,
+    overs: u64,
+    halts: bool,
+    text: &[u8],
+) -> Reached
+    requires rows { length rows.now ≡ 256 }
+    ensures leads { (mode : Mode) (case : Case) (cells : List Cell) (end : Loop) (all : ℕ)
+        → Masked mode case cells end rows.now loops deeps all → overs / 2 ≡ all / 2
+        → set_leads mode case cells end (has result.places) (drop result.read text.now)
+        ≡ set_leads mode case cells end (has from) text.now }
+    ensures most { result.read ≤ length text.now }
+    ensures halted { result.read < length text.now → result.places ≡ 0 }
+{
+    let mut places = from;
     for position in 0..text.len() {
-        if places == 0 {
-            return Ran {
-                accepted: false,
+        if halts && places == 0 {
+            return Reached {
+                places,
                 read: position,
             };
         }
@@ -42,19 +92,19 @@ pub fn run(rows: &[u64], loops: u64, deeps: u64, overs: u64, last: usize, text: 
             overs,
         );
     }
-    Ran {
-        accepted: (places >> last) & 1 == 1,
+    Reached {
+        places,
         read: text.len(),
     }
 }
 
 /// The places that a byte leads to: those behind the ones whose tokens take it, with those that may be passed over to
 /// from there, and those that stay.
-#[inline]
+#[inline(always)]
 fn advance(places: u64, taken: u64, stays: u64, overs: u64) -> u64
-    ensures { (mode : Mode) (case : Case) (cells : List Cell) (last : Loop) (b : ℕ) (bs : List ℕ)
-        → length cells < 64 → Rules mode case cells last (has taken) (has stays) (has overs) b
-        → ((i : ℕ) → i < length cells → (has overs i && has overs (suc i)) ≡ false)
+    ensures { (mode : Mode) (case : Case) (cells : List Cell) (last : Loop) (all : ℕ) (b : ℕ) (bs : List ℕ)
+        → length cells < 64 → Rules mode case cells last (has taken) (has stays) (has all) b
+        → ((i : ℕ) → i < length cells → (has all i && has all (suc i)) ≡ false) → overs / 2 ≡ all / 2
         → set_leads mode case cells last (has result) bs
         ≡ set_leads mode case cells last (has places) (b ∷ bs) }
 {
@@ -62,7 +112,7 @@ fn advance(places: u64, taken: u64, stays: u64, overs: u64) -> u64
 }
 
 /// The places that may stay at a byte.
-#[inline]
+#[inline(always)]
 fn stays(byte: u8, loops: u64, deeps: u64) -> u64
     ensures { result ≡ (if byte == slash then deeps else loops) }
 {
