@@ -1,5 +1,5 @@
 -- A glob matches a text where its head takes the front, its tail the end, and what stands between matches the rest.
-use Rattle.std.proofs.Common.{◌≡◌, ℕ, zero, suc, ◌+◌, ◌-◌, ◌≤◌, ◌<◌, Bool, true, false, ◌&&◌, ◌||◌, not, refl, sym, ◌∙◌, ap, arith, add-one, get_or, List, [], ◌∷◌, ◌++◌, length, take, drop, inl, inr, ◌==◌}
+use Rattle.std.proofs.Common.{◌≡◌, ℕ, zero, suc, ◌+◌, ◌-◌, ◌≤◌, ◌<◌, Bool, true, false, ◌&&◌, ◌||◌, not, refl, sym, ◌∙◌, ap, arith, add-one, get_or, List, [], ◌∷◌, ◌++◌, length, take, drop, inl, inr, ◌==◌, if◌then◌else◌}
 use Rattle.std.proofs.lemmas.Bool.{cases_lt, false_from_ne_true, and_parts, not-true}
 use Rattle.std.proofs.Math.Bool.{or-false, and-false, and-true}
 use Rattle.std.proofs.Math.Seq.{drop-length}
@@ -11,8 +11,8 @@ use Rattle.pathspec_glob.specs.Bytes.{is_empty, slash}
 use Rattle.pathspec_glob.specs.Tokens.{Token}
 use Rattle.pathspec_glob.specs.Tokens.Token.{One, Star, Deep}
 use Rattle.pathspec_glob.specs.GlobRelation.{takes, takes_first, matches, some_suffix, passes_over}
-use Rattle.pathspec_glob.specs.GlobSteps.{takes_byte, takes_at, is_wide_at, may_pass_over_at}
-use Rattle.pathspec_glob.specs.GlobParts.{head_of, middle_of, tail_of, takes_each, wide_takes}
+use Rattle.pathspec_glob.specs.GlobSteps.{takes_byte, takes_at, tests_at, is_wide_at, may_pass_over_at}
+use Rattle.pathspec_glob.specs.GlobParts.{head_of, middle_of, tail_of, takes_each, tests_each, wide_takes}
 use Rattle.pathspec_glob.proofs.AcceptProofs.{from-place}
 use Rattle.pathspec_glob.proofs.PartProofs.{is_single, stands, head-singles, tail-singles, tail-stands, parts-all}
 
@@ -34,6 +34,24 @@ module _ (mode : Mode) (case : Case) where
       let token : drop place ts ≡ get_or ts place Star ∷ drop (place + 1) ts = rw (add-one place) (from-place ts place (omega arith)) in
       let byte : drop place text ≡ get_or text place 0 ∷ drop (place + 1) text = drop_more text place 0 h in
       rw (token, byte) refl
+
+  pub tests_each-step : (ts : List Token) (text : List ℕ) (place : ℕ) → place < length text → length text ≡ length ts
+      → tests_each mode case (drop place ts) (drop place text) ≡ suc (if takes_at mode case (drop place ts) (get_or text place 0) then tests_each mode case (drop (place + 1) ts) (drop (place + 1) text) else 0)
+  tests_each-step ts text place h len =
+      let token : drop place ts ≡ get_or ts place Star ∷ drop (place + 1) ts = rw (add-one place) (from-place ts place (omega arith)) in
+      let byte : drop place text ≡ get_or text place 0 ∷ drop (place + 1) text = drop_more text place 0 h in
+      rw (token, byte) refl
+
+  -- the first of them, and the others
+  pub tests_each-first : (ts : List Token) (text : List ℕ) → 0 < length text → length text ≡ length ts
+      → tests_each mode case ts text ≡ suc (if tests_at mode case ts text then tests_each mode case (drop 1 ts) (drop 1 text) else 0)
+  tests_each-first ts [] h len = absurd (let no : ⊥ = omega arith in no)
+  tests_each-first [] (b ∷ bs) h len = cc
+  tests_each-first (t ∷ ts) (b ∷ bs) h len = refl
+
+  pub tests_each-none : (ts : List Token) → tests_each mode case ts [] ≡ 0
+  tests_each-none [] = refl
+  tests_each-none (t ∷ ts) = refl
 
   -- a text that is shorter is taken by no end and no front of it
   pub front-short : (ts : List Token) (text : List ℕ) → length text < length ts → takes_each mode case ts (take (length ts) text) ≡ false

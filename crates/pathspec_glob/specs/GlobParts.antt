@@ -43,6 +43,12 @@ takes_each mode case [] text = is_empty text
 takes_each mode case (t ∷ ts) [] = false
 takes_each mode case (t ∷ ts) (b ∷ bs) = takes_byte mode case t b && takes_each mode case ts bs
 
+-- how many of them are tested, up to one that doesn't take its byte
+abbrev pub tests_each : Mode → Case → List Token → List ℕ → ℕ
+tests_each mode case [] text = 0
+tests_each mode case (t ∷ ts) [] = 0
+tests_each mode case (t ∷ ts) (b ∷ bs) = suc (if takes_byte mode case t b then tests_each mode case ts bs else 0)
+
 -- they take the front of the text, or its end
 abbrev pub takes_front : TokenList → Case → List ℕ → Bool
 takes_front parts case text = takes_each parts.mode case parts.tokens (take (length parts.tokens) text)

@@ -5,7 +5,7 @@ ghost use Rattle.pathspec_glob.specs.Bytes.{slash};
 ghost use Rattle.pathspec_glob.specs.GlobRelation.{is_same_byte, is_barred, takes, passes_over};
 ghost use Rattle.pathspec_glob.specs.GlobForms.{single_view, token_view, tokens_view};
 ghost use Rattle.pathspec_glob.specs.GlobSteps.{is_deep_token, is_wide, is_wide_at, may_pass_over_at, token_list, takes_at, takes_byte, token_takes};
-ghost use Rattle.pathspec_glob.specs.GlobParts.{head_size, takes_each, wide_size, wide_takes};
+ghost use Rattle.pathspec_glob.specs.GlobParts.{head_size, takes_each, tests_each, wide_size, wide_takes};
 ghost use Rattle.pathspec_glob.specs.Counts.{BeginsAnew, HasNoSteps, KeepsCount};
 
 pub mod word;
@@ -190,6 +190,8 @@ impl Tokens {
         requires len { length text.now ≡ length self.now.tokens }
         requires room { steps.old.last + length text.now < 2 ^ 128 }
         ensures answer { result ≡ takes_each self.now.mode case self.now.tokens text.now }
+        ensures tests { steps.new.last
+            ≡ steps.old.last + tests_each self.now.mode case self.now.tokens text.now }
         ensures most { steps.new.last ≤ steps.old.last + length text.now }
         ensures least { IsTrue result → steps.new.last ≡ steps.old.last + length text.now }
         ensures counted { KeepsCount steps.old steps.new }
@@ -206,6 +208,8 @@ impl Tokens {
         requires room { steps.old.last + length text.now ≤ 2 ^ 128 }
         ensures answer { result
             ≡ takes_each self.now.mode case (drop 1 self.now.tokens) (drop 1 text.now) }
+        ensures tests { steps.new.last ≡ steps.old.last
+            + tests_each self.now.mode case (drop 1 self.now.tokens) (drop 1 text.now) }
         ensures most { steps.new.last < steps.old.last + length text.now }
         ensures least { IsTrue result → steps.new.last + 1 ≡ steps.old.last + length text.now }
         ensures counted { KeepsCount steps.old steps.new }

@@ -64,7 +64,6 @@ impl Word {
     }
 
     /// Whether the tokens match the whole text. A byte asks which of them take it, which is counted as a step for each.
-    #[inline(never)]
     pub fn test(&self, text: &[u8], case: Case, steps: &mut Steps) -> bool
         requires { steps.old.last + self.now.tokens * length text.now < 2 ^ 128 }
         ensures answer { (parts : TokenList) → IsWordOf parts self.now
