@@ -1,5 +1,5 @@
 //! The ends of a glob, its head and its tail: each of their tokens takes one byte.
-ghost use Rattle.std.specs.Prelude.{◌≡◌, ◌≤◌, ◌<◌, ◌+◌, ◌^◌, length, is_some, IfSome, IsTrue};
+ghost use Rattle.std.specs.Prelude.{◌≡◌, ◌≤◌, ◌<◌, ◌+◌, ◌^◌, length, is_some, IfSome};
 ghost use Rattle.pathspec_glob.specs.Counts.{KeepsCount};
 ghost use Rattle.pathspec_glob.specs.GlobParts.{before_end, behind_front, takes_end, takes_front};
 

@@ -1,4 +1,4 @@
-use Rattle.std.proofs.Common.{◌≡◌, ◌+◌, ◌∙◌, sym, ap, arith, drop, ◌&&◌, refl, get_or, suc, [], if◌then◌else◌}
+use Rattle.std.proofs.Common.{◌≡◌, ◌+◌, ◌∙◌, sym, ap, arith, drop, ◌&&◌, refl, suc, [], if◌then◌else◌}
 use Rattle.std.proofs.Math.ListN.{drop_of_length-le}
 use Rattle.pathspec_glob.specs.GlobParts.{takes_each, tests_each}
 use Rattle.pathspec_glob.proofs.EndProofs.{takes_each-step, tests_each-step, tests_each-none}

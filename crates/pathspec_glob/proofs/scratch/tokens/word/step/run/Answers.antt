@@ -1,4 +1,4 @@
-use Rattle.std.proofs.Common.{◌≡◌, ◌<◌, ◌*◌, ◌%◌, ◌/◌, refl, sym, ◌∙◌, arith, get_or, drop, length, bit_and, true}
+use Rattle.std.proofs.Common.{◌≡◌, ◌<◌, ◌*◌, ◌%◌, refl, sym, ◌∙◌, arith, get_or, drop, length, bit_and}
 use Rattle.std.proofs.lemmas.Nat.Bits.{shr_and_one}
 use Rattle.pathspec_glob.specs.GlobCells.{has, set_leads}
 use Rattle.pathspec_glob.proofs.CellProofs.{leads-rest, set-begins}
