@@ -42,13 +42,6 @@ module _ (mode : Mode) (case : Case) where
       let byte : drop place text ≡ get_or text place 0 ∷ drop (place + 1) text = drop_more text place 0 h in
       rw (token, byte) refl
 
-  -- the first of them, and the others
-  pub tests_each-first : (ts : List Token) (text : List ℕ) → 0 < length text → length text ≡ length ts
-      → tests_each mode case ts text ≡ suc (if tests_at mode case ts text then tests_each mode case (drop 1 ts) (drop 1 text) else 0)
-  tests_each-first ts [] h len = absurd (let no : ⊥ = omega arith in no)
-  tests_each-first [] (b ∷ bs) h len = cc
-  tests_each-first (t ∷ ts) (b ∷ bs) h len = refl
-
   pub tests_each-none : (ts : List Token) → tests_each mode case ts [] ≡ 0
   tests_each-none [] = refl
   tests_each-none (t ∷ ts) = refl

@@ -102,7 +102,8 @@ fn reach(
 /// from there, and those that stay.
 #[inline(always)]
 fn advance(places: u64, taken: u64, stays: u64, overs: u64) -> u64
-    ensures { (mode : Mode) (case : Case) (cells : List Cell) (last : Loop) (all : ℕ) (b : ℕ) (bs : List ℕ)
+    ensures { (mode : Mode) (case : Case) (cells : List Cell) (last : Loop) (all b : ℕ)
+        (bs : List ℕ)
         → length cells < 64 → Rules mode case cells last (has taken) (has stays) (has all) b
         → ((i : ℕ) → i < length cells → (has all i && has all (suc i)) ≡ false) → overs / 2 ≡ all / 2
         → set_leads mode case cells last (has result) bs
