@@ -16,7 +16,11 @@ use Rattle.gix_pathspec.specs.Patterns.{pattern_spec}
 use Rattle.gix_pathspec.specs.Reading.{nil_spec}
 use Rattle.gix_pathspec.specs.NormalForm.{normal_form}
 use Rattle.gix_pathspec.specs.Prefixes.{heads, common_front, common_prefix}
-use Rattle.gix_pathspec.specs.Search.{Numbered, at_number, numbered_from, default_to_prefix, in_search_order, search_of}
+use Rattle.gix_pathspec.specs.Search.{Numbered, specs_of, at_number, numbered_from, default_to_prefix, in_search_order, search_of}
+use Rattle.pathspec_heads.specs.Groups.{CountedPlaces, IsGrouped, HasSameGroups}
+use Rattle.gix_pathspec.specs.Effort.{heads_in_order}
+use Rattle.gix_pathspec.specs.declared.search.reach.Reach.{Reach}
+use Rattle.gix_pathspec.specs.Reach.{IsReachOf}
 use Rattle.gix_pathspec.specs.Compiled.{IsSearch}
 use Rattle.gix_pathspec.specs.Building.{numbered_normal_form, TellsFault, IsErrorAt}
 
@@ -123,5 +127,28 @@ common_prefix-is specs = refl
 -- ---- a search
 
 -- the same search
-pub is_search-same : (specs others : List Numbered) (nil other_nil : Pattern) (common other_common : List ℕ) → others ≡ specs → pattern_spec other_nil ≡ nil_spec → other_common ≡ common → IsSearch specs nil common → IsSearch others other_nil other_common
-is_search-same specs others nil other_nil common other_common s n c h = rw (s, c) (record { is_ordered = h.is_ordered; has_no_nil_prefix = h.has_no_nil_prefix; has_byte_paths = h.has_byte_paths; is_nil = n; is_common = h.is_common })
+pub is_search-same : (specs others : List Numbered) (heads other_heads : CountedPlaces) (reach other_reach : Reach) (nil other_nil : Pattern) (common other_common : List ℕ) → others ≡ specs → IsGrouped (heads_in_order others) other_heads.heads other_heads.starts other_heads.order → IsReachOf (specs_of others) other_reach → pattern_spec other_nil ≡ nil_spec → other_common ≡ common → IsSearch specs heads reach nil common
+    → IsSearch others other_heads other_reach other_nil other_common
+is_search-same specs others heads other_heads reach other_reach nil other_nil common other_common s g r n c h =
+    record {
+      is_ordered = rw s h.is_ordered;
+      has_no_nil_prefix = rw s h.has_no_nil_prefix;
+      has_byte_paths = rw s h.has_byte_paths;
+      is_grouped = g;
+      is_reach = r;
+      is_nil = n;
+      is_common = rw (s, c) h.is_common;
+    }
+
+-- a search whose specs and groups are those of another
+pub is_search-kept : (specs others : List Numbered) (heads other_heads : CountedPlaces) (reach : Reach) (nil : Pattern) (common : List ℕ) → others ≡ specs → HasSameGroups heads other_heads → IsSearch specs heads reach nil common → IsSearch others other_heads reach nil common
+is_search-kept specs others heads other_heads reach nil common s g h =
+    record {
+      is_ordered = rw s h.is_ordered;
+      has_no_nil_prefix = rw s h.has_no_nil_prefix;
+      has_byte_paths = rw s h.has_byte_paths;
+      is_grouped = rw (s, g.heads, g.starts, g.order) h.is_grouped;
+      is_reach = rw s h.is_reach;
+      is_nil = h.is_nil;
+      is_common = rw s h.is_common;
+    }

@@ -98,10 +98,6 @@ unmatched : (table : Table) (s : Spec) (path : List ℕ) (is_dir : Bool) → mat
 unfolding matched_kind spec_matches
 unmatched table s path is_dir h = kind-none (has_attributes table s path is_dir) (fit s path is_dir) h
 
--- a spec that is put back as it was
-pub put_back : {X : Type 0} (xs ys : List X) (i : ℕ) (x y : X) → xs ≡ ys → y ≡ get_or xs i x → set xs i y ≡ ys
-put_back xs ys i x y same back = rw back (set-get_or xs i x ∙ same)
-
 module _ (table : Table) (ns : List Numbered) (path : List ℕ) (is_dir : Bool) (i : ℕ) (n : Numbered) (l : i < length ns) (read : n ≡ get_or ns i n) (rest : first_match table (drop i ns) path is_dir ≡ first_match table ns path is_dir) where
   turn : (b : Bool) → spec_matches table n.spec path is_dir ≡ b → first_match table (drop i ns) path is_dir ≡ cond b (Some n) (first_match table (drop (i + 1) ns) path is_dir)
   turn b h = at_drop_more (λ ms. first_match table ms path is_dir) ns i n l ∙ (rw (sym read, h) refl)

@@ -23,3 +23,5 @@ mod SearchRows
 mod PruningRows
 mod DirectoryRows
 mod DirectoryPremiseRows
+pub mod EffortProofs
+pub mod ReachProofs

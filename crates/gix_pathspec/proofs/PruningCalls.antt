@@ -4,11 +4,10 @@ use Rattle.std.proofs.lemmas.Bool.{cases_lt, lt-ltb, le-ltb}
 use Rattle.std.proofs.lemmas.List.{length-take-le}
 use Rattle.std.proofs.lemmas.List.Sums.{prefix_len-le-length}
 use Rattle.std.specs.List.{list_any, position_or_len, before_first}
-use Rattle.gix_pathspec.specs.Bytes.{is_empty, fold_case, is_wildcard}
-use Rattle.gix_pathspec.specs.Paths.{is_below}
-use Rattle.gix_pathspec.specs.Specs.{Spec, ignores_case, always_matches, has_wildcard}
+use Rattle.gix_pathspec.specs.Bytes.{is_empty, is_wildcard}
+use Rattle.gix_pathspec.specs.Specs.{Spec, has_wildcard}
 use Rattle.gix_pathspec.specs.Prefixes.{stem, common_prefix}
-use Rattle.gix_pathspec.specs.Pruning.{reaches, takes_only_below, leads_to, agree, is_total_exclude, is_reached, can_match}
+use Rattle.gix_pathspec.specs.Pruning.{agree, is_total_exclude, is_reached, can_match}
 
 -- ---- wildcards
 
@@ -37,24 +36,6 @@ stem-shorter false path =
 
 pub stem-wild : (s : Spec) (n : ℕ) (path : List ℕ) → n ≡ length (stem s) → path ≡ s.path → nat_lt n (length path) ≡ has_wildcard s
 stem-wild s n path size same = rw (size, same) (stem-shorter s.nil s.path)
-
--- ---- reaching
-
-module _ (s : Spec) (path : List ℕ) (is_dir : Option Bool) where
-  -- a spec that always matches
-  pub reaches-always : always_matches s ≡ true → true ≡ reaches s path is_dir
-  unfolding reaches
-  reaches-always a = rw a refl
-
-  -- one that is asked for what lies below it
-  pub reaches-below : {b : Bool} → always_matches s ≡ false → takes_only_below s is_dir ≡ true → b ≡ is_below (fold_case (ignores_case s) path) (fold_case (ignores_case s) s.path) → b ≡ reaches s path is_dir
-  unfolding reaches
-  reaches-below a t e = rw (a, t) e
-
-  -- one whose stem leads to the path
-  pub reaches-led : {b : Bool} → always_matches s ≡ false → takes_only_below s is_dir ≡ false → b ≡ leads_to (fold_case (ignores_case s) (stem s)) (has_wildcard s) (fold_case (ignores_case s) path) → b ≡ reaches s path is_dir
-  unfolding reaches
-  reaches-led a t e = rw (a, t) e
 
 -- ---- what can match
 

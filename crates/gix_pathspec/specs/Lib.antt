@@ -26,4 +26,6 @@ pub mod PruningLaws
 pub mod DirectoryLaws
 pub mod Compiled
 pub mod Found
+pub mod Effort
 pub mod Building
+pub mod Reach

@@ -3,8 +3,10 @@
 
 pub mod attributes;
 pub mod glob;
+pub mod heads;
 pub mod search;
 pub mod select;
 pub mod spec;
+pub mod stems;
 #[cfg(test)]
 mod tests;

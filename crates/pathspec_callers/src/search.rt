@@ -1,6 +1,7 @@
 //! Callers of the search of `gix_pathspec`.
 ghost use Rattle.std.specs.Prelude.{◌≡◌, ◌≢◌, ◌↔◌, [], IfOk, IsTrue};
 ghost use Rattle.bstr.specs.BStr.{bstr_bytes};
+ghost use Rattle.gix_pathspec.specs.Search.{KeepsSpecs};
 ghost use Rattle.pathspec_callers.specs.Selections.{IsChosenFile, HoldsNothing};
 
 use bstr::BStr;
@@ -18,7 +19,7 @@ pub fn is_selected<L: LookUp>(
 ) -> Result<bool, L::Fault>
     ensures chosen { bstr_bytes file.entry ≢ [] → IfOk result (λ selected. IsTrue selected
         ↔ IsChosenFile (L.table look_up.old) search.old (bstr_bytes file.entry)) }
-    ensures same { search.new ≡ search.old }
+    ensures same { KeepsSpecs search.old search.new }
 {
     match search.find_match(file, Some(false), look_up)? {
         Some(place) => Ok(!search.match_at(place).is_excluded()),

@@ -1,11 +1,11 @@
 -- What words and the environment ask for.
-use Rattle.std.specs.Prelude.{ℕ, List, Result, Ok, Err}
+use Rattle.std.specs.Prelude.{◌≡◌, ℕ, List, Result, Ok, Err}
 use Rattle.pathspec_parts.specs.AttributeRows.{Row}
 use Rattle.pathspec_pattern.specs.declared.defaults.Defaults.{Defaults}
 use Rattle.pathspec_pattern.specs.Environment.{Words, defaults_of}
 use Rattle.gix_pathspec.specs.Results.{◌>>=◌}
 use Rattle.gix_pathspec.specs.Faults.{Fault}
-use Rattle.gix_pathspec.specs.Search.{Numbered, SearchContents, search_of}
+use Rattle.gix_pathspec.specs.Search.{Numbered, SearchContents, KeepsSpecs, search_of}
 use Rattle.pathspec_select.specs.WordFaults.{WordFault}
 use Rattle.pathspec_select.specs.WordFaults.WordFault.{BadEnvironment, BadSpec}
 use Rattle.pathspec_select.specs.Options.{options_of}
@@ -17,6 +17,11 @@ pub record JobContents : Type 0 where
   pub search : SearchContents
   -- the byte that ends a record
   pub separator : ℕ
+
+-- the job has the separator that it had, and its search the specs and the source: all but the search's counts
+pub record KeepsJob (old new : JobContents) : Type 0 where
+  pub search : KeepsSpecs old.search new.search
+  pub separator : new.separator ≡ old.separator
 
 -- what is asked for
 pub record Request : Type 0 where

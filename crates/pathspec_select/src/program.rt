@@ -5,6 +5,7 @@ ghost use Rattle.gix_pathspec.specs.SelectionLaws.{ChosenIsTest};
 ghost use Rattle.pathspec_select.specs.Environment.{words_of};
 ghost use Rattle.pathspec_select.specs.Program.{Ends, EndsJob, CountsRefusal};
 ghost use Rattle.pathspec_select.specs.Choice.{WritesRecords, WritesChosen};
+ghost use Rattle.pathspec_select.specs.Requests.{KeepsJob};
 ghost use Rattle.pathspec_select.specs.Refusals.{refused_listing, refused_walk};
 
 use crate::listing::{self, ListingError};
@@ -69,7 +70,7 @@ pub fn run_with<R: Read, W: Write, L: LookUp<Fault = AllocError>>(
     ensures chosen { OnOk result (WritesRecords (L.table look_up.old)
         (specs_of job.old.search.specs) job.old.separator (R.remaining reader.old)
         (W.contents writer.old) (W.contents writer.new)) }
-    ensures job { job.new ≡ job.old }
+    ensures job { KeepsJob job.old job.new }
     ensures table_stays { L.table look_up.new ≡ L.table look_up.old }
     ensures counts { CountsRefusal (L.failures look_up.old) (L.failures look_up.new) result }
 {

@@ -4,7 +4,7 @@ ghost use Rattle.bstr.specs.BStr.{bstr_bytes};
 ghost use Rattle.pathspec_parts.specs.Attributes.{next_count};
 ghost use Rattle.pathspec_parts.specs.Cursors.{IsNew, path_at, is_dir_at, after_enter, append_if};
 ghost use Rattle.gix_pathspec.specs.Matching.{is_chosen};
-ghost use Rattle.gix_pathspec.specs.Search.{specs_of};
+ghost use Rattle.gix_pathspec.specs.Search.{KeepsSpecs, specs_of};
 ghost use Rattle.pathspec_select.specs.Walks.{IsWalk, HasWalked, GivenIsOne, EnteredIsOne, can_hold};
 ghost use Rattle.pathspec_select.specs.SelectAnswers.{CountsFailure};
 
@@ -40,8 +40,8 @@ pub enum SelectError<F> {
 /// What lies in a directory that isn't entered costs nothing. Only the numbers that are given take memory.
 ///
 /// # Errors
-/// [`SelectError::LookUp`], only where the look-up failed in this call, and [`SelectError::Memory`]. The search is then
-/// as before, and the cursor stands at the entry that was asked.
+/// [`SelectError::LookUp`], only where the look-up failed in this call, and [`SelectError::Memory`]. The search then has its
+/// specs as before, and the cursor stands at the entry that was asked.
 pub fn select<L: LookUp>(
     alloc: Global,
     cursor: &mut Cursor<'_>,
@@ -60,7 +60,7 @@ pub fn select<L: LookUp>(
     // They are one list too.
     ensures trail { EnteredIsOne }
     ensures tree { cursor.new.entries ≡ cursor.old.entries }
-    ensures search { search.new ≡ search.old }
+    ensures search { KeepsSpecs search.old search.new }
     ensures table_stays { L.table look_up.new ≡ L.table look_up.old }
     ensures counts { CountsFailure (L.failures look_up.old) (L.failures look_up.new) result }
 {
@@ -91,7 +91,7 @@ fn visit<L: LookUp>(
         (if is_dir_at cursor.old && can_hold (specs_of search.old.specs) (path_at cursor.old)
         then after_enter cursor.old else cursor.old)) }
     ensures tree { cursor.new.entries ≡ cursor.old.entries }
-    ensures search { search.new ≡ search.old }
+    ensures search { KeepsSpecs search.old search.new }
     ensures table_stays { L.table look_up.new ≡ L.table look_up.old }
     ensures counts { CountsFailure (L.failures look_up.old) (L.failures look_up.new) result }
 {
@@ -116,7 +116,7 @@ fn is_chosen<L: LookUp>(
     requires { bstr_bytes path ≢ [] }
     ensures chosen { IfOk result (λ chosen. chosen ≡ is_chosen (L.table look_up.old)
         (specs_of search.old.specs) (bstr_bytes path.entry) is_dir) }
-    ensures search { search.new ≡ search.old }
+    ensures search { KeepsSpecs search.old search.new }
     ensures table_stays { L.table look_up.new ≡ L.table look_up.old }
     ensures ok_leaves_count { OnOk result (L.failures look_up.new ≡ L.failures look_up.old) }
     ensures err_counts { OnErr result

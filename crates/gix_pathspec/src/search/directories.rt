@@ -69,7 +69,7 @@ impl Search {
     fn first_settling(&self) -> Option<&CompiledSpec>
         ensures { option_map (λ c. c.now.spec) result ≡ find settles (specs_of self.now.specs) }
     {
-        self.specs.iter().find(|spec| spec.settles())
+        self.specs.as_slice().iter().find(|spec| spec.settles())
     }
 
     /// Whether some include takes the directory.
@@ -78,6 +78,7 @@ impl Search {
             (specs_of self.now.specs) }
     {
         self.specs
+            .as_slice()
             .iter()
             .any(|spec| spec.takes_directory(path, leading))
     }
@@ -123,6 +124,7 @@ impl Search {
             (filter is_include (specs_of self.now.specs)) }
     {
         self.specs
+            .as_slice()
             .iter()
             .all(|spec| !spec.is_include() || spec.ends_at_boundary(common))
     }

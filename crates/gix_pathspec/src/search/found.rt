@@ -1,16 +1,22 @@
 //! What a search finds for a path.
-ghost use Rattle.std.specs.Prelude.{◌≡◌, IfOk, OnOk, OnErr};
+ghost use Rattle.std.specs.Prelude.{◌≡◌, ℕ, ◌+◌, ◌^◌, ◌<◌, ◌≤◌, length, IsSome, IsTrue, IfOk, OnOk, OnErr};
 ghost use Rattle.bstr.specs.BStr.{bstr_bytes};
 ghost use Rattle.pathspec_parts.specs.Attributes.{next_count};
 ghost use Rattle.gix_pathspec.specs.Specs.{is_exclude};
 ghost use Rattle.gix_pathspec.specs.Patterns.{pattern_spec};
+ghost use Rattle.pathspec_glob.specs.Counts.{Counts};
+ghost use Rattle.pathspec_heads.specs.Heads.{IsChainOf};
+ghost use Rattle.pathspec_heads.specs.Groups.{IsGrouped, HasSameGroups};
 ghost use Rattle.gix_pathspec.specs.Found.{IsFirstFound};
+ghost use Rattle.gix_pathspec.specs.Effort.{heads_in_order, candidate_count, IsFewCompared, IsLittleCompared, is_unasked, is_spec_place};
+ghost use Rattle.gix_pathspec.specs.Search.{KeepsSpecs};
 
 use crate::Pattern;
-use crate::search::spec::CompiledSpec;
+use crate::search::counted::CountedSpecs;
 use crate::search::texts::begins_with;
-use crate::search::{MatchKind, Search};
+use crate::search::{Effort, MatchKind, NO_EFFORT, Search};
 use bstr::BStr;
+use pathspec_heads::places::PlacesByHead;
 use pathspec_parts::attributes::LookUp;
 
 /// The spec that settles a path, and how it came to match it.
@@ -66,20 +72,22 @@ impl Search {
     /// A path is a directory where `is_dir` is `Some(true)`. An empty path is settled by the nil pattern, and so is a
     /// path that no spec matches, if there are only excludes.
     ///
-    /// It looks at each byte of the common prefix once. Of a path that begins with it, each spec up to the first that
-    /// matches looks at the bytes of its head, and where the path begins with this, at each byte of its own path a
-    /// fixed number of times, beside the steps of its glob. The look-up is asked once, on a reset outcome, for each
-    /// spec that lists attributes and fits. It takes no memory.
+    /// It looks at each byte of the common prefix once. Of a path that begins with it, it compares at most as many heads
+    /// with it as the count of specs has binary digits, and two ([`Search::last_compared`]). Then it asks the specs whose
+    /// head begins the path, in search order, up to the first that matches ([`Search::last_tested`]). Each of them looks
+    /// at each byte of its own path a fixed number of times, beside the steps of its glob; and to find it, it looks at as
+    /// many places for each head that begins the path as their count has binary digits. The look-up is asked once, on a
+    /// reset outcome, for each spec that lists attributes and fits. It takes no memory.
     ///
     /// # Errors
-    /// The look-up's fault, and only where the look-up failed in this call. The search is then as before.
+    /// The look-up's fault, and only where the look-up failed in this call. The search then has its specs as before.
     pub fn find_match<L: LookUp>(
         &mut self,
         path: BStr<'_>,
         is_dir: Option<bool>,
         look_up: &mut L,
     ) -> Result<Option<MatchPlace>, L::Fault>
-        ensures same { self.new ≡ self.old }
+        ensures same { KeepsSpecs self.old self.new }
         ensures answer { IfOk result (λ found. answer_at self.old.specs found
             ≡ answer (L.table look_up.old) self.old.specs
             (bstr_bytes path.entry) (is_directory is_dir)) }
@@ -95,7 +103,21 @@ impl Search {
         ensures ok_leaves_count { OnOk result (L.failures look_up.new ≡ L.failures look_up.old) }
         ensures err_counts { OnErr result
             (L.failures look_up.new ≡ next_count (L.failures look_up.old)) }
+
+        // What is asked and compared is counted, and all of it is told; also where the look-up fails.
+        ensures tested { Counts self.old.tested self.new.last_tested self.new.tested }
+        ensures compared { Counts self.old.compared self.new.last_compared self.new.compared }
+        ensures few_tested { self.new.last_tested
+            ≤ candidate_count self.old.specs (bstr_bytes path.entry) }
+        ensures few_compared { IsFewCompared self.old.specs self.new.last_compared }
+        ensures little_compared { IsLittleCompared self.old.specs (bstr_bytes path.entry)
+            self.new.last_compared }
+        ensures looked { IfOk result (λ found. IsTrue (is_spec_place found)
+            → (1 ≤ self.new.last_tested) × (1 ≤ self.new.last_compared)) }
+        ensures unasked { IsTrue (is_unasked self.old.specs (bstr_bytes path.entry))
+            → (self.new.last_tested ≡ 0) × (self.new.last_compared ≡ 0) }
     {
+        self.effort = NO_EFFORT;
         if path.as_bytes().is_empty() {
             return Ok(Some(MatchPlace::Nil { number: 0 }));
         }
@@ -103,10 +125,46 @@ impl Search {
             return Ok(None);
         }
         let is_dir = is_dir.unwrap_or(false);
-        if let Some((place, kind)) = first_match(&mut self.specs, path, is_dir, look_up)? {
+        if let Some((place, kind)) = first_match(
+            &mut self.specs,
+            &mut self.heads,
+            &mut self.effort,
+            path,
+            is_dir,
+            look_up,
+        )? {
             return Ok(Some(MatchPlace::Spec { place, kind }));
         }
         Ok(self.default_match())
+    }
+
+    /// How many specs the last match asked whether they match the path; a spec at which the look-up failed is one. It is 0
+    /// before the first match, and where the path was empty or lacked the common prefix.
+    pub fn last_tested(&self) -> usize
+        ensures { result ≡ self.now.last_tested }
+    {
+        self.effort.tested
+    }
+
+    /// How many heads of specs the last match compared with the path. It is 0 where [`Search::last_tested`] says so.
+    pub fn last_compared(&self) -> u128
+        ensures { result ≡ self.now.last_compared }
+    {
+        self.effort.compared
+    }
+
+    /// How many specs all matches of this search asked, modulo 2^128.
+    pub fn total_tested(&self) -> u128
+        ensures { result ≡ self.now.tested }
+    {
+        self.specs.tested()
+    }
+
+    /// How many heads all matches of this search compared, modulo 2^128.
+    pub fn total_compared(&self) -> u128
+        ensures { result ≡ self.now.compared }
+    {
+        self.heads.compared()
     }
 
     /// What settles a path that no spec matches: the nil pattern, if there are only excludes.
@@ -129,8 +187,8 @@ impl Search {
     {
         match found {
             MatchPlace::Spec { place, kind } => Match {
-                pattern: self.specs[place].pattern(),
-                sequence_number: self.specs[place].number(),
+                pattern: self.specs.as_slice()[place].pattern(),
+                sequence_number: self.specs.as_slice()[place].number(),
                 kind,
             },
             MatchPlace::Nil { number } => Match {
@@ -150,7 +208,7 @@ impl Search {
     /// The cost is that of [`Search::find_match`].
     ///
     /// # Errors
-    /// The look-up's fault, and only where the look-up failed in this call. The search is then as before.
+    /// The look-up's fault, and only where the look-up failed in this call. The search then has its specs as before.
     pub fn pattern_matching_relative_path<L: LookUp>(
         &mut self,
         path: BStr<'_>,
@@ -177,25 +235,92 @@ impl Search {
     }
 }
 
-/// The place of the first spec that matches a path, and how it does.
+/// The place of the first spec that matches a path, and how it does. Only specs are asked whose head begins the path.
 fn first_match<L: LookUp>(
-    specs: &mut [CompiledSpec],
+    specs: &mut CountedSpecs,
+    heads: &mut PlacesByHead,
+    effort: &mut Effort,
     path: BStr<'_>,
     is_dir: bool,
     look_up: &mut L,
 ) -> Result<Option<(usize, MatchKind)>, L::Fault>
-    ensures same { specs.new ≡ specs.old }
+    requires grouped { IsGrouped (heads_in_order specs.old.specs)
+        heads.old.heads heads.old.starts heads.old.order }
+    requires none { effort.old.tested ≡ 0 }
+    ensures same { specs.new.specs ≡ specs.old.specs }
+    ensures groups { HasSameGroups heads.old heads.new }
     ensures first { IfOk result (λ found.
-        IsFirstFound (L.table look_up.old) specs.old (bstr_bytes path.entry) is_dir found) }
+        IsFirstFound (L.table look_up.old) specs.old.specs (bstr_bytes path.entry) is_dir found) }
     ensures table_stays { L.table look_up.new ≡ L.table look_up.old }
     ensures ok_leaves_count { OnOk result (L.failures look_up.new ≡ L.failures look_up.old) }
     ensures err_counts { OnErr result
         (L.failures look_up.new ≡ next_count (L.failures look_up.old)) }
+    // What was looked at is told.
+    ensures tested { Counts specs.old.tested effort.new.tested specs.new.tested }
+    ensures few_tested { effort.new.tested
+        ≤ candidate_count specs.old.specs (bstr_bytes path.entry) }
+    ensures compared { Counts heads.old.compared effort.new.compared heads.new.compared }
+    ensures few_compared { IsFewCompared specs.old.specs effort.new.compared }
+    ensures looked { IfOk result (λ found. IsSome found
+        → (1 ≤ effort.new.tested) × (1 ≤ effort.new.compared)) }
 {
-    for place in 0..specs.len() {
-        if let Some(kind) = specs[place].matches(path, is_dir, look_up)? {
+    let deepest = heads.deepest(path.as_bytes());
+    effort.compared = deepest.compared;
+    match deepest.head {
+        Some(head) => {
+            first_candidate(
+                specs,
+                heads,
+                head,
+                &mut effort.tested,
+                path,
+                is_dir,
+                look_up,
+            )
+        }
+        None => Ok(None),
+    }
+}
+
+/// The place of the first spec that matches a path, and how it does, of those whose head begins the one with a number.
+/// Each spec that is asked is counted.
+fn first_candidate<L: LookUp>(
+    specs: &mut CountedSpecs,
+    heads: &PlacesByHead,
+    head: usize,
+    tested: &mut usize,
+    path: BStr<'_>,
+    is_dir: bool,
+    look_up: &mut L,
+) -> Result<Option<(usize, MatchKind)>, L::Fault>
+    requires grouped { IsGrouped (heads_in_order specs.old.specs)
+        heads.now.heads heads.now.starts heads.now.order }
+    requires head { head < length heads.now.heads }
+    requires chain { IsChainOf heads.now.heads (bstr_bytes path) head }
+    requires none { tested.old ≡ 0 }
+    ensures same { specs.new.specs ≡ specs.old.specs }
+    ensures first { IfOk result (λ found.
+        IsFirstFound (L.table look_up.old) specs.old.specs (bstr_bytes path.entry) is_dir found) }
+    ensures table_stays { L.table look_up.new ≡ L.table look_up.old }
+    ensures ok_leaves_count { OnOk result (L.failures look_up.new ≡ L.failures look_up.old) }
+    ensures err_counts { OnErr result
+        (L.failures look_up.new ≡ next_count (L.failures look_up.old)) }
+    ensures counted { Counts specs.old.tested tested.new specs.new.tested }
+    ensures few { tested.new ≤ candidate_count specs.old.specs (bstr_bytes path.entry) }
+    ensures asked { IfOk result (λ found. IsSome found → 1 ≤ tested.new) }
+{
+    let count = specs.len();
+    let mut from = 0;
+    while from < count {
+        let place = match heads.next_place(head, from) {
+            Some(place) => place,
+            None => return Ok(None),
+        };
+        *tested += 1;
+        if let Some(kind) = specs.matches(place, path, is_dir, look_up)? {
             return Ok(Some((place, kind)));
         }
+        from = place + 1;
     }
     Ok(None)
 }

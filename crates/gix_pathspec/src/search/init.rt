@@ -8,14 +8,18 @@ ghost use Rattle.pathspec_parts.specs.Paths.{IsBytes, is_clean_prefix};
 ghost use Rattle.gix_pathspec.specs.Errors.{IsMemory};
 ghost use Rattle.gix_pathspec.specs.Patterns.{pattern_spec};
 ghost use Rattle.gix_pathspec.specs.Prefixes.{common_front, common_prefix};
-ghost use Rattle.gix_pathspec.specs.Search.{specs_of, numbered_from, default_to_prefix, in_search_order, search_of};
+ghost use Rattle.gix_pathspec.specs.Search.{KeepsSpecs, HasNoEffort, specs_of, numbered_from, default_to_prefix, in_search_order, search_of};
+ghost use Rattle.gix_pathspec.specs.Effort.{heads_in_order};
 ghost use Rattle.gix_pathspec.specs.Building.{prefix_bytes, TellsFault, Builds, IsErrorAt, numbered_normal_form};
 ghost use Rattle.gix_pathspec.specs.SelectionLaws.{SpecPathsAreBytes};
 
-use crate::search::Search;
+use crate::search::counted::CountedSpecs;
+use crate::search::reach::Reach;
 use crate::search::spec::CompiledSpec;
+use crate::search::{NO_EFFORT, Search};
 use crate::{Error, MagicSignature, Pattern};
 use bstr::{BStr, BString};
+use pathspec_heads::places::PlacesByHead;
 use std::alloc::{AllocError, AllocFailed, Global};
 use std::iter::IntoIterator;
 
@@ -57,8 +61,8 @@ impl Search {
     ///
     /// The prefix must be clean, as [`Pattern::normalize`] asks. None is the empty prefix.
     ///
-    /// The cost is linear in the bytes of all specs, and for each spec in the prefix and the root. Each spec gets the
-    /// room that its matches work in; nothing grows afterwards.
+    /// The cost is linear in the bytes of all specs, and for each spec in the prefix and the root; and their heads are
+    /// sorted. Each spec gets the room that its matches work in; nothing grows afterwards.
     ///
     /// # Errors
     /// [`BuildError::Spec`] for the first spec that has no normal form, and [`BuildError::Memory`].
@@ -78,6 +82,7 @@ impl Search {
             × (search_of (prefix_bytes prefix.entry) (bstr_bytes root.entry) (map pattern_spec xs)
             ≡ Ok search.specs)) }
         ensures source { IfOk result (λ search. search.source ≡ None) }
+        ensures effort { IfOk result HasNoEffort }
         ensures err { IfErr result (λ e. TellsFault e (λ fault. (it : I.IntoIter)
             × (xs : List Pattern) × I.into_iter_gives specs it × Drains I.IntoIter.next_gives it xs
             × (search_of (prefix_bytes prefix.entry) (bstr_bytes root.entry) (map pattern_spec xs)
@@ -87,19 +92,26 @@ impl Search {
         build(alloc, patterns, prefix.unwrap_or(BStr::new(b"")), root)
     }
 
-    /// A search equal to this one, with room of its own.
+    /// A search with the same specs and source, with room of its own. Its counts begin at 0.
     ///
-    /// The cost is linear in the bytes of all its specs.
+    /// The cost is that of [`Search::from_specs`].
     ///
     /// # Errors
     /// [`Error::Memory`] alone.
     pub fn try_clone(&self) -> Result<Search, Error>
-        ensures ok { IfOk result (λ search. search ≡ self.now) }
+        ensures ok { IfOk result (KeepsSpecs self.now) }
+        ensures effort { IfOk result HasNoEffort }
         ensures err { IfErr result IsMemory }
     {
-        let alloc = *self.specs.allocator();
+        let alloc = *self.common_prefix.allocator();
+        let specs = clone_all(alloc, self.specs.as_slice())?;
+        let reach = Reach::of_specs(alloc, &specs)?;
+        let heads = PlacesByHead::new(alloc, heads_in_order(alloc, &specs)?)?;
         Ok(Search {
-            specs: clone_all(alloc, self.specs.as_slice())?,
+            specs: CountedSpecs::new(specs),
+            heads,
+            reach,
+            effort: NO_EFFORT,
             nil: Pattern::nil(alloc),
             common_prefix: self.common_prefix.clone()?,
             source: clone_source(&self.source)?,
@@ -137,13 +149,19 @@ fn build(
     ensures search { Builds (λ search. search.specs) (search_of (bstr_bytes prefix.entry)
         (bstr_bytes root.entry) (map pattern_spec patterns.items)) result }
     ensures source { IfOk result (λ search. search.source ≡ None) }
+    ensures effort { IfOk result HasNoEffort }
 {
     let patterns = default_to_prefix(alloc, patterns, prefix)?;
     let compiled = compile_all(alloc, patterns, prefix, root)?;
     let specs = in_search_order(alloc, compiled)?;
     let common_prefix = common_prefix(alloc, specs.as_slice())?;
+    let heads = PlacesByHead::new(alloc, heads_in_order(alloc, specs.as_slice())?)?;
+    let reach = Reach::of_specs(alloc, specs.as_slice())?;
     Ok(Search {
-        specs,
+        specs: CountedSpecs::new(specs),
+        heads,
+        reach,
+        effort: NO_EFFORT,
         nil: Pattern::nil(alloc),
         common_prefix,
         source: None,
@@ -233,6 +251,18 @@ fn in_search_order(alloc: Global, specs: Vec<CompiledSpec>) -> Result<Vec<Compil
     }
     ordered.append(&mut includes)?;
     Ok(ordered)
+}
+
+/// The heads of specs in their order.
+fn heads_in_order(alloc: Global, specs: &[CompiledSpec]) -> Result<Vec<Vec<u8>>, AllocError>
+    ensures { IfOk result (λ heads.
+        map (λ head. head.items) heads.items ≡ heads_in_order specs.now) }
+{
+    let mut heads = Vec::with_capacity(alloc, specs.len())?;
+    for spec in specs {
+        heads.push(Vec::from_slice(alloc, spec.head())?)?;
+    }
+    Ok(heads)
 }
 
 /// The longest text that every include's head begins with; empty where there is no include.

@@ -51,7 +51,7 @@ impl Search {
         ensures { option_map (λ c. c.now.spec) result
             ≡ find is_include (specs_of self.now.specs) }
     {
-        self.specs.iter().find(|spec| spec.is_include())
+        self.specs.as_slice().iter().find(|spec| spec.is_include())
     }
 
     /// The specs in search order: excludes first, each group in the order in which the specs were given. Constant time.
@@ -68,7 +68,7 @@ impl Search {
         ensures { result ≡ specs_of self.specs }
     {
         IntoPatterns {
-            rest: self.specs.into_iter(),
+            rest: self.specs.into_specs().into_iter(),
         }
     }
 

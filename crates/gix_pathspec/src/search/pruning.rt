@@ -11,7 +11,7 @@ ghost use Rattle.gix_pathspec.specs.PruningLaws.{PruningIsSafe, FilePruningIsSaf
 
 use crate::MagicSignature;
 use crate::search::spec::CompiledSpec;
-use crate::search::texts::{begins_with, is_below, is_same_text};
+use crate::search::texts::begins_with;
 use crate::search::{Search, matching};
 use bitflags::Flags;
 use bstr::BStr;
@@ -28,7 +28,9 @@ impl Search {
     /// include. Where the path is that of a file, say so by `is_dir`: a spec that wants a directory is then asked only
     /// for what lies below it.
     ///
-    /// It looks at each byte of the path and of each stem a fixed number of times by spec, and takes no memory.
+    /// It compares the path with at most as many stems of includes as their count has binary digits, and one, in each of
+    /// six tables: with case and without, and of stems that a wildcard follows, of others, and of those that want a
+    /// directory. Then it takes a link for each stem that begins the path. It takes no memory.
     pub fn can_match_relative_path(&self, path: BStr<'_>, is_dir: Option<bool>) -> bool
         ensures answer { result ≡ can_match (specs_of self.now.specs) (bstr_bytes path.entry)
             is_dir }
@@ -61,7 +63,7 @@ impl Search {
     pub(super) fn takes_unasked(&self, path: &[u8]) -> bool
         ensures { result ≡ is_empty (specs_of self.now.specs) || is_empty path.now }
     {
-        self.specs.is_empty() || path.is_empty()
+        self.specs.as_slice().is_empty() || path.is_empty()
     }
 
     /// Whether the path and the common prefix agree as far as both go.
@@ -79,32 +81,15 @@ impl Search {
             && is_reached specs path.now is_dir) }
     {
         self.agrees_with_common_prefix(path)
-            && !self.has_total_exclude()
-            && (self.has_include_reaching(path, is_dir) || !self.has_include())
-    }
-
-    /// Whether an exclude takes every path.
-    fn has_total_exclude(&self) -> bool
-        ensures { result ≡ list_any is_total_exclude (specs_of self.now.specs) }
-    {
-        self.specs.iter().any(|spec| spec.is_total_exclude())
-    }
-
-    /// Whether some include reaches the path.
-    fn has_include_reaching(&self, path: &[u8], is_dir: Option<bool>) -> bool
-        ensures { result ≡ list_any (λ s. is_include s && reaches s path.now is_dir)
-            (specs_of self.now.specs) }
-    {
-        self.specs
-            .iter()
-            .any(|spec| spec.is_include() && spec.reaches(path, is_dir))
+            && !self.reach.excludes_all()
+            && (self.reach.reaches(path, is_dir) || !self.reach.has_include())
     }
 
     /// Whether some spec puts paths in.
     pub(super) fn has_include(&self) -> bool
         ensures { result ≡ list_any is_include (specs_of self.now.specs) }
     {
-        self.specs.iter().any(|spec| spec.is_include())
+        self.reach.has_include()
     }
 }
 
@@ -161,36 +146,4 @@ impl CompiledSpec {
             && self.pattern().always_matches()
             && self.pattern().attributes.is_empty()
     }
-
-    /// Whether the spec reaches the path: it always matches, or its stem and the path lead to one another.
-    fn reaches(&self, path: &[u8], is_dir: Option<bool>) -> bool
-        ensures { result ≡ reaches self.now.spec path.now is_dir }
-    {
-        if self.pattern().always_matches() {
-            true
-        } else if self.takes_only_below(is_dir) {
-            is_below(path, self.path(), self.ignores_case())
-        } else {
-            leads_to(self.stem(), self.has_wildcard(), path, self.ignores_case())
-        }
-    }
-
-    /// Whether the spec, asked of a file, takes only what lies below its path.
-    fn takes_only_below(&self, is_dir: Option<bool>) -> bool
-        ensures { result ≡ takes_only_below self.now.spec is_dir }
-    {
-        is_dir == Some(false) && self.wants_directory() && !self.has_wildcard()
-    }
-}
-
-/// Whether a stem and a path lead to one another: one of them lies below the other or they are one, or the path goes on
-/// after a stem that a wildcard follows.
-fn leads_to(stem: &[u8], has_wildcard: bool, path: &[u8], ignore_case: bool) -> bool
-    ensures { result ≡ leads_to (fold_case ignore_case stem.now) has_wildcard
-        (fold_case ignore_case path.now) }
-{
-    is_below(stem, path, ignore_case)
-        || is_same_text(path, stem, ignore_case)
-        || is_below(path, stem, ignore_case)
-        || has_wildcard && begins_with(path, stem, ignore_case)
 }

@@ -1,7 +1,9 @@
 //! Searches that are made of specs, and specs that make none.
+use crate::tests::look_ups::Marks;
 use crate::tests::support::{Row, assert_each, build, build_from, pattern_of, search_of};
 use bstr::{BStr, BString};
-use gix_pathspec::{BuildError, MagicSignature, Pattern, Search, SearchMode};
+use gix_pathspec::search::{MatchKind, MatchPlace};
+use gix_pathspec::{BuildError, Error, MagicSignature, Pattern, Search, SearchMode};
 use std::alloc::Global;
 use std::test::Fail;
 
@@ -103,5 +105,49 @@ fn ten_thousand_specs_make_a_search(rt: HostRuntime) -> Result<(), Fail> {
     let search = build_from(rt.alloc(), many(rt.alloc(), 10_000)?, "")??;
     assert!(rt; search.patterns().len() == 10_000);
     assert!(rt; search.common_prefix() == BStr::new(b"a/b"));
+    Ok(())
+}
+
+/// The search of some specs, or the first error.
+fn some(alloc: Global) -> Result<Search, BuildError> {
+    let mut patterns = Vec::new(alloc);
+    for text in [":!(attr:b)a/b", "a", "a/b", "a/*.c", ":(icase)A/B", "a/b"] {
+        match pattern_of(alloc, text) {
+            Ok(pattern) => patterns.push(pattern)?,
+            Err(error) => return Err(BuildError::Spec(0, error)),
+        }
+    }
+    Search::from_specs(alloc, patterns, None, BStr::new(b"/r"))
+}
+
+/// Whether the search answers of a path that its second spec matches, by one question.
+fn answers(search: &mut Search) -> Result<bool, Fail> {
+    let found = search.find_match(BStr::new(b"a/x.c"), Some(false), &mut Marks::new())?;
+    let want = MatchPlace::Spec {
+        place: 1,
+        kind: MatchKind::Prefix,
+    };
+    Ok(found == Some(want) && search.last_tested() == 1)
+}
+
+/// Whether a clone answers as the search does, or memory ran out and the search answers still.
+fn is_cloned(mut search: Search) -> Result<bool, Fail> {
+    let copy = search.try_clone();
+    let answered = answers(&mut search)?;
+    match copy {
+        Ok(mut copy) => Ok(answered && are_same(&copy, &search) && answers(&mut copy)?),
+        Err(error) => Ok(answered && matches!(&error, Error::Memory)),
+    }
+}
+
+#[test]
+fn a_refused_growth_makes_no_search_and_leaves_the_one_that_is_cloned(
+    rt: HostRuntime,
+) -> Result<(), Fail> {
+    match some(rt.alloc()) {
+        Ok(search) => assert!(rt; is_cloned(search)?),
+        Err(BuildError::Memory) => {}
+        Err(BuildError::Spec(_, error)) => assert!(rt; matches!(&error, Error::Memory)),
+    }
     Ok(())
 }

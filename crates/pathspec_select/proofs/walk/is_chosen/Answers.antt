@@ -4,7 +4,7 @@ use Rattle.std.proofs.lemmas.Bool.Decides.{same_from_decides}
 use Rattle.pathspec_parts.specs.Attributes.{Table}
 use Rattle.gix_pathspec.specs.declared.search.found.MatchPlace.{MatchPlace}
 use Rattle.gix_pathspec.specs.Matching.{is_chosen}
-use Rattle.gix_pathspec.specs.Search.{Numbered, Answer, SearchContents, specs_of, selects}
+use Rattle.gix_pathspec.specs.Search.{Numbered, Answer, specs_of, selects}
 use Rattle.gix_pathspec.specs.Found.{answer_at}
 use Rattle.gix_pathspec.specs.SelectionLaws.{SelectsChosen}
 use Rattle.gix_pathspec.proofs.ChosenProofs.{chosen_is_test}
@@ -18,7 +18,7 @@ returns-in-Some-clause-chosen g c =
     let s = c.args.search.now.specs in
     let place = c.in-Some.place in
     let found = ap (λ (f : Option MatchPlace). selects (answer_at s f)) c.in-Some.is in
-    let here = ap (λ (x : SearchContents). selects (answer_at x.specs (Some place))) c.find_match.ensures.same in
+    let here = ap (λ (x : List Numbered). selects (answer_at x (Some place))) c.find_match.ensures.same.specs in
     ap not c.is_excluded.ensures ∙ (ap selects c.match_at.ensures ∙ (here ∙ (sym found ∙ selects_is_chosen _ s _ _ (answer_at s c.in_ok-place.field-0) c.requires c.in_ok-place.ensures.selected)))
 
 pub returns-in-None-clause-chosen : goal.returns-in-None-clause-chosen

@@ -6,7 +6,7 @@ use Rattle.pathspec_parts.specs.Trees.{IsNested, HasBytePaths}
 use Rattle.pathspec_parts.specs.Cursors.{CursorContents, IsNew, next_seen, append_if, next_number, cursor_at, path_at, is_dir_at}
 use Rattle.gix_pathspec.specs.Specs.{Spec}
 use Rattle.gix_pathspec.specs.Matching.{is_chosen}
-use Rattle.gix_pathspec.specs.Search.{SearchContents, specs_of}
+use Rattle.gix_pathspec.specs.Search.{specs_of}
 use Rattle.gix_pathspec.specs.SelectionLaws.{NoNilPrefix, SpecPathsAreBytes}
 use Rattle.pathspec_select.specs.Walks.{IsWalk, HasWalked, HasChosen}
 use Rattle.pathspec_select.proofs.EnteredProofs.{given_is_one, entered_is_one}
@@ -50,6 +50,7 @@ loop-place-init g c = record {
   course = start_as (g.L.LookUp.table c.args.look_up.now) (specs_of c.args.search.now.specs) c.args.cursor.now c.requires c.new-given.result.items c.new-given.ensures.items;
   tree = refl;
   search = refl;
+  source = refl;
   table = refl;
   count = refl;
 }
@@ -76,13 +77,14 @@ loop-place-preserved g c =
     let before = g.L.LookUp.table c.loop-place.look_up in
     let specs = specs_of c.args.search.now.specs in
     let now = specs_of c.loop-place.search.specs in
-    let same = ap (λ (x : SearchContents). specs_of x.specs) i.search in
+    let same = ap specs_of i.search in
     record {
       course = step table specs c.nil_specs_lack_a_prefix.ensures c.args.cursor.now.entries at c.visit.new.cursor c.loop-place.given.items c.visit.new.given.items i.tree e.nested i.course c.in-Some.place e.next
           (given_is table before specs now at c.next.new.self c.in-Some.place c.loop-place.given.items c.visit.new.given.items e.place i.table same v.given)
           (visit_is specs now at c.next.new.self c.visit.new.cursor c.in-Some.place e.place same v.entered);
       tree = v.tree ∙ (ap (λ (x : CursorContents). x.entries) e.place ∙ i.tree);
-      search = v.search ∙ i.search;
+      search = v.search.specs ∙ i.search;
+      source = v.search.source ∙ i.source;
       table = v.table_stays ∙ i.table;
       count = v.counts ∙ i.count;
     }

@@ -8,7 +8,8 @@ abbrev pub invariant-loop-place : goal.invariant-loop-place
 invariant-loop-place g l = record {
   course : HasChosen (g.L.LookUp.table l.fn.look_up) (specs_of l.fn.search.specs) l.fn.cursor.entries (next_number l.cursor) l.given.items l.cursor.entered;
   tree : l.cursor.entries ≡ l.fn.cursor.entries;
-  search : l.search ≡ l.fn.search;
+  search : l.search.specs ≡ l.fn.search.specs;
+  source : l.search.source ≡ l.fn.search.source;
   table : g.L.LookUp.table l.look_up ≡ g.L.LookUp.table l.fn.look_up;
   count : g.L.LookUp.failures l.look_up ≡ g.L.LookUp.failures l.fn.look_up;
 }

@@ -11,7 +11,7 @@ use Rattle.gix_pathspec.proofs.search.Search.ends_at_boundary.Goals as goal
 pub returns : goal.returns
 returns c =
     all_from_yields_List (λ n. not (is_include n.spec) || ends_at_boundary c.args.common.now n.spec) _ _ c.all.result c.all.ensures.ran
-    (YieldsList-from_slice c.args.self.now.specs (c.iter.ensures.rest ∙ (c.deref.ensures.value ∙ ap (λ v. v.specs) c.self.view_is)))
+    (YieldsList-from_slice c.args.self.now.specs (c.iter.ensures.rest ∙ (c.as_slice.ensures ∙ ap (λ v. v.specs) c.self.view_is)))
     (λ x b q k. search (rules, tests))
     ∙ list_all-specs (λ s. not (is_include s) || ends_at_boundary c.args.common.now s) c.args.self.now.specs
     ∙ sym (list_all-filter is_include (ends_at_boundary c.args.common.now) (specs_of c.args.self.now.specs))

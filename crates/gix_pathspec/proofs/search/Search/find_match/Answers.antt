@@ -1,12 +1,14 @@
 -- The empty path, a path that lacks the common prefix, the first spec that matches, and what settles the others; what is selected follows from the answer.
-use Rattle.std.proofs.Common.{◌≡◌, ◌∙◌, sym, ap, subst, List, length, true, false, arith}
-use Rattle.std.proofs.lemmas.Grind.{common_steps}
+use Rattle.std.proofs.Common.{◌≡◌, ◌∙◌, sym, ap, subst, List, length, true, false}
 use Rattle.bstr.specs.BStr.{bstr_bytes}
 use Rattle.gix_pathspec.specs.Bytes.{is_empty, begins_with}
 use Rattle.gix_pathspec.specs.Prefixes.{common_prefix}
 use Rattle.gix_pathspec.specs.Search.{Numbered, SearchContents, specs_of, in_search_order}
 use Rattle.gix_pathspec.specs.Found.{answer_at, default_match}
 use Rattle.gix_pathspec.proofs.FoundProofs.{is_empty-counted, answer-empty, answer-outside, answer-first, answer-default, first-found, none-found, selected-answer}
+use Rattle.gix_pathspec.proofs.BuildingProofs.{is_search-kept}
+use Rattle.gix_pathspec.specs.Effort.{IsFewCompared, is_spec_place}
+use Rattle.gix_pathspec.proofs.EffortProofs.{few-none, little-none, little-from, default-is_no_spec, no_spec, is_asked}
 use Rattle.gix_pathspec.proofs.ChosenProofs.{order_is_free}
 use Rattle.gix_pathspec.proofs.search.Search.find_match.Goals as goal
 
@@ -15,9 +17,18 @@ returns-then-is_empty-clause-answer g c =
     let none : is_empty (bstr_bytes c.args.path) ≡ true = is_empty-counted (bstr_bytes c.args.path) (length c.as_bytes.result.now) (ap length c.as_bytes.ensures) ∙ sym c.is_empty.ensures ∙ c.if-is_empty.true in
     answer-empty _ c.args.self.now.specs _ _ none
 
+pub invariant_of-self-in_err-place : goal.invariant_of-self-in_err-place
+invariant_of-self-in_err-place g c = is_search-kept _ _ _ _ _ _ _ c.first_match.ensures.same c.first_match.ensures.groups c.self.invariant
+
+pub invariant_of-self-in-Some : goal.invariant_of-self-in-Some
+invariant_of-self-in-Some g c = is_search-kept _ _ _ _ _ _ _ c.first_match.ensures.same c.first_match.ensures.groups c.self.invariant
+
+pub invariant_of-self-2 : goal.invariant_of-self-2
+invariant_of-self-2 g c = is_search-kept _ _ _ _ _ _ _ c.first_match.ensures.same c.first_match.ensures.groups c.self.invariant
+
 pub returns-then-not-begins_with-clause-answer : goal.returns-then-not-begins_with-clause-answer
 returns-then-not-begins_with-clause-answer g c =
-    let specs : c.self.inside.specs.items ≡ c.args.self.now.specs = ap (λ (s : SearchContents). s.specs) c.self.view_is in
+    let specs : c.self.inside.specs.specs ≡ c.args.self.now.specs = ap (λ (s : SearchContents). s.specs) c.self.view_is in
     let common : c.deref.result.now ≡ common_prefix (specs_of c.args.self.now.specs) = c.deref.ensures.value ∙ c.self.invariant.is_common ∙ ap (λ (ns : List Numbered). common_prefix (specs_of ns)) specs in
     let test : begins_with (bstr_bytes c.args.path) (common_prefix (specs_of c.args.self.now.specs)) ≡ false = cc in
     let some : is_empty (bstr_bytes c.args.path) ≡ false = is_empty-counted (bstr_bytes c.args.path) (length c.as_bytes.result.now) (ap length c.as_bytes.ensures) ∙ sym c.is_empty.ensures ∙ c.if-is_empty.false in
@@ -26,38 +37,38 @@ returns-then-not-begins_with-clause-answer g c =
 pub returns-then-not-begins_with-clause-selected :
     goal.returns-then-not-begins_with-clause-selected
 returns-then-not-begins_with-clause-selected g c =
-    let specs : c.self.inside.specs.items ≡ c.args.self.now.specs = ap (λ (s : SearchContents). s.specs) c.self.view_is in
+    let specs : c.self.inside.specs.specs ≡ c.args.self.now.specs = ap (λ (s : SearchContents). s.specs) c.self.view_is in
     let ordered : in_search_order c.args.self.now.specs ≡ c.args.self.now.specs = subst (λ (ns : List Numbered). in_search_order ns ≡ ns) specs c.self.invariant.is_ordered in
     selected-answer _ _ _ _ _ (returns-then-not-begins_with-clause-answer g c) ordered
 
 pub returns-in-Some-clause-answer : goal.returns-in-Some-clause-answer
 returns-in-Some-clause-answer g c =
-    let specs : c.self.inside.specs.items ≡ c.args.self.now.specs = ap (λ (s : SearchContents). s.specs) c.self.view_is in
+    let specs : c.self.inside.specs.specs ≡ c.args.self.now.specs = ap (λ (s : SearchContents). s.specs) c.self.view_is in
     let common : c.deref.result.now ≡ common_prefix (specs_of c.args.self.now.specs) = c.deref.ensures.value ∙ c.self.invariant.is_common ∙ ap (λ (ns : List Numbered). common_prefix (specs_of ns)) specs in
     let test : begins_with (bstr_bytes c.args.path) (common_prefix (specs_of c.args.self.now.specs)) ≡ true = cc in
     let some : is_empty (bstr_bytes c.args.path) ≡ false = is_empty-counted (bstr_bytes c.args.path) (length c.as_bytes.result.now) (ap length c.as_bytes.ensures) ∙ sym c.is_empty.ensures ∙ c.if-is_empty.false in
-    let first = first-found _ c.args.self.now.specs _ _ _ _ _ _ _ (c.deref_mut.ensures.value ∙ specs) c.unwrap_or-is_dir.ensures c.in-Some.is c.in_ok-place.ensures.first in
+    let first = first-found _ c.args.self.now.specs _ _ _ _ _ _ _ specs c.unwrap_or-is_dir.ensures c.in-Some.is c.in_ok-place.ensures.first in
     answer-first _ _ _ _ some test _ _ first
 
 pub returns-in-Some-clause-selected : goal.returns-in-Some-clause-selected
 returns-in-Some-clause-selected g c =
-    let specs : c.self.inside.specs.items ≡ c.args.self.now.specs = ap (λ (s : SearchContents). s.specs) c.self.view_is in
+    let specs : c.self.inside.specs.specs ≡ c.args.self.now.specs = ap (λ (s : SearchContents). s.specs) c.self.view_is in
     let ordered : in_search_order c.args.self.now.specs ≡ c.args.self.now.specs = subst (λ (ns : List Numbered). in_search_order ns ≡ ns) specs c.self.invariant.is_ordered in
     selected-answer _ _ _ _ _ (returns-in-Some-clause-answer g c) ordered
 
 pub returns-clause-answer : goal.returns-clause-answer
 returns-clause-answer g c =
-    let specs : c.self.inside.specs.items ≡ c.args.self.now.specs = ap (λ (s : SearchContents). s.specs) c.self.view_is in
+    let specs : c.self.inside.specs.specs ≡ c.args.self.now.specs = ap (λ (s : SearchContents). s.specs) c.self.view_is in
     let common : c.deref.result.now ≡ common_prefix (specs_of c.args.self.now.specs) = c.deref.ensures.value ∙ c.self.invariant.is_common ∙ ap (λ (ns : List Numbered). common_prefix (specs_of ns)) specs in
     let test : begins_with (bstr_bytes c.args.path) (common_prefix (specs_of c.args.self.now.specs)) ≡ true = cc in
     let some : is_empty (bstr_bytes c.args.path) ≡ false = is_empty-counted (bstr_bytes c.args.path) (length c.as_bytes.result.now) (ap length c.as_bytes.ensures) ∙ sym c.is_empty.ensures ∙ c.if-is_empty.false in
-    let none = none-found _ c.args.self.now.specs _ _ _ _ _ (c.deref_mut.ensures.value ∙ specs) c.unwrap_or-is_dir.ensures c.in_default.is c.in_ok-place.ensures.first in
-    let given : c.default_match.result ≡ default_match c.args.self.now.specs = grind (arith, common_steps, c.self.inside.specs.ok.0) in
+    let none = none-found _ c.args.self.now.specs _ _ _ _ _ specs c.unwrap_or-is_dir.ensures c.in_default.is c.in_ok-place.ensures.first in
+    let given : c.default_match.result ≡ default_match c.args.self.now.specs = c.default_match.ensures ∙ ap default_match (c.first_match.ensures.same ∙ specs) in
     ap (answer_at c.args.self.now.specs) given ∙ answer-default _ _ _ _ some test none
 
 pub returns-clause-selected : goal.returns-clause-selected
 returns-clause-selected g c =
-    let specs : c.self.inside.specs.items ≡ c.args.self.now.specs = ap (λ (s : SearchContents). s.specs) c.self.view_is in
+    let specs : c.self.inside.specs.specs ≡ c.args.self.now.specs = ap (λ (s : SearchContents). s.specs) c.self.view_is in
     let ordered : in_search_order c.args.self.now.specs ≡ c.args.self.now.specs = subst (λ (ns : List Numbered). in_search_order ns ≡ ns) specs c.self.invariant.is_ordered in
     selected-answer _ _ _ _ _ (returns-clause-answer g c) ordered
 
@@ -75,3 +86,70 @@ returns-in-Some-clause-order g c = order_is_free
 
 pub returns-clause-order : goal.returns-clause-order
 returns-clause-order g c = order_is_free
+
+-- ---- what was looked at
+
+pub returns-then-is_empty-clause-few_compared : goal.returns-then-is_empty-clause-few_compared
+returns-then-is_empty-clause-few_compared g c = few-none c.args.self.now.specs
+
+pub returns-then-is_empty-clause-little_compared : goal.returns-then-is_empty-clause-little_compared
+returns-then-is_empty-clause-little_compared g c = little-none c.args.self.now.specs (bstr_bytes c.args.path)
+
+pub returns-then-is_empty-clause-looked : goal.returns-then-is_empty-clause-looked
+returns-then-is_empty-clause-looked g c = λ h. let no : false ≡ true = h in cc
+
+pub returns-then-not-begins_with-clause-few_compared : goal.returns-then-not-begins_with-clause-few_compared
+returns-then-not-begins_with-clause-few_compared g c = few-none c.args.self.now.specs
+
+pub returns-then-not-begins_with-clause-little_compared : goal.returns-then-not-begins_with-clause-little_compared
+returns-then-not-begins_with-clause-little_compared g c = little-none c.args.self.now.specs (bstr_bytes c.args.path)
+
+pub returns-then-not-begins_with-clause-looked : goal.returns-then-not-begins_with-clause-looked
+returns-then-not-begins_with-clause-looked g c = λ h. let no : false ≡ true = h in cc
+
+pub returns-in_err-place-clause-little_compared : goal.returns-in_err-place-clause-little_compared
+returns-in_err-place-clause-little_compared g c =
+    let specs : c.self.inside.specs.specs ≡ c.args.self.now.specs = ap (λ (s : SearchContents). s.specs) c.self.view_is in
+    let some : is_empty (bstr_bytes c.args.path) ≡ false = is_empty-counted (bstr_bytes c.args.path) (length c.as_bytes.result.now) (ap length c.as_bytes.ensures) ∙ sym c.is_empty.ensures ∙ c.if-is_empty.false in
+    little-from _ _ _ some (subst (λ (ns : List Numbered). IsFewCompared ns c.first_match.new.effort.compared) specs c.first_match.ensures.few_compared)
+
+pub returns-in_err-place-clause-unasked : goal.returns-in_err-place-clause-unasked
+returns-in_err-place-clause-unasked g c =
+    let specs : c.self.inside.specs.specs ≡ c.args.self.now.specs = ap (λ (s : SearchContents). s.specs) c.self.view_is in
+    let common : c.deref.result.now ≡ common_prefix (specs_of c.args.self.now.specs) = c.deref.ensures.value ∙ c.self.invariant.is_common ∙ ap (λ (ns : List Numbered). common_prefix (specs_of ns)) specs in
+    let test : begins_with (bstr_bytes c.args.path) (common_prefix (specs_of c.args.self.now.specs)) ≡ true = cc in
+    let some : is_empty (bstr_bytes c.args.path) ≡ false = is_empty-counted (bstr_bytes c.args.path) (length c.as_bytes.result.now) (ap length c.as_bytes.ensures) ∙ sym c.is_empty.ensures ∙ c.if-is_empty.false in
+    is_asked _ _ some test
+
+pub returns-in-Some-clause-little_compared : goal.returns-in-Some-clause-little_compared
+returns-in-Some-clause-little_compared g c =
+    let specs : c.self.inside.specs.specs ≡ c.args.self.now.specs = ap (λ (s : SearchContents). s.specs) c.self.view_is in
+    let some : is_empty (bstr_bytes c.args.path) ≡ false = is_empty-counted (bstr_bytes c.args.path) (length c.as_bytes.result.now) (ap length c.as_bytes.ensures) ∙ sym c.is_empty.ensures ∙ c.if-is_empty.false in
+    little-from _ _ _ some (subst (λ (ns : List Numbered). IsFewCompared ns c.first_match.new.effort.compared) specs c.first_match.ensures.few_compared)
+
+pub returns-in-Some-clause-unasked : goal.returns-in-Some-clause-unasked
+returns-in-Some-clause-unasked g c =
+    let specs : c.self.inside.specs.specs ≡ c.args.self.now.specs = ap (λ (s : SearchContents). s.specs) c.self.view_is in
+    let common : c.deref.result.now ≡ common_prefix (specs_of c.args.self.now.specs) = c.deref.ensures.value ∙ c.self.invariant.is_common ∙ ap (λ (ns : List Numbered). common_prefix (specs_of ns)) specs in
+    let test : begins_with (bstr_bytes c.args.path) (common_prefix (specs_of c.args.self.now.specs)) ≡ true = cc in
+    let some : is_empty (bstr_bytes c.args.path) ≡ false = is_empty-counted (bstr_bytes c.args.path) (length c.as_bytes.result.now) (ap length c.as_bytes.ensures) ∙ sym c.is_empty.ensures ∙ c.if-is_empty.false in
+    is_asked _ _ some test
+
+pub returns-clause-little_compared : goal.returns-clause-little_compared
+returns-clause-little_compared g c =
+    let specs : c.self.inside.specs.specs ≡ c.args.self.now.specs = ap (λ (s : SearchContents). s.specs) c.self.view_is in
+    let some : is_empty (bstr_bytes c.args.path) ≡ false = is_empty-counted (bstr_bytes c.args.path) (length c.as_bytes.result.now) (ap length c.as_bytes.ensures) ∙ sym c.is_empty.ensures ∙ c.if-is_empty.false in
+    little-from _ _ _ some (subst (λ (ns : List Numbered). IsFewCompared ns c.first_match.new.effort.compared) specs c.first_match.ensures.few_compared)
+
+pub returns-clause-looked : goal.returns-clause-looked
+returns-clause-looked g c =
+    let given : c.default_match.result ≡ default_match c.first_match.new.specs.specs = c.default_match.ensures in
+    no_spec _ (ap is_spec_place given ∙ default-is_no_spec c.first_match.new.specs.specs)
+
+pub returns-clause-unasked : goal.returns-clause-unasked
+returns-clause-unasked g c =
+    let specs : c.self.inside.specs.specs ≡ c.args.self.now.specs = ap (λ (s : SearchContents). s.specs) c.self.view_is in
+    let common : c.deref.result.now ≡ common_prefix (specs_of c.args.self.now.specs) = c.deref.ensures.value ∙ c.self.invariant.is_common ∙ ap (λ (ns : List Numbered). common_prefix (specs_of ns)) specs in
+    let test : begins_with (bstr_bytes c.args.path) (common_prefix (specs_of c.args.self.now.specs)) ≡ true = cc in
+    let some : is_empty (bstr_bytes c.args.path) ≡ false = is_empty-counted (bstr_bytes c.args.path) (length c.as_bytes.result.now) (ap length c.as_bytes.ensures) ∙ sym c.is_empty.ensures ∙ c.if-is_empty.false in
+    is_asked _ _ some test

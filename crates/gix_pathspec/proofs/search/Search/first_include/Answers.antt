@@ -12,6 +12,6 @@ returns c =
     option_map-twice (λ r. r.now) (λ n. n.spec) c.find.result
     ∙ ap (option_map (λ n. n.spec))
     (find_from_yields_List (λ n. is_include n.spec) _ _ c.find.result c.find.ensures.ran
-    (YieldsList-from_slice c.args.self.now.specs (c.iter.ensures.rest ∙ (c.deref.ensures.value ∙ ap (λ v. v.specs) c.self.view_is)))
+    (YieldsList-from_slice c.args.self.now.specs (c.iter.ensures.rest ∙ (c.as_slice.ensures ∙ ap (λ v. v.specs) c.self.view_is)))
     (λ x b q k. search (rules, tests)))
     ∙ find-specs is_include c.args.self.now.specs

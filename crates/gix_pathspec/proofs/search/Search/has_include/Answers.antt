@@ -1,14 +1,10 @@
--- The numbers of the specs don't count.
-use Rattle.std.proofs.Common.{◌∙◌, ap, rules, tests}
-use Rattle.std.proofs.lemmas.Iterator.{YieldsList-from_slice}
-use Rattle.std.proofs.lemmas.Iterator.Search.{any_from_yields_List}
-use Rattle.gix_pathspec.specs.Specs.{is_include}
-use Rattle.gix_pathspec.proofs.SpecListProofs.{list_any-specs}
+-- What a search reaches is what its specs reach.
+use Rattle.std.proofs.Common.{ap, subst}
+use Rattle.gix_pathspec.specs.Search.{specs_of}
+use Rattle.gix_pathspec.specs.Reach.{IsReachOf}
 use Rattle.gix_pathspec.proofs.search.Search.has_include.Goals as goal
 
 pub returns : goal.returns
 returns c =
-    any_from_yields_List (λ n. is_include n.spec) _ _ c.any.result c.any.ensures.ran
-    (YieldsList-from_slice c.args.self.now.specs (c.iter.ensures.rest ∙ (c.deref.ensures.value ∙ ap (λ v. v.specs) c.self.view_is)))
-    (λ x b q k. search (rules, tests))
-    ∙ list_any-specs is_include c.args.self.now.specs
+    c.has_include.ensures (specs_of c.args.self.now.specs)
+    (subst (λ specs. IsReachOf (specs_of specs) c.self.inside.reach) (ap (λ search. search.specs) c.self.view_is) c.self.invariant.is_reach)

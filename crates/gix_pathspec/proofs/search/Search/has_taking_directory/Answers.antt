@@ -9,6 +9,6 @@ use Rattle.gix_pathspec.proofs.search.Search.has_taking_directory.Goals as goal
 pub returns : goal.returns
 returns c =
     any_from_yields_List (λ n. takes_directory c.args.path.now c.args.leading n.spec) _ _ c.any.result c.any.ensures.ran
-    (YieldsList-from_slice c.args.self.now.specs (c.iter.ensures.rest ∙ (c.deref.ensures.value ∙ ap (λ v. v.specs) c.self.view_is)))
+    (YieldsList-from_slice c.args.self.now.specs (c.iter.ensures.rest ∙ (c.as_slice.ensures ∙ ap (λ v. v.specs) c.self.view_is)))
     (λ x b q k. search (rules, tests))
     ∙ list_any-specs (takes_directory c.args.path.now c.args.leading) c.args.self.now.specs

@@ -1,23 +1,24 @@
--- A spec that matches is the first, and one that doesn't leaves the first to the rest; each is put back as it was.
-use Rattle.std.proofs.Common.{◌≡◌, ◌<◌, length, get_or, ◌∙◌}
-use Rattle.gix_pathspec.proofs.FoundProofs.{put_back, first_match-here, first_match-later}
+-- Where no head begins the path, no spec matches.
+use Rattle.std.proofs.Common.{subst, ap, length, None, arith}
+use Rattle.bstr.specs.BStr.{bstr_bytes}
+use Rattle.pathspec_heads.specs.Heads.{IsLastFront}
+use Rattle.pathspec_heads.proofs.CandidateProofs.{no-candidates}
+use Rattle.gix_pathspec.specs.Effort.{heads_in_order}
+use Rattle.gix_pathspec.proofs.EffortProofs.{none-begins, few-specs}
 use Rattle.gix_pathspec.proofs.search.found.first_match.Goals as goal
 
-pub returns-in-Some-clause-first : goal.returns-in-Some-clause-first
-returns-in-Some-clause-first g c =
-    let n = c.index-specs-place.result in
-    let within : c.loop-place.place < length c.args.specs.now = c.loop-place-test.true in
-    let read : n ≡ get_or c.args.specs.now c.loop-place.place n = cc in
-    first_match-here _ _ _ _ _ n within read c.loop-place.invariant.rest _ (cc (c.in_ok-kind.ensures.answer))
+pub returns-in-None-clause-first : goal.returns-in-None-clause-first
+returns-in-None-clause-first g c =
+    let h = c.args.heads.now.heads in
+    let found = subst (λ o. IsLastFront h (length h) c.as_bytes.result.now o) c.in-None.is c.deepest-deepest.ensures.found in
+    let last = subst (λ t. IsLastFront h (length h) t None) c.as_bytes.ensures found in
+    none-begins _ (bstr_bytes c.args.path) c.args.is_dir c.args.specs.now.specs (no-candidates (heads_in_order c.args.specs.now.specs) h c.args.heads.now.starts c.args.heads.now.order c.requires.grouped (bstr_bytes c.args.path) last)
 
-pub loop-place-preserved : goal.loop-place-preserved
-loop-place-preserved g c =
-    let n = c.index-specs-place.result in
-    let within : c.loop-place.place < length c.args.specs.now = c.loop-place-test.true in
-    let read : n ≡ get_or c.args.specs.now c.loop-place.place n = cc in
-    record {
-      same = put_back _ _ _ n _ c.loop-place.invariant.same c.matches.ensures.same;
-      rest = first_match-later _ _ _ _ _ n within read c.loop-place.invariant.rest (cc (c.in_ok-kind.ensures.answer));
-      same_table = c.matches.ensures.table_stays ∙ c.loop-place.invariant.same_table;
-      same_count = c.in_ok-kind.ensures.ok_leaves_count ∙ c.loop-place.invariant.same_count;
-    }
+pub first_candidate-requires-clause-head : goal.first_candidate-requires-clause-head
+first_candidate-requires-clause-head g c = omega (arith, (c.deepest-deepest.ensures.found.begins c.in-Some.head c.in-Some.is).0, ap length c.deepest-deepest.ensures.same.heads)
+
+pub returns-in-Some-clause-few_compared : goal.returns-in-Some-clause-few_compared
+returns-in-Some-clause-few_compared g c = few-specs c.args.specs.now.specs c.args.heads.now.heads c.deepest-deepest.result.compared c.requires.grouped.few c.deepest-deepest.ensures.cost
+
+pub returns-in-None-clause-few_compared : goal.returns-in-None-clause-few_compared
+returns-in-None-clause-few_compared g c = few-specs c.args.specs.now.specs c.args.heads.now.heads c.deepest-deepest.result.compared c.requires.grouped.few c.deepest-deepest.ensures.cost

@@ -1,0 +1,23 @@
+-- No spec so far matches, so the first that does is among the rest; and what was asked is counted.
+use Rattle.std.proofs.Common.{◌≡◌, ◌+◌, ◌-◌, ◌≤◌, drop, length}
+use Rattle.bstr.specs.BStr.{bstr_bytes}
+use Rattle.pathspec_glob.specs.Counts.{Counts}
+use Rattle.gix_pathspec.specs.Found.{first_match}
+use Rattle.gix_pathspec.specs.Effort.{candidate_count}
+use Rattle.gix_pathspec.proofs.search.found.first_candidate.Given as goal
+
+abbrev pub invariant-loop-from : goal.invariant-loop-from
+invariant-loop-from g l =
+    record {
+      same : l.specs.specs ≡ l.fn.specs.specs;
+      within : l.from ≤ length l.fn.specs.specs;
+      rest : first_match (g.L.LookUp.table l.fn.look_up) (drop l.from l.fn.specs.specs) (bstr_bytes l.path) l.is_dir ≡ first_match (g.L.LookUp.table l.fn.look_up) l.fn.specs.specs (bstr_bytes l.path) l.is_dir;
+      same_table : g.L.LookUp.table l.look_up ≡ g.L.LookUp.table l.fn.look_up;
+      same_count : g.L.LookUp.failures l.look_up ≡ g.L.LookUp.failures l.fn.look_up;
+      counted : Counts l.fn.specs.tested l.tested l.specs.tested;
+      few : l.tested + candidate_count (drop l.from l.fn.specs.specs) (bstr_bytes l.path) ≤ candidate_count l.fn.specs.specs (bstr_bytes l.path);
+      steps : l.tested ≤ l.from;
+    }
+
+abbrev pub decreases-loop-from : goal.decreases-loop-from
+decreases-loop-from g l = l.count - l.from

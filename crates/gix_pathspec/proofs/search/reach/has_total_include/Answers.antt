@@ -1,0 +1,14 @@
+-- The numbers of the specs don't count.
+use Rattle.std.proofs.Common.{◌∙◌, rules, tests, ◌&&◌}
+use Rattle.std.proofs.lemmas.Iterator.{YieldsList-from_slice}
+use Rattle.std.proofs.lemmas.Iterator.Search.{any_from_yields_List}
+use Rattle.gix_pathspec.specs.Specs.{is_include, always_matches}
+use Rattle.gix_pathspec.proofs.SpecListProofs.{list_any-specs}
+use Rattle.gix_pathspec.proofs.search.reach.has_total_include.Goals as goal
+
+pub returns : goal.returns
+returns c =
+    any_from_yields_List (λ n. is_include n.spec && always_matches n.spec) _ _ c.any.result c.any.ensures.ran
+    (YieldsList-from_slice c.args.specs.now c.iter.ensures.rest)
+    (λ x b q k. search (rules, tests))
+    ∙ list_any-specs (λ s. is_include s && always_matches s) c.args.specs.now

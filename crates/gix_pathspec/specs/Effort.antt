@@ -1,0 +1,50 @@
+-- How much a search looks at: the specs that it asks about a path, and the heads that it compares with it.
+use Rattle.std.specs.Prelude.{◌≡◌, ℕ, ◌+◌, ◌*◌, ◌^◌, ◌<◌, ◌≤◌, Bool, true, false, not, ◌||◌, List, length, map, filter, slice_get, Option, Some, None}
+use Rattle.std.specs.Option.{option_and_then}
+use Rattle.gix_pathspec.specs.declared.search.MatchKind.{MatchKind}
+use Rattle.gix_pathspec.specs.declared.search.found.MatchPlace.{MatchPlace}
+use Rattle.gix_pathspec.specs.declared.search.found.MatchPlace.TheVariants.{Spec as AtSpec, Nil as AtNil}
+use Rattle.gix_pathspec.specs.Bytes.{is_empty, begins_with}
+use Rattle.gix_pathspec.specs.Attributes.{Table}
+use Rattle.gix_pathspec.specs.Prefixes.{head, common_prefix}
+use Rattle.gix_pathspec.specs.Search.{Numbered, specs_of}
+use Rattle.gix_pathspec.specs.Found.{matched_kind}
+
+-- specs, and how often one of them was asked whether it matches a path since they were made, modulo 2 ^ 128
+pub record TestedSpecs : Type 0 where
+  pub specs : List Numbered
+  pub tested : ℕ
+
+-- the heads of the specs in search order
+abbrev pub heads_in_order : List Numbered → List (List ℕ)
+heads_in_order specs = map (λ n. head n.spec) specs
+
+-- how the spec at a place matches a path, where there is one
+abbrev pub kind_at : Table → List Numbered → List ℕ → Bool → ℕ → Option MatchKind
+kind_at table specs path is_dir place = option_and_then (λ n. matched_kind table n.spec path is_dir) (slice_get specs place)
+
+-- a spec whose head begins the path
+abbrev pub is_candidate : List ℕ → Numbered → Bool
+is_candidate path n = begins_with path (head n.spec)
+
+-- how many specs have a head that begins the path
+abbrev pub candidate_count : List Numbered → List ℕ → ℕ
+candidate_count specs path = length (filter (is_candidate path) specs)
+
+-- of fewer than 2 ^ b specs, at most b + 2 heads are compared
+abbrev pub IsFewCompared : List Numbered → ℕ → Type 0
+IsFewCompared specs compared = (b : ℕ) → length specs < 2 ^ b → compared ≤ b + 2
+
+-- so they are at most (path bytes + 1) times (b + 1)
+abbrev pub IsLittleCompared : List Numbered → List ℕ → ℕ → Type 0
+IsLittleCompared specs path compared = (b : ℕ) → length specs < 2 ^ b → compared ≤ (length path + 1) * (b + 1)
+
+-- a path that is answered without a look at the specs: it is empty, or lacks the common prefix
+abbrev pub is_unasked : List Numbered → List ℕ → Bool
+is_unasked specs path = is_empty path || not (begins_with path (common_prefix (specs_of specs)))
+
+-- a spec of the search was found
+abbrev pub is_spec_place : Option MatchPlace → Bool
+is_spec_place (Some (AtSpec place kind)) = true
+is_spec_place (Some (AtNil number)) = false
+is_spec_place None = false

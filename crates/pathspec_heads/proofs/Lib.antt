@@ -1,0 +1,9 @@
+pub mod AgreementProofs
+pub mod HeadProofs
+pub mod SearchProofs
+pub mod PlacedProofs
+pub mod GroupProofs
+pub mod NextProofs
+pub mod CandidateProofs
+pub mod StemProofs
+pub mod TableProofs

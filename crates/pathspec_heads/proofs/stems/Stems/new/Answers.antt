@@ -1,0 +1,11 @@
+use Rattle.std.proofs.Common.{subst, sym, map}
+use Rattle.pathspec_heads.specs.Stems.{HasSameTexts}
+use Rattle.pathspec_heads.proofs.GroupProofs.{all-grouped, counted-view}
+use Rattle.pathspec_heads.proofs.StemProofs.{texts-stay}
+use Rattle.pathspec_heads.proofs.stems.Stems.new.Goals as goal
+
+pub returns : goal.returns
+returns c =
+    subst (HasSameTexts (map (λ text. text.items) c.args.stems.items)) (sym c.new-texts.ensures)
+    (texts-stay (map (λ text. text.items) c.args.stems.items) _ c.in_ok-groups.groups.starts.items c.in_ok-groups.groups.order.items
+    (all-grouped (map (λ text. text.items) c.args.stems.items) _ c.in_ok-entries.ensures _ _ _ (counted-view (λ entry. (entry.0.items, entry.1)) c.in_ok-entries.entries.items _ _ _ c.in_ok-groups.ensures)))

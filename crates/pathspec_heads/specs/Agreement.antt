@@ -1,0 +1,18 @@
+-- How far two texts agree, and which of them stands behind the other in byte order.
+use Rattle.std.specs.Prelude.{ℕ, ◌+◌, Bool, List, [], ◌∷◌, nat_eq, get_or}
+use Rattle.std.specs.List.{common_prefix_len}
+use Rattle.std.specs.Ordering.{nat_cmp, is_gt}
+use Rattle.std.specs.Cmp.Lexicographic.{slice_cmp}
+
+-- how many bytes of two texts agree at the front
+abbrev pub agreement : List ℕ → List ℕ → ℕ
+agreement x y = common_prefix_len nat_eq x y
+
+-- x stands behind y in byte order
+abbrev pub is_behind : List ℕ → List ℕ → Bool
+is_behind x y = is_gt (slice_cmp nat_cmp x y)
+
+-- the eight bytes of a text from a place on
+abbrev pub eight : List ℕ → ℕ → List ℕ
+eight x n =
+    get_or x n 0 ∷ get_or x (n + 1) 0 ∷ get_or x (n + 2) 0 ∷ get_or x (n + 3) 0 ∷ get_or x (n + 4) 0 ∷ get_or x (n + 5) 0 ∷ get_or x (n + 6) 0 ∷ get_or x (n + 7) 0 ∷ []

@@ -1,0 +1,5 @@
+pub mod Agreement
+pub mod Heads
+pub mod Groups
+pub mod Stems
+pub mod Tables

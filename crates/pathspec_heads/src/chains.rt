@@ -1,0 +1,265 @@
+//! Which heads begin a text: one search for the last head that isn't behind it, and then links, without a comparison.
+ghost use Rattle.std.specs.Prelude.{◌≡◌, ◌⊎◌, ℕ, ◌+◌, ◌^◌, ◌<◌, ◌≤◌, length, take, Some, IfOk, IfSome};
+ghost use Rattle.pathspec_glob.specs.Bytes.{begins_with};
+ghost use Rattle.pathspec_glob.specs.Counts.{Counts};
+ghost use Rattle.pathspec_heads.specs.Heads.{CountedHeads, head_at, IsRising, IsLinked, IsLastFront, IsChain, IsChainOf, Brackets};
+
+use crate::heads::{Heads, Texts};
+use std::alloc::{AllocError, Global};
+use std::marker::Model;
+
+/// Different heads in byte order, each with a link to the last head before it that begins it.
+///
+/// The heads that begin one of them are its chain: the head itself, the one that its link leads to, and so on.
+#[derive(Debug, Drop)]
+pub struct Chains {
+    heads: Heads,
+    links: Vec<Option<usize>>,
+    // Where the last search ended; the next one looks here first.
+    hint: usize,
+}
+
+impl Model for Chains {
+    ghost Value = { CountedHeads };
+
+    ghost view = { λ c. c.heads };
+
+    ghost invariant = { λ c. IsChain c.heads.heads c.links.items };
+}
+
+/// What was found for a text.
+#[derive(Clone, Copy, Debug)]
+pub struct Deepest {
+    /// The last head that begins the text, if one does.
+    pub head: Option<usize>,
+    /// How many heads were compared with the text.
+    pub compared: u128,
+}
+
+/// The heads below `low` aren't behind a text, those from `high` on are, and the last one below `low` agrees with the
+/// text in so many bytes.
+#[derive(Clone, Copy)]
+struct Between {
+    low: usize,
+    high: usize,
+    agreed: usize,
+}
+
+/// Where a search stands after so many comparisons.
+#[derive(Clone, Copy)]
+struct Begun {
+    between: Between,
+    compared: u128,
+}
+
+/// The place behind the last head that isn't behind a text, how many bytes that head agrees in, and how many heads were
+/// compared.
+#[derive(Clone, Copy)]
+struct Ended {
+    low: usize,
+    agreed: usize,
+    compared: u128,
+}
+
+/// Compares the head at the place with the text.
+fn narrowed(heads: &mut Heads, text: &[u8], between: Between, place: usize) -> Between
+    requires place { (between.low ≤ place) × (place < between.high) }
+    requires so_far { Brackets heads.old.heads text.now between.low between.high between.agreed }
+    ensures so_far { Brackets heads.old.heads text.now result.low result.high result.agreed }
+    ensures smaller { ((result.low ≡ between.low) × (result.high ≡ place))
+        ⊎ ((result.low ≡ place + 1) × (result.high ≡ between.high)) }
+    ensures heads { heads.new.heads ≡ heads.old.heads }
+    ensures counted { Counts heads.old.compared 1 heads.new.compared }
+{
+    let comparison = heads.compare(place, text);
+    if comparison.is_behind {
+        Between {
+            low: between.low,
+            high: place,
+            agreed: between.agreed,
+        }
+    } else {
+        Between {
+            low: place + 1,
+            high: between.high,
+            agreed: comparison.agreed,
+        }
+    }
+}
+
+/// Looks whether the search ends at the hint.
+fn by_hint(heads: &mut Heads, text: &[u8], hint: usize) -> Begun
+    ensures so_far { Brackets heads.old.heads text.now
+        result.between.low result.between.high result.between.agreed }
+    ensures heads { heads.new.heads ≡ heads.old.heads }
+    ensures counted { Counts heads.old.compared result.compared heads.new.compared }
+    ensures few { result.compared ≤ 2 }
+    ensures asked { 0 < length heads.old.heads → 1 ≤ result.compared }
+    ensures count { length heads.old.heads < 2 ^ 64 }
+{
+    let whole = Between {
+        low: 0,
+        high: heads.texts().len(),
+        agreed: 0,
+    };
+    if whole.high == 0 {
+        return Begun {
+            between: whole,
+            compared: 0,
+        };
+    }
+    if hint == 0 || hint > whole.high {
+        let between = narrowed(heads, text, whole, 0);
+        return Begun {
+            between,
+            compared: 1,
+        };
+    }
+    let first = narrowed(heads, text, whole, hint - 1);
+    if first.low < hint || first.high == hint {
+        return Begun {
+            between: first,
+            compared: 1,
+        };
+    }
+    let between = narrowed(heads, text, first, hint);
+    Begun {
+        between,
+        compared: 2,
+    }
+}
+
+/// The place behind the last head that isn't behind the text. It looks at the hint first.
+fn sought(heads: &mut Heads, text: &[u8], hint: usize) -> Ended
+    ensures found { Brackets heads.old.heads text.now result.low result.low result.agreed }
+    ensures heads { heads.new.heads ≡ heads.old.heads }
+    ensures counted { Counts heads.old.compared result.compared heads.new.compared }
+    ensures cost { (b : ℕ) → length heads.old.heads < 2 ^ b → result.compared ≤ b + 2 }
+    ensures asked { 0 < length heads.old.heads → 1 ≤ result.compared }
+{
+    let begun = by_hint(heads, text, hint);
+    let mut between = begun.between;
+    let mut compared = begun.compared;
+    while between.low < between.high {
+        let middle = between.low + (between.high - between.low) / 2;
+        between = narrowed(heads, text, between, middle);
+        compared += 1;
+    }
+    Ended {
+        low: between.low,
+        agreed: between.agreed,
+        compared,
+    }
+}
+
+/// The last head at or before the place that begins the first `agreed` bytes of the head there. It takes a link for
+/// each head that it passes, and there are at most as many as the head at the place has bytes.
+pub fn front_of(
+    heads: &Texts,
+    links: &[Option<usize>],
+    place: usize,
+    agreed: usize,
+) -> Option<usize>
+    requires place { (place < length links.now) × (length links.now ≤ length heads.now) }
+    requires rising { IsRising heads.now }
+    requires linked { IsLinked heads.now links.now }
+    ensures { IsLastFront heads.now (place + 1)
+        (take agreed (head_at heads.now place)) result }
+{
+    let mut at = place;
+    while heads.text_len(at) > agreed {
+        match links[at] {
+            Some(link) => at = link,
+            None => return None,
+        }
+    }
+    Some(at)
+}
+
+/// The last head before the one at the place that begins it, by the links of the heads before it.
+fn link_of(heads: &Texts, links: &[Option<usize>], place: usize) -> Option<usize>
+    requires place { (place < length heads.now) × (length links.now ≡ place) }
+    requires rising { IsRising heads.now }
+    requires linked { IsLinked heads.now links.now }
+    ensures { IsLastFront heads.now place (head_at heads.now place) result }
+{
+    if place == 0 {
+        return None;
+    }
+    let agreed = heads.shared_len(place - 1);
+    front_of(heads, links, place - 1, agreed)
+}
+
+/// The links of heads in byte order. The cost is linear in their bytes.
+///
+/// # Errors
+/// Memory runs out.
+pub fn linked(alloc: Global, heads: &Texts) -> Result<Vec<Option<usize>>, AllocError>
+    requires { IsRising heads.now }
+    ensures { IfOk result (λ links. IsChain heads.now links.items) }
+{
+    let mut links = Vec::with_capacity(alloc, heads.len())?;
+    for place in 0..heads.len() {
+        links.push(link_of(heads, &links, place))?;
+    }
+    Ok(links)
+}
+
+impl Chains {
+    /// The chains of different heads in byte order. The cost is linear in their bytes.
+    ///
+    /// # Errors
+    /// Memory runs out.
+    pub fn new(alloc: Global, heads: Heads) -> Result<Chains, AllocError>
+        requires { IsRising heads.heads }
+        ensures { IfOk result (λ chains. chains ≡ heads) }
+    {
+        let links = linked(alloc, heads.texts())?;
+        Ok(Chains {
+            heads,
+            links,
+            hint: 0,
+        })
+    }
+
+    /// The last head that begins the text, if one does, and how many heads were compared with it. The heads that begin
+    /// the text are those that begin this one.
+    ///
+    /// It compares at most as many heads as their count has binary digits, and two: where texts come in byte order
+    /// often one or two. It takes no memory.
+    pub fn deepest(&mut self, text: &[u8]) -> Deepest
+        ensures found { IsLastFront self.old.heads (length self.old.heads) text.now result.head }
+        ensures chain { IfSome result.head (λ j. IsChainOf self.old.heads text.now j) }
+        ensures heads { self.new.heads ≡ self.old.heads }
+        ensures counted { Counts self.old.compared result.compared self.new.compared }
+        ensures cost { (b : ℕ) → length self.old.heads < 2 ^ b → result.compared ≤ b + 2 }
+        ensures asked { 0 < length self.old.heads → 1 ≤ result.compared }
+    {
+        let ended = sought(&mut self.heads, text, self.hint);
+        self.hint = ended.low;
+        if ended.low == 0 {
+            return Deepest {
+                head: None,
+                compared: ended.compared,
+            };
+        }
+        let head = front_of(self.heads.texts(), &self.links, ended.low - 1, ended.agreed);
+        let compared = ended.compared;
+        Deepest { head, compared }
+    }
+
+    /// How often a head was compared with a text, modulo 2^128.
+    pub fn compared(&self) -> u128
+        ensures { result ≡ self.now.compared }
+    {
+        self.heads.compared()
+    }
+
+    /// The last head before the one at the place that begins it.
+    pub fn link(&self, place: usize) -> Option<usize>
+        requires { place < length self.now.heads }
+        ensures { IsLastFront self.now.heads place (head_at self.now.heads place) result }
+    {
+        self.links[place]
+    }
+}

@@ -1,0 +1,221 @@
+//! Different heads in byte order, which are compared with a text by one question that counts.
+ghost use Rattle.std.specs.Prelude.{◌≡◌, ◌+◌, ◌<◌, ◌≤◌, length, map, slice_index};
+ghost use Rattle.std.specs.Int.{w64, to_le_bytes};
+ghost use Rattle.pathspec_glob.specs.Counts.{Counts};
+ghost use Rattle.pathspec_heads.specs.Agreement.{agreement, is_behind, eight};
+ghost use Rattle.pathspec_heads.specs.Heads.{CountedHeads, head_at};
+ghost use Rattle.pathspec_heads.specs.Stems.{with_slash};
+
+use std::marker::Model;
+
+/// How a head compares with a text.
+#[derive(Clone, Copy, Debug)]
+pub struct Comparison {
+    /// How many bytes agree before the first that doesn't.
+    pub agreed: usize,
+    /// Whether the head stands behind the text in byte order.
+    pub is_behind: bool,
+}
+
+/// The bytes of heads. They are compared with a text in this module alone, by [`Heads::compare`].
+#[derive(Debug, Drop)]
+pub struct Texts {
+    all: Vec<Vec<u8>>,
+}
+
+impl Model for Texts {
+    ghost use Rattle.std.specs.Prelude.{List, ℕ, map};
+
+    ghost Value = { List (List ℕ) };
+
+    ghost view = { λ t. map (λ text. text.items) t.all.items };
+}
+
+impl Texts {
+    /// These texts.
+    pub fn new(all: Vec<Vec<u8>>) -> Texts
+        ensures { result ≡ map (λ text. text.items) all.items }
+    {
+        Texts { all }
+    }
+
+    /// How many there are.
+    pub fn len(&self) -> usize
+        ensures { result ≡ length self.now }
+    {
+        self.all.len()
+    }
+
+    /// How many bytes one of them has.
+    pub fn text_len(&self, place: usize) -> usize
+        requires { place < length self.now }
+        ensures { result ≡ length (head_at self.now place) }
+    {
+        self.all[place].len()
+    }
+
+    /// How many bytes one of them agrees in with the next.
+    pub fn shared_len(&self, place: usize) -> usize
+        requires { place + 1 < length self.now }
+        ensures { result
+            ≡ agreement (head_at self.now place) (head_at self.now (place + 1)) }
+    {
+        compared(&self.all[place], &self.all[place + 1]).agreed
+    }
+}
+
+/// Heads whose only question about a text is how one of them compares with it. Each such comparison is counted, and
+/// the count is never set back.
+#[derive(Debug, Drop)]
+pub struct Heads {
+    texts: Texts,
+    compared: u128,
+}
+
+impl Model for Heads {
+    ghost Value = { CountedHeads };
+
+    ghost view = { λ h. record { heads = h.texts; compared = h.compared } };
+}
+
+impl Heads {
+    /// Heads that were not yet compared.
+    pub fn new(texts: Texts) -> Heads
+        ensures { result ≡ record { heads = texts; compared = 0 } }
+    {
+        Heads { texts, compared: 0 }
+    }
+
+    /// The heads, of which only lengths are told.
+    pub fn texts(&self) -> &Texts
+        ensures { result.now ≡ self.now.heads }
+    {
+        &self.texts
+    }
+
+    /// How often a head was compared with a text, modulo 2^128.
+    pub fn compared(&self) -> u128
+        ensures { result ≡ self.now.compared }
+    {
+        self.compared
+    }
+
+    /// How a head compares with a text. It looks at each byte in which they agree once.
+    pub fn compare(&mut self, place: usize, text: &[u8]) -> Comparison
+        requires { place < length self.old.heads }
+        ensures agreed { result.agreed ≡ agreement (head_at self.old.heads place) text.now }
+        ensures behind { result.is_behind ≡ is_behind (head_at self.old.heads place) text.now }
+        ensures heads { self.new.heads ≡ self.old.heads }
+        ensures counted { Counts self.old.compared 1 self.new.compared }
+    {
+        self.compared = self.compared.wrapping_add(1);
+        compared(&self.texts.all[place], text)
+    }
+}
+
+/// The byte of a path and a slash at a place, in lower case where case doesn't count.
+pub fn byte_with_slash(path: &[u8], ignore_case: bool, at: usize) -> u8
+    requires { at ≤ length path.now }
+    ensures { result ≡ slice_index (with_slash ignore_case path.now) at }
+{
+    if at == path.len() {
+        b'/'
+    } else if ignore_case {
+        path[at].to_ascii_lowercase()
+    } else {
+        path[at]
+    }
+}
+
+impl Texts {
+    /// How one of them compares with a path and a slash, in lower case where case doesn't count.
+    pub fn compare_with_slash(&self, place: usize, path: &[u8], ignore_case: bool) -> Comparison
+        requires { place < length self.now }
+        ensures agreed { result.agreed
+            ≡ agreement (head_at self.now place) (with_slash ignore_case path.now) }
+        ensures behind { result.is_behind
+            ≡ is_behind (head_at self.now place) (with_slash ignore_case path.now) }
+    {
+        compared_with_slash(&self.all[place], path, ignore_case)
+    }
+}
+
+/// How a stem compares with a path and a slash, in lower case where case doesn't count.
+fn compared_with_slash(stem: &[u8], path: &[u8], ignore_case: bool) -> Comparison
+    ensures agreed { result.agreed ≡ agreement stem.now (with_slash ignore_case path.now) }
+    ensures behind { result.is_behind ≡ is_behind stem.now (with_slash ignore_case path.now) }
+{
+    for at in 0..stem.len() {
+        let is_behind = at > path.len();
+        if is_behind {
+            return Comparison {
+                agreed: at,
+                is_behind,
+            };
+        }
+        let byte = byte_with_slash(path, ignore_case, at);
+        if stem[at] != byte {
+            return Comparison {
+                agreed: at,
+                is_behind: stem[at] > byte,
+            };
+        }
+    }
+    Comparison {
+        agreed: stem.len(),
+        is_behind: false,
+    }
+}
+
+/// The eight bytes from a place on.
+fn word_at(text: &[u8], at: usize) -> u64
+    requires { at + 8 ≤ length text.now }
+    ensures { to_le_bytes w64 result ≡ eight text.now at }
+{
+    u64::from_le_bytes([
+        text[at],
+        text[at + 1],
+        text[at + 2],
+        text[at + 3],
+        text[at + 4],
+        text[at + 5],
+        text[at + 6],
+        text[at + 7],
+    ])
+}
+
+/// Bytes in which two texts agree, eight at a time.
+fn agreed_by_words(head: &[u8], text: &[u8]) -> usize
+    ensures { result ≤ agreement head.now text.now }
+{
+    let mut at = 0;
+    while head.len() - at >= 8 && text.len() - at >= 8 && word_at(head, at) == word_at(text, at) {
+        at += 8;
+    }
+    at
+}
+
+/// How a head compares with a text.
+fn compared(head: &[u8], text: &[u8]) -> Comparison
+    ensures agreed { result.agreed ≡ agreement head.now text.now }
+    ensures behind { result.is_behind ≡ is_behind head.now text.now }
+{
+    for at in agreed_by_words(head, text)..head.len() {
+        if at == text.len() {
+            return Comparison {
+                agreed: at,
+                is_behind: true,
+            };
+        }
+        if head[at] != text[at] {
+            return Comparison {
+                agreed: at,
+                is_behind: head[at] > text[at],
+            };
+        }
+    }
+    Comparison {
+        agreed: head.len(),
+        is_behind: false,
+    }
+}

@@ -1,0 +1,137 @@
+//! Places, found by the heads that stand at them.
+ghost use Rattle.std.specs.Prelude.{◌≡◌, ℕ, ◌+◌, ◌^◌, ◌<◌, ◌≤◌, length, map, IfOk, IfSome, Contains};
+ghost use Rattle.std.specs.List.Sorted.{IsNonDecreasing};
+ghost use Rattle.pathspec_glob.specs.Counts.{Counts};
+ghost use Rattle.pathspec_heads.specs.Heads.{IsLastFront, IsChainOf};
+ghost use Rattle.pathspec_heads.specs.Groups.{CountedPlaces, HasSameGroups, IsGrouped, IsInGroup, IsInChain, IsNext, earlier, end_of};
+
+use crate::chains::{Chains, Deepest};
+use crate::groups::{grouped, sorted};
+use crate::heads::{Heads, Texts};
+use std::alloc::{AllocError, Global};
+use std::marker::Model;
+
+/// Places that each have a head, in groups: those of one head.
+#[derive(Debug, Drop)]
+pub struct PlacesByHead {
+    chains: Chains,
+    // Where the group of each head begins in `order`.
+    starts: Vec<usize>,
+    // The places, group by group, and in each ascending.
+    order: Vec<usize>,
+}
+
+impl Model for PlacesByHead {
+    ghost use Rattle.pathspec_heads.specs.Groups.{CountedPlaces, IsOrder};
+
+    ghost Value = { CountedPlaces };
+
+    ghost view = { λ p. record { heads = p.chains.heads; starts = p.starts.items; order = p.order.items; compared = p.chains.compared } };
+
+    ghost invariant = { λ p. IsOrder p.chains.heads p.starts.items p.order.items };
+}
+
+/// The least number in an ascending list from one on.
+fn next_in(places: &[usize], from: usize) -> Option<usize>
+    requires { IsNonDecreasing places.now }
+    ensures { IsNext (Contains places.now) from result }
+{
+    let at = places.partition_point(|place| *place < from);
+    if at < places.len() {
+        Some(places[at])
+    } else {
+        None
+    }
+}
+
+/// The lesser of two numbers, of those that are there.
+fn earlier(left: Option<usize>, right: Option<usize>) -> Option<usize>
+    ensures { result ≡ earlier left right }
+{
+    match (left, right) {
+        (Some(one), Some(other)) => Some(one.min(other)),
+        (None, other) => other,
+        (one, None) => one,
+    }
+}
+
+impl PlacesByHead {
+    /// Groups the places of these heads, of which each stands at its place in the list.
+    ///
+    /// It compares as many pairs of heads as a sort of them does, and is linear in their bytes besides.
+    ///
+    /// # Errors
+    /// Memory runs out.
+    pub fn new(alloc: Global, heads: Vec<Vec<u8>>) -> Result<PlacesByHead, AllocError>
+        ensures grouped { IfOk result (λ places. IsGrouped (map (λ head. head.items) heads.items)
+            places.heads places.starts places.order) }
+        ensures counted { IfOk result (λ places. places.compared ≡ 0) }
+    {
+        let entries = sorted(alloc, heads)?;
+        let groups = grouped(alloc, entries)?;
+        let chains = Chains::new(alloc, Heads::new(Texts::new(groups.heads)))?;
+        Ok(PlacesByHead {
+            chains,
+            starts: groups.starts,
+            order: groups.order,
+        })
+    }
+
+    /// The last head that begins the text, as [`Chains::deepest`] finds it.
+    pub fn deepest(&mut self, text: &[u8]) -> Deepest
+        ensures found { IsLastFront self.old.heads (length self.old.heads) text.now result.head }
+        ensures chain { IfSome result.head (λ j. IsChainOf self.old.heads text.now j) }
+        ensures same { HasSameGroups self.old self.new }
+        ensures counted { Counts self.old.compared result.compared self.new.compared }
+        ensures cost { (b : ℕ) → length self.old.heads < 2 ^ b → result.compared ≤ b + 2 }
+        ensures asked { 0 < length self.old.heads → 1 ≤ result.compared }
+    {
+        self.chains.deepest(text)
+    }
+
+    /// How often a head was compared with a text, modulo 2^128.
+    pub fn compared(&self) -> u128
+        ensures { result ≡ self.now.compared }
+    {
+        self.chains.compared()
+    }
+
+    /// Where the group of a head ends in the order of the places.
+    fn end_of(&self, head: usize) -> usize
+        requires { head < length self.now.heads }
+        ensures { result ≡ end_of self.now.starts self.now.order head }
+    {
+        let last = self.starts.len() - 1;
+        if head < last {
+            self.starts[head + 1]
+        } else {
+            self.order.len()
+        }
+    }
+
+    /// The least place from one on that has this head.
+    fn next_of(&self, head: usize, from: usize) -> Option<usize>
+        requires { head < length self.now.heads }
+        ensures { IsNext (IsInGroup self.now.starts self.now.order head) from result }
+    {
+        let end = self.end_of(head);
+        next_in(&self.order[self.starts[head]..end], from)
+    }
+
+    /// The least place from one on whose head begins this one.
+    ///
+    /// For each head that begins it, it looks at as many places as their count has binary digits. It takes no memory.
+    pub fn next_place(&self, head: usize, from: usize) -> Option<usize>
+        requires { head < length self.now.heads }
+        ensures { IsNext (IsInChain self.now.heads self.now.starts self.now.order head)
+            from result }
+    {
+        let mut next = self.next_of(head, from);
+        let mut at = head;
+        while let Some(link) = self.chains.link(at) {
+            next = earlier(next, self.next_of(link, from));
+            at = link;
+        }
+        next
+    }
+}

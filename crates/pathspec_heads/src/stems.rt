@@ -1,0 +1,185 @@
+//! Stems in byte order, and whether a directory's path and one of them lead to one another.
+ghost use Rattle.std.specs.Prelude.{◌≡◌, true, ℕ, ◌+◌, ◌<◌, ◌≤◌, length, map, IfOk, IsTrue, IsFalse};
+ghost use Rattle.std.specs.List.{list_any};
+ghost use Rattle.pathspec_glob.specs.Bytes.{fold_case, begins_with};
+ghost use Rattle.pathspec_heads.specs.Heads.{head_at, IsRising, IsLastFront, Brackets};
+ghost use Rattle.pathspec_heads.specs.Stems.{with_slash, leads_to, lies_below, HasSameTexts, SomeText, NoText, IsBoundary, is_boundary};
+
+use crate::chains::{front_of, linked};
+use crate::groups::{grouped, sorted};
+use crate::heads::{Texts, byte_with_slash};
+use std::alloc::{AllocError, Global};
+use std::marker::Model;
+
+/// Different stems in byte order, each with a link to the last one before it that begins it.
+#[derive(Debug, Drop)]
+pub struct Stems {
+    texts: Texts,
+    links: Vec<Option<usize>>,
+}
+
+impl Model for Stems {
+    ghost use Rattle.std.specs.Prelude.{List, ℕ};
+    ghost use Rattle.pathspec_heads.specs.Heads.{IsChain};
+
+    ghost Value = { List (List ℕ) };
+
+    ghost view = { λ s. s.texts };
+
+    ghost invariant = { λ s. IsChain s.texts s.links.items };
+}
+
+/// The place behind the last stem that isn't behind a path and a slash, and how many bytes that stem agrees in.
+#[derive(Clone, Copy)]
+struct Ended {
+    low: usize,
+    agreed: usize,
+}
+
+/// What was found for a path and a slash.
+#[derive(Clone, Copy)]
+struct Found {
+    /// Whether a stem begins with them.
+    below: bool,
+    /// The last stem that begins them.
+    deepest: Option<usize>,
+}
+
+/// The place behind the last text that isn't behind the path and a slash.
+fn sought(texts: &Texts, path: &[u8], ignore_case: bool) -> Ended
+    ensures { Brackets texts.now (with_slash ignore_case path.now)
+        result.low result.low result.agreed }
+{
+    let mut low = 0;
+    let mut high = texts.len();
+    let mut agreed = 0;
+    while low < high {
+        let middle = low + (high - low) / 2;
+        let comparison = texts.compare_with_slash(middle, path, ignore_case);
+        if comparison.is_behind {
+            high = middle;
+        } else {
+            low = middle + 1;
+            agreed = comparison.agreed;
+        }
+    }
+    Ended { low, agreed }
+}
+
+impl Stems {
+    /// These stems, each once. Their sort is what it costs.
+    ///
+    /// # Errors
+    /// Memory runs out.
+    pub fn new(alloc: Global, stems: Vec<Vec<u8>>) -> Result<Stems, AllocError>
+        ensures { IfOk result (HasSameTexts (map (λ stem. stem.items) stems.items)) }
+    {
+        let entries = sorted(alloc, stems)?;
+        let groups = grouped(alloc, entries)?;
+        let texts = Texts::new(groups.heads);
+        let links = linked(alloc, &texts)?;
+        Ok(Stems { texts, links })
+    }
+
+    /// Whether a stem lies below the path, where the search for the path and a slash ended here.
+    fn has_below(&self, path: &[u8], ignore_case: bool, ended: Ended) -> bool
+        requires { Brackets self.now (with_slash ignore_case path.now)
+            ended.low ended.low ended.agreed }
+        ensures yes { IsTrue result → SomeText self.now
+            (λ stem. begins_with stem (with_slash ignore_case path.now) ≡ true) }
+        ensures no { IsFalse result → NoText self.now
+            (λ stem. begins_with stem (with_slash ignore_case path.now) ≡ true) }
+    {
+        if ended.low > 0 && ended.agreed > path.len() {
+            return true;
+        }
+        ended.low < self.texts.len()
+            && self
+                .texts
+                .compare_with_slash(ended.low, path, ignore_case)
+                .agreed
+                > path.len()
+    }
+
+    /// Whether a stem lies below the path, and the last stem that begins the path and a slash.
+    fn find(&self, path: &[u8], ignore_case: bool) -> Found
+        ensures yes { IsTrue result.below → SomeText self.now
+            (λ stem. begins_with stem (with_slash ignore_case path.now) ≡ true) }
+        ensures no { IsFalse result.below → NoText self.now
+            (λ stem. begins_with stem (with_slash ignore_case path.now) ≡ true) }
+        ensures last { IsLastFront self.now (length self.now)
+            (with_slash ignore_case path.now) result.deepest }
+        ensures rising { IsRising self.now }
+    {
+        let ended = sought(&self.texts, path, ignore_case);
+        let below = self.has_below(path, ignore_case, ended);
+        if ended.low == 0 {
+            return Found {
+                below,
+                deepest: None,
+            };
+        }
+        let deepest = front_of(&self.texts, &self.links, ended.low - 1, ended.agreed);
+        Found { below, deepest }
+    }
+
+    /// Whether a stem is shorter than this, and a slash stands in the path and a slash where it ends.
+    fn is_boundary(&self, stem: usize, path: &[u8], ignore_case: bool, limit: usize) -> bool
+        requires stem { stem < length self.now }
+        requires limit { limit ≤ length path.now + 1 }
+        ensures { result ≡ is_boundary (with_slash ignore_case path.now) limit
+            (head_at self.now stem) }
+    {
+        let len = self.texts.text_len(stem);
+        len < limit && byte_with_slash(path, ignore_case, len) == b'/'
+    }
+
+    /// Whether one of the stems that begin this one is such a boundary.
+    fn has_boundary(&self, stem: usize, path: &[u8], ignore_case: bool, limit: usize) -> bool
+        requires stem { stem < length self.now }
+        requires limit { limit ≤ length path.now + 1 }
+        ensures yes { IsTrue result → SomeText self.now
+            (IsBoundary (with_slash ignore_case path.now) limit (head_at self.now stem)) }
+        ensures no { IsFalse result → NoText self.now
+            (IsBoundary (with_slash ignore_case path.now) limit (head_at self.now stem)) }
+    {
+        let mut at = stem;
+        while !self.is_boundary(at, path, ignore_case, limit) {
+            match self.links[at] {
+                Some(link) => at = link,
+                None => return false,
+            }
+        }
+        true
+    }
+
+    /// Whether a stem and the path lead to one another: one lies below the other or they are one, or the path goes on
+    /// after a stem that a wildcard follows, as it does all of them or none.
+    ///
+    /// It compares at most as many stems with the path as their count has binary digits, and one, and takes a link for
+    /// each stem that begins the path. It takes no memory.
+    pub fn leads_to(&self, path: &[u8], ignore_case: bool, wild: bool) -> bool
+        ensures { result ≡ list_any (λ stem.
+            leads_to stem wild (fold_case ignore_case path.now)) self.now }
+    {
+        let found = self.find(path, ignore_case);
+        if found.below {
+            return true;
+        }
+        match found.deepest {
+            Some(stem) => wild || self.has_boundary(stem, path, ignore_case, path.len() + 1),
+            None => false,
+        }
+    }
+
+    /// Whether the path lies below a stem, at the cost of [`Stems::leads_to`].
+    pub fn has_above(&self, path: &[u8], ignore_case: bool) -> bool
+        ensures { result ≡ list_any (λ stem.
+            lies_below stem (fold_case ignore_case path.now)) self.now }
+    {
+        match self.find(path, ignore_case).deepest {
+            Some(stem) => self.has_boundary(stem, path, ignore_case, path.len()),
+            None => false,
+        }
+    }
+}

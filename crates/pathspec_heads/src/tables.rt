@@ -1,0 +1,183 @@
+//! Tables of the stems of specs: whether one of them reaches a path.
+ghost use Rattle.std.specs.Prelude.{◌≡◌, ◌&&◌, true, false, List, map, IfOk};
+ghost use Rattle.std.specs.List.{list_any};
+ghost use Rattle.pathspec_glob.specs.Bytes.{fold_case};
+ghost use Rattle.pathspec_heads.specs.Tables.{StemParts, TextLists, TextTable, stem_reaches, is_of_kind, texts_of, IsListed, IsTableOf, directory_reaches, lists_reach};
+
+use crate::stems::Stems;
+use std::alloc::{AllocError, Global};
+use std::marker::Model;
+
+/// The stem of a spec, the part before its first wildcard, and what the spec says.
+#[derive(Debug, Drop)]
+pub struct SpecStem<'s> {
+    pub text: &'s [u8],
+    /// Whether ASCII case doesn't count.
+    pub ignores_case: bool,
+    /// Whether a wildcard follows the stem.
+    pub has_wildcard: bool,
+    /// Whether the spec takes only directories and what lies below them.
+    pub wants_directory: bool,
+}
+
+impl<'s> Model for SpecStem<'s> {
+    ghost Value = { StemParts };
+
+    ghost view = { λ s. record { text = s.text.now; ignores_case = s.ignores_case; has_wildcard = s.has_wildcard; wants_directory = s.wants_directory } };
+}
+
+/// What the list of a stem depends on, besides case.
+#[derive(Clone, Copy)]
+enum Kind {
+    /// A wildcard follows it.
+    Wild,
+    /// None does, and files are taken too.
+    Literal,
+    /// None does, and a directory is wanted.
+    Directory,
+}
+
+impl SpecStem<'_> {
+    /// Whether the stem has this kind, and case counts for it or not.
+    fn is_of_kind(&self, ignore_case: bool, kind: Kind) -> bool
+        ensures { result ≡ is_of_kind ignore_case kind self.now }
+    {
+        let has_kind = match kind {
+            Kind::Wild => self.has_wildcard,
+            Kind::Literal => !self.has_wildcard && !self.wants_directory,
+            Kind::Directory => !self.has_wildcard && self.wants_directory,
+        };
+        let has_case = if ignore_case {
+            self.ignores_case
+        } else {
+            !self.ignores_case
+        };
+        has_case && has_kind
+    }
+}
+
+/// A copy of the text, in lower case where case doesn't count.
+fn folded(alloc: Global, text: &[u8], ignore_case: bool) -> Result<Vec<u8>, AllocError>
+    ensures { IfOk result (λ copy. copy.items ≡ fold_case ignore_case text.now) }
+{
+    if !ignore_case {
+        return Vec::from_slice(alloc, text);
+    }
+    let mut copy = Vec::with_capacity(alloc, text.len())?;
+    for byte in text {
+        copy.push(byte.to_ascii_lowercase())?;
+    }
+    Ok(copy)
+}
+
+/// The texts of the stems of a kind, in lower case where case doesn't count.
+fn texts_of(
+    alloc: Global,
+    stems: &[SpecStem<'_>],
+    ignore_case: bool,
+    kind: Kind,
+) -> Result<Vec<Vec<u8>>, AllocError>
+    ensures { IfOk result (λ texts.
+        map (λ text. text.items) texts.items ≡ texts_of ignore_case kind stems.now) }
+{
+    let mut texts = Vec::new(alloc);
+    for stem in stems {
+        if stem.is_of_kind(ignore_case, kind) {
+            texts.push(folded(alloc, stem.text, ignore_case)?)?;
+        }
+    }
+    Ok(texts)
+}
+
+/// The texts of stems by their kinds: of those with case, or of those without.
+#[derive(Debug, Drop)]
+struct StemLists {
+    wild: Stems,
+    literal: Stems,
+    directory: Stems,
+}
+
+impl Model for StemLists {
+    ghost Value = { TextLists };
+
+    ghost view = { λ s. record { wild = s.wild; literal = s.literal; directory = s.directory } };
+}
+
+impl StemLists {
+    /// Those of these stems for which case counts, or doesn't.
+    fn new(
+        alloc: Global,
+        stems: &[SpecStem<'_>],
+        ignore_case: bool,
+    ) -> Result<StemLists, AllocError>
+        ensures { IfOk result (IsListed ignore_case stems.now) }
+    {
+        let wild = Stems::new(alloc, texts_of(alloc, stems, ignore_case, Kind::Wild)?)?;
+        let literal = Stems::new(alloc, texts_of(alloc, stems, ignore_case, Kind::Literal)?)?;
+        let directory = Stems::new(alloc, texts_of(alloc, stems, ignore_case, Kind::Directory)?)?;
+        Ok(StemLists {
+            wild,
+            literal,
+            directory,
+        })
+    }
+
+    /// Whether a stem that wants a directory, and that no wildcard follows, reaches the path.
+    fn directory_reaches(&self, path: &[u8], ignore_case: bool, is_dir: Option<bool>) -> bool
+        ensures { result ≡ list_any (λ text.
+            directory_reaches text (fold_case ignore_case path.now) is_dir) self.now.directory }
+    {
+        match is_dir {
+            Some(false) => self.directory.has_above(path, ignore_case),
+            _ => self.directory.leads_to(path, ignore_case, false),
+        }
+    }
+
+    /// Whether one of the stems reaches the path.
+    fn reach(&self, path: &[u8], ignore_case: bool, is_dir: Option<bool>) -> bool
+        ensures { result ≡ lists_reach ignore_case self.now path.now is_dir }
+    {
+        self.wild.leads_to(path, ignore_case, true)
+            || self.literal.leads_to(path, ignore_case, false)
+            || self.directory_reaches(path, ignore_case, is_dir)
+    }
+}
+
+/// Stems of specs, with case and without.
+#[derive(Debug, Drop)]
+pub struct StemTable {
+    exact: StemLists,
+    folded: StemLists,
+}
+
+impl Model for StemTable {
+    ghost Value = { TextTable };
+
+    ghost view = { λ t. record { exact = t.exact; folded = t.folded } };
+}
+
+impl StemTable {
+    /// A table of these stems, in any order. It copies their texts and sorts them; its memory is linear in their bytes.
+    ///
+    /// # Errors
+    /// Memory runs out.
+    pub fn new(alloc: Global, stems: &[SpecStem<'_>]) -> Result<StemTable, AllocError>
+        ensures { IfOk result (IsTableOf stems.now) }
+    {
+        let exact = StemLists::new(alloc, stems, false)?;
+        let folded = StemLists::new(alloc, stems, true)?;
+        Ok(StemTable { exact, folded })
+    }
+
+    /// Whether one of the stems reaches the path, which is that of a directory, of a file, or of either.
+    ///
+    /// The stems stand in six lists: with case and without, those that a wildcard follows, those that want a directory,
+    /// and the others. In each it compares at most as many stems with the path as their count has binary digits, and
+    /// one, and takes a link for each stem that begins the path. It takes no memory.
+    pub fn reaches(&self, path: &[u8], is_dir: Option<bool>) -> bool
+        ensures { (stems : List StemParts) → IsTableOf stems self.now
+            → result ≡ list_any (λ stem. stem_reaches stem path.now is_dir) stems }
+    {
+        self.exact.reach(path, false, is_dir) || self.folded.reach(path, true, is_dir)
+    }
+}
