@@ -1,7 +1,7 @@
 -- How a spec matches a path, attributes included, and which spec of a search settles a path.
-use Rattle.std.proofs.Common.{◌≡◌, ℕ, ◌+◌, ◌<◌, Bool, true, false, ◌&&◌, ◌==◌, cond, refl, sym, ◌∙◌, ap, List, [], ◌∷◌, length, map, drop, set, get_or, slice_get, arith, Some, None, Option, is_some, subst}
+use Rattle.std.proofs.Common.{◌≡◌, ℕ, ◌+◌, ◌<◌, Bool, true, false, ◌&&◌, ◌==◌, cond, refl, sym, ◌∙◌, ap, List, [], ◌∷◌, length, map, drop, get_or, slice_get, arith, Some, None, Option, is_some, subst}
 use Rattle.std.proofs.lemmas.Bool.{both_ways, ne_eqb}
-use Rattle.std.proofs.lemmas.List.{length-map, get_or-map, drop_more, set-get_or, at_drop_more}
+use Rattle.std.proofs.lemmas.List.{length-map, get_or-map, drop_more, at_drop_more}
 use Rattle.std.proofs.lemmas.Option.{slice_get_read, get_or_from_slice_get}
 use Rattle.std.proofs.Math.Bool.{and-false}
 use Rattle.std.specs.Bool.{then_some}

@@ -1,10 +1,9 @@
 -- What the specs reach is what the stems of those that don't always match do.
-use Rattle.std.proofs.Common.{◌≡◌, Bool, true, false, not, ◌&&◌, ◌||◌, cond, refl, sym, ◌∙◌, ap, List, [], ◌∷◌, ℕ, Option, Some, None, map, filter}
+use Rattle.std.proofs.Common.{◌≡◌, Bool, true, false, not, ◌&&◌, ◌||◌, cond, refl, sym, ◌∙◌, List, [], ◌∷◌, ℕ, Option, Some, None, map, filter}
 use Rattle.std.specs.List.{list_any, before_first}
 use Rattle.pathspec_heads.specs.Tables.{stem_reaches, stem_takes_only_below}
-use Rattle.gix_pathspec.specs.Bytes.{is_wildcard, fold_case}
-use Rattle.gix_pathspec.specs.Paths.{is_below}
-use Rattle.gix_pathspec.specs.Specs.{Spec, is_include, ignores_case, wants_directory, always_matches, has_wildcard}
+use Rattle.gix_pathspec.specs.Bytes.{is_wildcard}
+use Rattle.gix_pathspec.specs.Specs.{Spec, is_include, wants_directory, always_matches, has_wildcard}
 use Rattle.gix_pathspec.specs.Prefixes.{stem}
 use Rattle.gix_pathspec.specs.Pruning.{reaches, takes_only_below}
 use Rattle.gix_pathspec.specs.Reach.{stem_of, stems_of}

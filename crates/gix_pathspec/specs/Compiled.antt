@@ -11,8 +11,8 @@ use Rattle.gix_pathspec.specs.Patterns.{pattern_spec}
 use Rattle.gix_pathspec.specs.Prefixes.{stem, common_prefix}
 use Rattle.gix_pathspec.specs.Reading.{nil_spec}
 use Rattle.gix_pathspec.specs.Search.{Numbered, specs_of, in_search_order}
-use Rattle.pathspec_heads.specs.Groups.{CountedPlaces, IsGrouped}
-use Rattle.gix_pathspec.specs.Effort.{heads_in_order}
+use Rattle.pathspec_heads.specs.Groups.{CountedPlaces}
+use Rattle.gix_pathspec.specs.Effort.{ArePlacesOf}
 use Rattle.gix_pathspec.specs.declared.search.reach.Reach.{Reach}
 use Rattle.gix_pathspec.specs.Reach.{IsReachOf}
 use Rattle.gix_pathspec.specs.SelectionLaws.{NoNilPrefix, SpecPathsAreBytes}
@@ -46,7 +46,7 @@ pub record IsSearch (specs : List Numbered) (heads : CountedPlaces) (reach : Rea
   pub is_ordered : in_search_order specs ≡ specs
   pub has_no_nil_prefix : NoNilPrefix (specs_of specs)
   pub has_byte_paths : SpecPathsAreBytes (specs_of specs)
-  pub is_grouped : IsGrouped (heads_in_order specs) heads.heads heads.starts heads.order
+  pub is_grouped : ArePlacesOf specs heads
   pub is_reach : IsReachOf (specs_of specs) reach
   pub is_nil : pattern_spec nil ≡ nil_spec
   pub is_common : common ≡ common_prefix (specs_of specs)

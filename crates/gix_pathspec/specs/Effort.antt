@@ -1,10 +1,11 @@
 -- How much a search looks at: the specs that it asks about a path, and the heads that it compares with it.
-use Rattle.std.specs.Prelude.{◌≡◌, ℕ, ◌+◌, ◌*◌, ◌^◌, ◌<◌, ◌≤◌, Bool, true, false, not, ◌||◌, List, length, map, filter, slice_get, Option, Some, None}
+use Rattle.std.specs.Prelude.{ℕ, ◌+◌, ◌*◌, ◌^◌, ◌<◌, ◌≤◌, Bool, true, false, not, ◌||◌, List, length, map, filter, slice_get, Option, Some, None}
 use Rattle.std.specs.Option.{option_and_then}
 use Rattle.gix_pathspec.specs.declared.search.MatchKind.{MatchKind}
 use Rattle.gix_pathspec.specs.declared.search.found.MatchPlace.{MatchPlace}
 use Rattle.gix_pathspec.specs.declared.search.found.MatchPlace.TheVariants.{Spec as AtSpec, Nil as AtNil}
 use Rattle.gix_pathspec.specs.Bytes.{is_empty, begins_with}
+use Rattle.pathspec_heads.specs.Groups.{CountedPlaces, IsGrouped}
 use Rattle.gix_pathspec.specs.Attributes.{Table}
 use Rattle.gix_pathspec.specs.Prefixes.{head, common_prefix}
 use Rattle.gix_pathspec.specs.Search.{Numbered, specs_of}
@@ -18,6 +19,10 @@ pub record TestedSpecs : Type 0 where
 -- the heads of the specs in search order
 abbrev pub heads_in_order : List Numbered → List (List ℕ)
 heads_in_order specs = map (λ n. head n.spec) specs
+
+-- the places in search order of these specs, in groups by their heads
+abbrev pub ArePlacesOf : List Numbered → CountedPlaces → Type 0
+ArePlacesOf specs places = IsGrouped (heads_in_order specs) places.heads places.starts places.order
 
 -- how the spec at a place matches a path, where there is one
 abbrev pub kind_at : Table → List Numbered → List ℕ → Bool → ℕ → Option MatchKind

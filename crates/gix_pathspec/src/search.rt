@@ -53,7 +53,7 @@ const NO_EFFORT: Effort = Effort {
 pub struct Search {
     specs: CountedSpecs,
     /// The places of the specs in search order, by their heads.
-    heads: PlacesByHead,
+    heads: Box<PlacesByHead>,
     /// Which paths the includes reach.
     reach: Reach,
     /// What the last match looked at.
@@ -67,13 +67,14 @@ pub struct Search {
 
 impl Model for Search {
     ghost use Rattle.std.specs.Option.{option_map};
+    ghost use Rattle.std.specs.Box.{box_value};
     ghost use Rattle.bstr.specs.Owned.{bstring_bytes};
     ghost use Rattle.gix_pathspec.specs.Search.{SearchContents};
     ghost use Rattle.gix_pathspec.specs.Compiled.{IsSearch};
 
     ghost Value = { SearchContents };
 
-    ghost view = { λ s. record { specs = s.specs.specs; source = option_map bstring_bytes s.source; last_tested = s.effort.tested; last_compared = s.effort.compared; tested = s.specs.tested; compared = s.heads.compared } };
+    ghost view = { λ s. record { specs = s.specs.specs; source = option_map bstring_bytes s.source; last_tested = s.effort.tested; last_compared = s.effort.compared; tested = s.specs.tested; compared = (box_value s.heads).compared } };
 
-    ghost invariant = { λ s. IsSearch s.specs.specs s.heads s.reach s.nil s.common_prefix.items };
+    ghost invariant = { λ s. IsSearch s.specs.specs (box_value s.heads) s.reach s.nil s.common_prefix.items };
 }

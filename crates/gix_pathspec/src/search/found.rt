@@ -6,9 +6,9 @@ ghost use Rattle.gix_pathspec.specs.Specs.{is_exclude};
 ghost use Rattle.gix_pathspec.specs.Patterns.{pattern_spec};
 ghost use Rattle.pathspec_glob.specs.Counts.{Counts};
 ghost use Rattle.pathspec_heads.specs.Heads.{IsChainOf};
-ghost use Rattle.pathspec_heads.specs.Groups.{IsGrouped, HasSameGroups};
+ghost use Rattle.pathspec_heads.specs.Groups.{HasSameGroups};
 ghost use Rattle.gix_pathspec.specs.Found.{IsFirstFound};
-ghost use Rattle.gix_pathspec.specs.Effort.{heads_in_order, candidate_count, IsFewCompared, IsLittleCompared, is_unasked, is_spec_place};
+ghost use Rattle.gix_pathspec.specs.Effort.{ArePlacesOf, candidate_count, IsFewCompared, IsLittleCompared, is_unasked, is_spec_place};
 ghost use Rattle.gix_pathspec.specs.Search.{KeepsSpecs};
 
 use crate::Pattern;
@@ -244,8 +244,7 @@ fn first_match<L: LookUp>(
     is_dir: bool,
     look_up: &mut L,
 ) -> Result<Option<(usize, MatchKind)>, L::Fault>
-    requires grouped { IsGrouped (heads_in_order specs.old.specs)
-        heads.old.heads heads.old.starts heads.old.order }
+    requires grouped { ArePlacesOf specs.old.specs heads.old }
     requires none { effort.old.tested ≡ 0 }
     ensures same { specs.new.specs ≡ specs.old.specs }
     ensures groups { HasSameGroups heads.old heads.new }
@@ -293,8 +292,7 @@ fn first_candidate<L: LookUp>(
     is_dir: bool,
     look_up: &mut L,
 ) -> Result<Option<(usize, MatchKind)>, L::Fault>
-    requires grouped { IsGrouped (heads_in_order specs.old.specs)
-        heads.now.heads heads.now.starts heads.now.order }
+    requires grouped { ArePlacesOf specs.old.specs heads.now }
     requires head { head < length heads.now.heads }
     requires chain { IsChainOf heads.now.heads (bstr_bytes path) head }
     requires none { tested.old ≡ 0 }

@@ -2,6 +2,7 @@
 ghost use Rattle.std.specs.Prelude.{◌≡◌, List, Ok, Err, None, map, IfOk, IfErr, IsTrue};
 ghost use Rattle.std.specs.Iterator.{Drains, IsFinite};
 ghost use Rattle.std.specs.Option.{option_map};
+ghost use Rattle.std.specs.Box.{box_value};
 ghost use Rattle.bstr.specs.BStr.{bstr_bytes};
 ghost use Rattle.bstr.specs.Owned.{bstring_bytes};
 ghost use Rattle.pathspec_parts.specs.Paths.{IsBytes, is_clean_prefix};
@@ -9,7 +10,7 @@ ghost use Rattle.gix_pathspec.specs.Errors.{IsMemory};
 ghost use Rattle.gix_pathspec.specs.Patterns.{pattern_spec};
 ghost use Rattle.gix_pathspec.specs.Prefixes.{common_front, common_prefix};
 ghost use Rattle.gix_pathspec.specs.Search.{KeepsSpecs, HasNoEffort, specs_of, numbered_from, default_to_prefix, in_search_order, search_of};
-ghost use Rattle.gix_pathspec.specs.Effort.{heads_in_order};
+ghost use Rattle.gix_pathspec.specs.Effort.{ArePlacesOf, heads_in_order};
 ghost use Rattle.gix_pathspec.specs.Building.{prefix_bytes, TellsFault, Builds, IsErrorAt, numbered_normal_form};
 ghost use Rattle.gix_pathspec.specs.SelectionLaws.{SpecPathsAreBytes};
 
@@ -106,7 +107,7 @@ impl Search {
         let alloc = *self.common_prefix.allocator();
         let specs = clone_all(alloc, self.specs.as_slice())?;
         let reach = Reach::of_specs(alloc, &specs)?;
-        let heads = PlacesByHead::new(alloc, heads_in_order(alloc, &specs)?)?;
+        let heads = places_by_head(alloc, &specs)?;
         Ok(Search {
             specs: CountedSpecs::new(specs),
             heads,
@@ -155,7 +156,7 @@ fn build(
     let compiled = compile_all(alloc, patterns, prefix, root)?;
     let specs = in_search_order(alloc, compiled)?;
     let common_prefix = common_prefix(alloc, specs.as_slice())?;
-    let heads = PlacesByHead::new(alloc, heads_in_order(alloc, specs.as_slice())?)?;
+    let heads = places_by_head(alloc, specs.as_slice())?;
     let reach = Reach::of_specs(alloc, specs.as_slice())?;
     Ok(Search {
         specs: CountedSpecs::new(specs),
@@ -251,6 +252,17 @@ fn in_search_order(alloc: Global, specs: Vec<CompiledSpec>) -> Result<Vec<Compil
     }
     ordered.append(&mut includes)?;
     Ok(ordered)
+}
+
+/// The places of specs by their heads, with nothing compared yet.
+fn places_by_head(alloc: Global, specs: &[CompiledSpec]) -> Result<Box<PlacesByHead>, AllocError>
+    ensures grouped { IfOk result (λ places. ArePlacesOf specs.now (box_value places)) }
+    ensures counted { IfOk result (λ places. (box_value places).compared ≡ 0) }
+{
+    Ok(Box::new(
+        alloc,
+        PlacesByHead::new(alloc, heads_in_order(alloc, specs)?)?,
+    )?)
 }
 
 /// The heads of specs in their order.

@@ -1,6 +1,7 @@
 -- The empty path, a path that lacks the common prefix, the first spec that matches, and what settles the others; what is selected follows from the answer.
 use Rattle.std.proofs.Common.{◌≡◌, ◌∙◌, sym, ap, subst, List, length, true, false}
 use Rattle.bstr.specs.BStr.{bstr_bytes}
+use Rattle.pathspec_heads.specs.Groups.{CountedPlaces, HasSameGroups}
 use Rattle.gix_pathspec.specs.Bytes.{is_empty, begins_with}
 use Rattle.gix_pathspec.specs.Prefixes.{common_prefix}
 use Rattle.gix_pathspec.specs.Search.{Numbered, SearchContents, specs_of, in_search_order}
@@ -18,13 +19,13 @@ returns-then-is_empty-clause-answer g c =
     answer-empty _ c.args.self.now.specs _ _ none
 
 pub invariant_of-self-in_err-place : goal.invariant_of-self-in_err-place
-invariant_of-self-in_err-place g c = is_search-kept _ _ _ _ _ _ _ c.first_match.ensures.same c.first_match.ensures.groups c.self.invariant
+invariant_of-self-in_err-place g c = is_search-kept _ _ _ _ _ _ _ c.first_match.ensures.same (subst (λ (h : CountedPlaces). HasSameGroups h c.first_match.new.heads) c.deref_mut.ensures.value c.first_match.ensures.groups) c.self.invariant
 
 pub invariant_of-self-in-Some : goal.invariant_of-self-in-Some
-invariant_of-self-in-Some g c = is_search-kept _ _ _ _ _ _ _ c.first_match.ensures.same c.first_match.ensures.groups c.self.invariant
+invariant_of-self-in-Some g c = is_search-kept _ _ _ _ _ _ _ c.first_match.ensures.same (subst (λ (h : CountedPlaces). HasSameGroups h c.first_match.new.heads) c.deref_mut.ensures.value c.first_match.ensures.groups) c.self.invariant
 
 pub invariant_of-self-2 : goal.invariant_of-self-2
-invariant_of-self-2 g c = is_search-kept _ _ _ _ _ _ _ c.first_match.ensures.same c.first_match.ensures.groups c.self.invariant
+invariant_of-self-2 g c = is_search-kept _ _ _ _ _ _ _ c.first_match.ensures.same (subst (λ (h : CountedPlaces). HasSameGroups h c.first_match.new.heads) c.deref_mut.ensures.value c.first_match.ensures.groups) c.self.invariant
 
 pub returns-then-not-begins_with-clause-answer : goal.returns-then-not-begins_with-clause-answer
 returns-then-not-begins_with-clause-answer g c =

@@ -1,5 +1,5 @@
 -- An include always matches, or its stem reaches the path.
-use Rattle.std.proofs.Common.{◌≡◌, ◌∙◌, sym, subst}
+use Rattle.std.proofs.Common.{◌∙◌, sym, subst}
 use Rattle.pathspec_heads.specs.Tables.{IsTableOf}
 use Rattle.gix_pathspec.specs.Reach.{stems_of}
 use Rattle.gix_pathspec.proofs.ReachProofs.{reached-by-stems, first-holds, second-holds}
