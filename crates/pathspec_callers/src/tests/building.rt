@@ -81,12 +81,20 @@ fn are_same(search: &Search, other: &Search) -> bool {
     search.patterns().len() == other.patterns().len() && search.source == other.source
 }
 
+/// A clone, or the error.
+fn clone_of(alloc: Global, search: &Search) -> Result<Box<Search>, Error> {
+    match Box::new(alloc, search.try_clone()?) {
+        Ok(copy) => Ok(copy),
+        Err(_) => Err(Error::Memory),
+    }
+}
+
 #[test]
 fn a_clone_has_the_same_specs_and_source(rt: HostRuntime) -> Result<(), Fail> {
     let mut search = search_of(rt.alloc(), &["a*", ":!(attr:b)c"], "a")?;
     assert!(rt; search.source.is_none());
     search.source = Some(BString::from_slice(rt.alloc(), "list")?);
-    assert!(rt; are_same(&search.try_clone()?, &search));
+    assert!(rt; are_same(&*clone_of(rt.alloc(), &search)?, &search));
     Ok(())
 }
 
@@ -109,7 +117,7 @@ fn ten_thousand_specs_make_a_search(rt: HostRuntime) -> Result<(), Fail> {
 }
 
 /// The search of some specs, or the first error.
-fn some(alloc: Global) -> Result<Search, BuildError> {
+fn some(alloc: Global) -> Result<Box<Search>, BuildError> {
     let mut patterns = Vec::new(alloc);
     for text in [":!(attr:b)a/b", "a", "a/b", "a/*.c", ":(icase)A/B", "a/b"] {
         match pattern_of(alloc, text) {
@@ -117,7 +125,8 @@ fn some(alloc: Global) -> Result<Search, BuildError> {
             Err(error) => return Err(BuildError::Spec(0, error)),
         }
     }
-    Search::from_specs(alloc, patterns, None, BStr::new(b"/r"))
+    let search = Search::from_specs(alloc, patterns, None, BStr::new(b"/r"))?;
+    Ok(Box::new(alloc, search)?)
 }
 
 /// Whether the search answers of a path that its second spec matches, by one question.
@@ -131,8 +140,8 @@ fn answers(search: &mut Search) -> Result<bool, Fail> {
 }
 
 /// Whether a clone answers as the search does, or memory ran out and the search answers still.
-fn is_cloned(mut search: Search) -> Result<bool, Fail> {
-    let copy = search.try_clone();
+fn is_cloned(alloc: Global, mut search: Box<Search>) -> Result<bool, Fail> {
+    let copy = clone_of(alloc, &search);
     let answered = answers(&mut search)?;
     match copy {
         Ok(mut copy) => Ok(answered && are_same(&copy, &search) && answers(&mut copy)?),
@@ -145,7 +154,7 @@ fn a_refused_growth_makes_no_search_and_leaves_the_one_that_is_cloned(
     rt: HostRuntime,
 ) -> Result<(), Fail> {
     match some(rt.alloc()) {
-        Ok(search) => assert!(rt; is_cloned(search)?),
+        Ok(search) => assert!(rt; is_cloned(rt.alloc(), search)?),
         Err(BuildError::Memory) => {}
         Err(BuildError::Spec(_, error)) => assert!(rt; matches!(&error, Error::Memory)),
     }

@@ -144,7 +144,7 @@ fn owned_patterns_come_in_search_order(rt: HostRuntime) -> Result<(), Fail> {
     let search = search_of(rt.alloc(), &["a", ":!b"], "")?;
     search.nil_specs_lack_a_prefix();
     search.spec_paths_are_bytes();
-    let mut owned = search.into_patterns();
+    let mut owned = Box::into_inner(search).into_patterns();
     assert!(rt; owned.len() == 2 && owned.size_hint() == (2, Some(2)));
     assert!(rt; has_path(owned.next().as_ref(), "b"));
     assert!(rt; has_path(owned.next().as_ref(), "a"));

@@ -5,6 +5,7 @@ use bstr::BStr;
 use gix_pathspec::search::MatchKind;
 use gix_pathspec::{Pattern, Search};
 use std::alloc::Global;
+use std::process::Abort;
 use std::test::Fail;
 
 /// What a match told: the number and the kind, if there is one, and how many specs were asked.
@@ -123,23 +124,32 @@ fn files(alloc: Global, count: u32) -> Result<Vec<Pattern>, Fail> {
     Ok(patterns)
 }
 
-#[test]
-fn one_of_a_thousand_files_is_found_by_few_comparisons(rt: HostRuntime) -> Result<(), Fail> {
-    const ROWS: &[(&str, usize)] = &[("d7/f", 7), ("d999/f", 999), ("d0/f", 0), ("d500/f", 500)];
-    let mut search = build_from(rt.alloc(), files(rt.alloc(), 1000)?, "")??;
-    for (path, number) in ROWS {
+/// A path, and what a match of it tells.
+type Telling = (&'static str, Told);
+
+/// Asserts what matches of these paths tell, and that each compares few heads.
+fn assert_told(rt: &impl Abort, search: &mut Search, rows: &[Telling]) -> Result<(), Fail> {
+    for (path, want) in rows {
         assert!(rt;
-            told(&mut search, path)? == (Some((*number, VERBATIM)), 1),
-            "{path}"
-        );
-        assert!(rt;
-            1 <= search.last_compared() && search.last_compared() <= 12,
+            told(search, path)? == *want && compares_few(search),
             "{path}"
         );
     }
-    assert!(rt; told(&mut search, "d7/g")? == (None, 0));
-    assert!(rt; told(&mut search, "e")? == (None, 0));
     Ok(())
+}
+
+#[test]
+fn one_of_a_thousand_files_is_found_by_few_comparisons(rt: HostRuntime) -> Result<(), Fail> {
+    const ROWS: &[Telling] = &[
+        ("d7/f", (Some((7, VERBATIM)), 1)),
+        ("d999/f", (Some((999, VERBATIM)), 1)),
+        ("d0/f", (Some((0, VERBATIM)), 1)),
+        ("d500/f", (Some((500, VERBATIM)), 1)),
+        ("d7/g", (None, 0)),
+        ("e", (None, 0)),
+    ];
+    let mut search = build_from(rt.alloc(), files(rt.alloc(), 1000)?, "")??;
+    assert_told(&rt, &mut search, ROWS)
 }
 
 /// So many specs of one text.
@@ -151,15 +161,22 @@ fn equal(alloc: Global, text: &str, count: u32) -> Result<Vec<Pattern>, Fail> {
     Ok(patterns)
 }
 
+/// Whether a match of a path tells this, and compares so many heads.
+fn compares(search: &mut Search, path: &str, want: Told, heads: u128) -> Result<bool, Fail> {
+    Ok(told(search, path)? == want && search.last_compared() == heads)
+}
+
 #[test]
 fn ten_thousand_specs_of_one_head_are_compared_once(rt: HostRuntime) -> Result<(), Fail> {
+    const ROWS: &[(&str, Told, u128)] = &[
+        ("a/bc", (Some((0, WILDCARD)), 1), 1),
+        ("a/b", (None, 10_000), 1),
+        ("a/c", (None, 0), 0),
+    ];
     let mut search = build_from(rt.alloc(), equal(rt.alloc(), "a/b*c", 10_000)?, "")??;
-    assert!(rt; told(&mut search, "a/bc")? == (Some((0, WILDCARD)), 1));
-    assert_eq!(rt; search.last_compared(), 1);
-    assert!(rt; told(&mut search, "a/b")? == (None, 10_000));
-    assert_eq!(rt; search.last_compared(), 1);
-    assert!(rt; told(&mut search, "a/c")? == (None, 0));
-    assert_eq!(rt; search.last_compared(), 0);
+    for (path, want, heads) in ROWS {
+        assert!(rt; compares(&mut search, path, *want, *heads)?, "{path}");
+    }
     Ok(())
 }
 
@@ -182,18 +199,29 @@ fn in_each(alloc: Global, count: u32, text: &str) -> Result<Vec<Pattern>, Fail> 
     Ok(patterns)
 }
 
+/// What a match tells of the text in a directory that lies in a thousand others.
+fn told_deep(alloc: Global, search: &mut Search, text: &str) -> Result<Told, Fail> {
+    told(search, nested(alloc, 1001, text)?.as_str())
+}
+
 #[test]
 fn heads_may_begin_one_another_a_thousand_times(rt: HostRuntime) -> Result<(), Fail> {
+    const ROWS: &[Telling] = &[
+        ("a/a", (Some((998, VERBATIM)), 1)),
+        ("a/b", (Some((999, PREFIX)), 1)),
+    ];
     let mut search = build_from(rt.alloc(), in_each(rt.alloc(), 1000, "a")?, "")??;
-    let path = nested(rt.alloc(), 1001, "b")?;
-    assert!(rt; told(&mut search, path.as_str())? == (Some((0, PREFIX)), 1));
-    assert!(rt; told(&mut search, "a/a")? == (Some((998, VERBATIM)), 1));
-    assert!(rt; told(&mut search, "a/b")? == (Some((999, PREFIX)), 1));
-    let mut search = build_from(rt.alloc(), in_each(rt.alloc(), 1000, "*.c")?, "")??;
-    assert!(rt; told(&mut search, path.as_str())? == (None, 1000));
+    assert!(rt; told_deep(rt.alloc(), &mut search, "b")? == (Some((0, PREFIX)), 1));
     assert!(rt; compares_few(&search));
-    let path = nested(rt.alloc(), 1001, "b.c")?;
-    assert!(rt; told(&mut search, path.as_str())? == (Some((0, WILDCARD)), 1));
+    assert_told(&rt, &mut search, ROWS)
+}
+
+#[test]
+fn heads_of_globs_may_begin_one_another_a_thousand_times(rt: HostRuntime) -> Result<(), Fail> {
+    let mut search = build_from(rt.alloc(), in_each(rt.alloc(), 1000, "*.c")?, "")??;
+    assert!(rt; told_deep(rt.alloc(), &mut search, "b")? == (None, 1000));
+    assert!(rt; compares_few(&search));
+    assert!(rt; told_deep(rt.alloc(), &mut search, "b.c")? == (Some((0, WILDCARD)), 1));
     assert!(rt; compares_few(&search));
     Ok(())
 }

@@ -581,3 +581,31 @@ fn an_empty_text_is_taken_by_stars_alone(rt: HostRuntime) -> Result<(), Fail> {
     ];
     assert_each(&rt, rt.alloc(), ROWS)
 }
+
+/// A pattern, a text, and whether they match, where memory doesn't run out.
+#[derive(Clone, Copy)]
+struct IfThereIsMemory(&'static str, &'static str, bool);
+
+impl Row for IfThereIsMemory {
+    fn holds(&self, alloc: Global) -> Result<bool, Fail> {
+        let IfThereIsMemory(pattern, text, want) = self;
+        match answer(alloc, Shell, Sensitive, pattern, text.as_bytes()) {
+            Ok(told) => Ok(told.0 == *want),
+            Err(_) => Ok(true),
+        }
+    }
+}
+
+#[test]
+fn a_refused_growth_changes_no_answer(rt: HostRuntime) -> Result<(), Fail> {
+    const ROWS: &[IfThereIsMemory] = &[
+        IfThereIsMemory("a*[!b-d]?[x]*e", "abcxe", false),
+        IfThereIsMemory("a*[!b-d]?[x]*e", "abeexe", true),
+        IfThereIsMemory(
+            "*aaaaaaaaaaaaaaaaaaaaaaaaaaaaaaaaaaaaaaaaaaaaaaaaaaaaaaaaaaaaaaaa*b",
+            "aaaaaaaaaaaaaaaaaaaaaaaaaaaaaaaaaaaaaaaaaaaaaaaaaaaaaaaaaaaaaaaab",
+            true,
+        ),
+    ];
+    assert_each(&rt, rt.alloc(), ROWS)
+}

@@ -69,7 +69,7 @@ const PATHS: &[&[u8]] = &[
 ];
 
 /// The search of some specs that are given in a directory.
-fn search_of(alloc: Global, specs: &[&[u8]], prefix: &[u8]) -> Result<Search, Fail> {
+fn search_of(alloc: Global, specs: &[&[u8]], prefix: &[u8]) -> Result<Box<Search>, Fail> {
     let prefix = BStr::new(prefix);
     if !is_clean_prefix(prefix) {
         return Err("the prefix isn't clean".into());
@@ -78,7 +78,10 @@ fn search_of(alloc: Global, specs: &[&[u8]], prefix: &[u8]) -> Result<Search, Fa
     for spec in specs {
         patterns.push(Pattern::from_bytes(alloc, spec, Defaults::default())?)?;
     }
-    Ok(Search::from_specs(alloc, patterns, Some(prefix), BStr::new(b"/r"))?)
+    Ok(Box::new(
+        alloc,
+        Search::from_specs(alloc, patterns, Some(prefix), BStr::new(b"/r"))?,
+    )?)
 }
 
 /// The number and the kind of a match.

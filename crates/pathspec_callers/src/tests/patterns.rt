@@ -39,7 +39,7 @@ const RISING: &[(&str, &str)] = &[
 fn rising(alloc: Global) -> Result<Vec<Pattern>, Fail> {
     let mut patterns = Vec::new(alloc);
     for (text, prefix) in RISING {
-        for pattern in search_of(alloc, &[*text], prefix)?.into_patterns() {
+        for pattern in Box::into_inner(search_of(alloc, &[*text], prefix)?).into_patterns() {
             patterns.push(pattern)?;
         }
     }

@@ -2,7 +2,7 @@
 use crate::stems::reaches_directory;
 use crate::tests::support::{Row, assert_each};
 use pathspec_heads::tables::{SpecStem, StemTable};
-use std::alloc::Global;
+use std::alloc::{AllocError, Global};
 use std::test::Fail;
 
 /// A stem, with what its spec says: `i`, without case; `*`, a wildcard follows; `/`, it wants a directory.
@@ -13,6 +13,17 @@ fn stem<'s>(text: &'s str, says: &str) -> SpecStem<'s> {
         has_wildcard: says.contains("*"),
         wants_directory: says.contains("/"),
     }
+}
+
+/// Whether one of these stems reaches a path.
+fn reaches(
+    alloc: Global,
+    stems: &[SpecStem<'_>],
+    path: &str,
+    is_dir: Option<bool>,
+) -> Result<bool, AllocError> {
+    let table = StemTable::new(alloc, stems)?;
+    Ok(table.reaches(path.as_bytes(), is_dir))
 }
 
 /// Stems, a path, whether it is that of a directory, and whether one of the stems reaches it.
@@ -31,11 +42,10 @@ impl Row for Reaching {
         for (text, says) in *stems {
             listed.push(stem(text, says))?;
         }
-        let table = StemTable::new(alloc, &listed)?;
         if *is_dir == Some(true) && reaches_directory(alloc, &listed, path.as_bytes())? != *want {
             return Ok(false);
         }
-        Ok(table.reaches(path.as_bytes(), *is_dir) == *want)
+        Ok(reaches(alloc, &listed, path, *is_dir)? == *want)
     }
 }
 

@@ -41,17 +41,21 @@ fn patterns_of(alloc: Global, texts: &[&str]) -> Result<Vec<Pattern>, Error> {
     Ok(patterns)
 }
 
-/// What is built from these patterns, given in this directory of a repository at `/r`.
+/// What is built from these patterns, given in this directory of a repository at `/r`. It is boxed, as all searches of
+/// the tests are: then a test is proved without a look at what a search is made of.
 pub(super) fn build_from(
     alloc: Global,
     patterns: Vec<Pattern>,
     prefix: &str,
-) -> Result<Result<Search, BuildError>, Fail> {
+) -> Result<Result<Box<Search>, BuildError>, Fail> {
     let prefix = BStr::new(prefix.as_bytes());
     if !is_clean_prefix(prefix) {
         return Err("the prefix isn't clean".into());
     }
-    Ok(Search::from_specs(alloc, patterns, Some(prefix), BStr::new(b"/r")))
+    match Search::from_specs(alloc, patterns, Some(prefix), BStr::new(b"/r")) {
+        Ok(search) => Ok(Ok(Box::new(alloc, search)?)),
+        Err(error) => Ok(Err(error)),
+    }
 }
 
 /// What is built from these texts, given in this directory of a repository at `/r`.
@@ -59,12 +63,12 @@ pub(super) fn build(
     alloc: Global,
     texts: &[&str],
     prefix: &str,
-) -> Result<Result<Search, BuildError>, Fail> {
+) -> Result<Result<Box<Search>, BuildError>, Fail> {
     build_from(alloc, patterns_of(alloc, texts)?, prefix)
 }
 
 /// The search of these texts, given in this directory of a repository at `/r`.
-pub(super) fn search_of(alloc: Global, texts: &[&str], prefix: &str) -> Result<Search, Fail> {
+pub(super) fn search_of(alloc: Global, texts: &[&str], prefix: &str) -> Result<Box<Search>, Fail> {
     Ok(build(alloc, texts, prefix)??)
 }
 
