@@ -10,7 +10,7 @@ use Rattle.pathspec_glob.specs.Bytes.{is_empty}
 use Rattle.pathspec_glob.specs.Tokens.{Token}
 use Rattle.pathspec_glob.specs.Tokens.Token.{One, Star, Deep}
 use Rattle.pathspec_glob.specs.GlobRelation.{matches, some_suffix}
-use Rattle.pathspec_glob.specs.GlobSteps.{is_wide, is_wide_at, may_pass_over_at, takes_byte, tests_at}
+use Rattle.pathspec_glob.specs.GlobSteps.{is_wide, is_wide_at, may_pass_over_at, takes_at, takes_byte}
 use Rattle.pathspec_glob.specs.GlobPlaces.{matches_within, accepts_at, accepts, accepts_before, either_holds, with_place, rows_closure}
 use Rattle.pathspec_glob.specs.GlobRows.{holds}
 
@@ -246,11 +246,11 @@ module _ (mode : Mode) (case : Case) where
   -- Visited at one place after another, the places lead to the same.
   pub byte-step : (n : ℕ) (ts : List Token) (E S : List Bool) (arrives : Bool) (b : ℕ) (bs : List ℕ) → n < length ts → length ts < length E → length ts ≤ length S
       → goes_on n ts E S arrives b bs
-      ≡ goes_on (suc n) ts (set (rows_closure mode ts n E S) n arrives) (set S n ((either_holds E S n && tests_at mode case (drop n ts) (b ∷ bs)) && is_wide_at (drop n ts)))
-      ((either_holds E S n && tests_at mode case (drop n ts) (b ∷ bs)) && not (is_wide_at (drop n ts))) b bs
+      ≡ goes_on (suc n) ts (set (rows_closure mode ts n E S) n arrives) (set S n ((either_holds E S n && takes_at mode case (drop n ts) b) && is_wide_at (drop n ts)))
+      ((either_holds E S n && takes_at mode case (drop n ts) b) && not (is_wide_at (drop n ts))) b bs
   byte-step n ts E S arrives b bs h g f =
       let inside = either_holds E S n in
-      let taken = tests_at mode case (drop n ts) (b ∷ bs) in
+      let taken = takes_at mode case (drop n ts) b in
       let wide = is_wide_at (drop n ts) in
       let over = holds E n && may_pass_over_at mode (drop n ts) in
       let stay = (inside && taken) && wide in

@@ -11,7 +11,7 @@ use Rattle.pathspec_glob.specs.Bytes.{is_empty, slash}
 use Rattle.pathspec_glob.specs.Tokens.{Token}
 use Rattle.pathspec_glob.specs.Tokens.Token.{One, Star, Deep}
 use Rattle.pathspec_glob.specs.GlobRelation.{takes, takes_first, matches, some_suffix, passes_over}
-use Rattle.pathspec_glob.specs.GlobSteps.{takes_byte, takes_at, tests_at, is_wide_at, may_pass_over_at}
+use Rattle.pathspec_glob.specs.GlobSteps.{takes_byte, takes_at, is_wide_at, may_pass_over_at}
 use Rattle.pathspec_glob.specs.GlobParts.{head_of, middle_of, tail_of, takes_each, tests_each, wide_takes}
 use Rattle.pathspec_glob.proofs.AcceptProofs.{from-place}
 use Rattle.pathspec_glob.proofs.PartProofs.{is_single, stands, head-singles, tail-singles, tail-stands, parts-all}

@@ -15,10 +15,6 @@ tokens-at parts tokens place part view within read =
     let f : drop place (tokens_view parts) ≡ token_view part ∷ drop (place + 1) (tokens_view parts) = drop-map token_view place parts ∙ ap (map token_view) e ∙ ap (λ ts. token_view part ∷ ts) (sym (drop-map token_view (place + 1) parts)) in
     subst (λ ts. drop place ts ≡ token_view part ∷ drop (place + 1) ts) view f
 
--- from the position of a byte on stand that byte and those after it
-pub text-at : (text : List ℕ) (position b : ℕ) → position < length text → b ≡ get_or text position b → drop position text ≡ b ∷ drop (position + 1) text
-text-at text position b within read = drop_more text position b within ∙ ap (λ x. x ∷ drop (position + 1) text) (sym read)
-
 -- the tokens from a place on
 pub tokens-from : (parts all : List Part) (tokens : List Token) (place : ℕ) → tokens_view parts ≡ tokens → all ≡ parts → tokens_view (take (length all - place) (drop place all)) ≡ drop place tokens
 tokens-from parts all tokens place view same =

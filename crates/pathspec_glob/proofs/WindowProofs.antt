@@ -1,15 +1,15 @@
 -- Places that are held within a window lead to what all places lead to.
-use Rattle.std.proofs.Common.{◌≡◌, ℕ, zero, suc, ◌+◌, ◌-◌, ◌<◌, ◌≤◌, Bool, true, false, ◌&&◌, ◌||◌, inl, inr, refl, sym, ◌∙◌, ap, arith, List, [], ◌∷◌, ◌++◌, replicate, length, set, drop, ◌==◌}
+use Rattle.std.proofs.Common.{◌≡◌, ℕ, zero, suc, ◌+◌, ◌-◌, ◌<◌, ◌≤◌, Bool, true, false, true≢false, ◌&&◌, ◌||◌, inl, inr, refl, sym, ◌∙◌, ap, arith, List, [], ◌∷◌, ◌++◌, replicate, length, set, drop}
 use Rattle.std.specs.Prelude.{◌⊎◌}
-use Rattle.std.proofs.lemmas.Bool.{cases_Bool, cases_lt, lt-ltb, le-ltb, or_parts, eqb-true}
+use Rattle.std.proofs.lemmas.Bool.{cases_Bool, cases_lt, lt-ltb, le-ltb, or_parts, and_parts}
 use Rattle.std.proofs.Math.Bool.{or-false, and-false}
 use Rattle.std.proofs.lemmas.List.{get_or-set_same, get_or-set_other, drop-set-lt, get_or-drop, length-drop}
 use Rattle.pathspec_glob.specs.declared.Mode.{Mode}
 use Rattle.pathspec_glob.specs.declared.Case.{Case}
-use Rattle.pathspec_glob.specs.Tokens.{Token}
+use Rattle.pathspec_glob.specs.Tokens.{Token, One, Star, Deep}
 use Rattle.pathspec_glob.specs.GlobRelation.{matches}
 use Rattle.pathspec_glob.specs.GlobSteps.{is_wide_at, may_pass_over_at}
-use Rattle.pathspec_glob.specs.GlobPlaces.{accepts, accepts_before, either_holds, with_place, rows_closure, HoldsWithin, window_start, window_end, closure_end}
+use Rattle.pathspec_glob.specs.GlobPlaces.{accepts, accepts_before, either_holds, with_place, rows_closure, HoldsWithin, closure_end}
 use Rattle.pathspec_glob.specs.GlobRows.{holds}
 use Rattle.pathspec_glob.proofs.AcceptProofs.{goes_on, holds-with_place, accepts-split, accepts-from, accepts-after, matches-after, accepts_before-same, accepts-end_come}
 
@@ -32,12 +32,28 @@ end-held place end = elim (cases_lt end (place + 3)) [
   | inr g ↦ rw (le-ltb end (place + 3) g) (omega arith)
 ]
 
--- a place that is closed comes to none from the end on
-rows_closure-none : (mode : Mode) (ts : List Token) (place : ℕ) (E S : List Bool) → either_holds E S place ≡ false → rows_closure mode ts place E S ≡ E
-rows_closure-none mode ts place E S off = let parts = or_parts (holds E place) (holds S place) off in rw (parts.0, parts.1) refl
+-- a token that may be passed over takes any number of bytes
+over-wide : (mode : Mode) (ts : List Token) → may_pass_over_at mode ts ≡ true → is_wide_at ts ≡ true
+over-wide mode [] o = cc
+over-wide mode (t ∷ []) o = cc
+over-wide mode (One single ∷ next ∷ ts) o = cc
+over-wide mode (Star ∷ next ∷ ts) o = cc
+over-wide mode (Deep ∷ next ∷ ts) o = refl
 
-pub rows_closure-after : (mode : Mode) (ts : List Token) (place end i : ℕ) (E S : List Bool) → closure_end (either_holds E S place) place end ≤ i → holds (rows_closure mode ts place E S) i ≡ holds E i
-rows_closure-after mode ts place end i E S h = elim (cases_Bool (either_holds E S place)) [
+-- a place that leads on to none changes nothing
+rows_closure-none : (mode : Mode) (ts : List Token) (place : ℕ) (E S : List Bool) → (either_holds E S place && is_wide_at (drop place ts)) ≡ false → rows_closure mode ts place E S ≡ E
+rows_closure-none mode ts place E S off = elim (cases_Bool (holds E place && may_pass_over_at mode (drop place ts))) [
+  | inl over ↦
+      let parts = and_parts (holds E place) (may_pass_over_at mode (drop place ts)) over in
+      let on : (either_holds E S place && is_wide_at (drop place ts)) ≡ true = rw (parts.0, over-wide mode (drop place ts) parts.1) refl in
+      absurd (true≢false (sym on ∙ off))
+  | inr none ↦ rw (off, none) refl
+]
+
+-- a place that is closed comes to none from the end on
+pub rows_closure-after : (mode : Mode) (ts : List Token) (place end i : ℕ) (E S : List Bool) → closure_end (either_holds E S place && is_wide_at (drop place ts)) place end ≤ i
+    → holds (rows_closure mode ts place E S) i ≡ holds E i
+rows_closure-after mode ts place end i E S h = elim (cases_Bool (either_holds E S place && is_wide_at (drop place ts))) [
   | inl t ↦
       let far : place + 3 ≤ i = let least = end-held place end in let k = rw t at h in omega arith in
       let once = with_place (either_holds E S place && is_wide_at (drop place ts)) (place + 1) E in
@@ -70,7 +86,7 @@ comes-before mode ts place i E S arrives h =
     ∙ holds-with_place (holds E place && may_pass_over_at mode (drop place ts)) (place + 2) i once (omega arith)
     ∙ holds-with_place (either_holds E S place && is_wide_at (drop place ts)) (place + 1) i E (omega arith)
 
-pub comes-after : (mode : Mode) (ts : List Token) (place end i : ℕ) (E S : List Bool) (arrives : Bool) → place < i → closure_end (either_holds E S place) place end ≤ i
+pub comes-after : (mode : Mode) (ts : List Token) (place end i : ℕ) (E S : List Bool) (arrives : Bool) → place < i → closure_end (either_holds E S place && is_wide_at (drop place ts)) place end ≤ i
     → holds (set (rows_closure mode ts place E S) place arrives) i ≡ holds E i
 comes-after mode ts place end i E S arrives h far = get_or-set_other (rows_closure mode ts place E S) place i arrives false (λ e. omega arith) ∙ rows_closure-after mode ts place end i E S far
 
@@ -151,40 +167,6 @@ module _ (mode : Mode) (case : Case) where
     pub stopped-accepts : (arrives : Bool) (b : ℕ) (bs : List ℕ) → length ts < length E → accepts mode case ts (set E n arrives) S bs ≡ goes_on mode case n ts E S arrives b bs
     stopped-accepts arrives b bs g =
         stopped-come arrives bs g ∙ sym (rw (stopped-rest b bs) (or-false (accepts_before mode case n ts E S bs || (arrives && matches mode case (drop n ts) bs))))
-
--- the window, once a place is after
-pub first-within : (held : Bool) (place first : ℕ) → first ≤ place → window_start held place first ≤ place + 1
-first-within true place first h = omega arith
-first-within false place first h = elim (cases_Bool (first == place)) [
-  | inl e ↦ rw e (omega arith)
-  | inr n ↦ rw n (omega arith)
-]
-
-pub end-within : (held : Bool) (place end : ℕ) → end ≤ place → window_end held place end ≤ place + 1
-end-within true place end h = omega arith
-end-within false place end h = omega arith
-
-pub before-first : (held : Bool) (place first : ℕ) (row : List Bool) → ((i : ℕ) → i < first → holds row i ≡ false) → (held ≡ false → holds row place ≡ false)
-    → (i : ℕ) → i < window_start held place first → holds row i ≡ false
-before-first true place first row before there i h = before i h
-before-first false place first row before there i h = elim (cases_Bool (first == place)) [
-  | inl e ↦
-      let same : first ≡ place = eqb-true first place e in
-      let less : i < place + 1 = rw e at h in
-      elim (cases_lt i place) [
-        | inl l ↦ before i (omega arith)
-        | inr g ↦ let this : i ≡ place = omega arith in rw this (there refl)
-      ]
-  | inr n ↦ before i (rw n at h)
-]
-
-pub left-after : (held : Bool) (place end : ℕ) (row : List Bool) → ((i : ℕ) → end ≤ i → i < place → holds row i ≡ false) → (held ≡ false → holds row place ≡ false)
-    → (i : ℕ) → window_end held place end ≤ i → i < place + 1 → holds row i ≡ false
-left-after true place end row left there i g h = absurd (let no : ⊥ = omega arith in no)
-left-after false place end row left there i g h = elim (cases_lt i place) [
-  | inl l ↦ left i g l
-  | inr k ↦ let this : i ≡ place = omega arith in rw this (there refl)
-]
 
 -- ---- places that are gone over
 

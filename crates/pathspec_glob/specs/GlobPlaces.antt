@@ -54,16 +54,9 @@ pub record HoldsWithin (tokens first end : ℕ) (entered staying : List Bool) : 
   pub after_entered : (i : ℕ) → end ≤ i → i ≤ tokens → holds entered i ≡ false
   pub after_staying : (i : ℕ) → end ≤ i → i < tokens → holds staying i ≡ false
 
--- the end of the places that are held, once one that was held or not has been closed
+-- the end of the places that are held, once those are come to that one leads on to without a byte, if any
 abbrev pub closure_end : Bool → ℕ → ℕ → ℕ
-closure_end held place end = if held && nat_lt end (place + 3) then place + 3 else end
-
--- where those that are held begin and end, once a place that is held or not is after
-abbrev pub window_start : Bool → ℕ → ℕ → ℕ
-window_start held place first = if not held && (first == place) then place + 1 else first
-
-abbrev pub window_end : Bool → ℕ → ℕ → ℕ
-window_end held place end = if held then place + 1 else end
+closure_end leads place end = if leads && nat_lt end (place + 3) then place + 3 else end
 
 -- ---- the same of a set of places
 
@@ -97,6 +90,10 @@ IsBounded tokens places = HoldsWithin tokens places.first places.end places.ente
 abbrev pub is_held : Places → ℕ → Bool
 is_held places place = either_holds places.entered places.staying place
 
+-- the place is held, and leads to the next without a byte
+abbrev pub leads_on : TokenList → Places → ℕ → Bool
+leads_on parts places place = is_held places place && is_wide_at (drop place parts.tokens)
+
 -- no place from one up to another is held
 abbrev pub IsUnheld : Places → ℕ → ℕ → Type 0
 IsUnheld places from end = (i : ℕ) → from ≤ i → i < end → is_held places i ≡ false
@@ -114,32 +111,32 @@ AcceptsFromStart parts places =
 abbrev pub AcceptsNothing : TokenList → Case → Places → Type 0
 AcceptsNothing parts case places = (text : List ℕ) → places_accept parts case places text ≡ false
 
--- after the first byte of the text, the new places lead to what the old ones lead to before it
-abbrev pub AcceptsAfterByte : TokenList → Case → Places → Places → List ℕ → Type 0
-AcceptsAfterByte parts case old new text =
-    (b : ℕ) (bs : List ℕ) → text ≡ b ∷ bs → places_accept parts case new bs ≡ places_accept parts case old text
+-- after a byte, the new places lead to what the old ones lead to before it
+abbrev pub AcceptsAfterByte : TokenList → Case → Places → Places → ℕ → Type 0
+AcceptsAfterByte parts case old new b =
+    (bs : List ℕ) → places_accept parts case new bs ≡ places_accept parts case old (b ∷ bs)
 
 -- the places that are come to once those that the token at this place leads to without a byte are too
 abbrev pub closure_at : TokenList → ℕ → Places → List Bool
 closure_at parts place places = rows_closure parts.mode parts.tokens place places.entered places.staying
 
--- the first byte of the text leads from this place to the next
-abbrev pub moves_on : TokenList → Case → Places → ℕ → List ℕ → Bool
-moves_on parts case places place text =
-    is_held places place && token_takes parts case place text && not (is_wide_at (drop place parts.tokens))
+-- the byte leads from this place to the next
+abbrev pub moves_on : TokenList → Case → Places → ℕ → ℕ → Bool
+moves_on parts case places place b =
+    is_held places place && token_takes parts case place b && not (is_wide_at (drop place parts.tokens))
 
--- after the first byte of the text, the token at this place may take more
-abbrev pub moves_within : TokenList → Case → Places → ℕ → List ℕ → Bool
-moves_within parts case places place text =
-    is_held places place && token_takes parts case place text && is_wide_at (drop place parts.tokens)
+-- after the byte, the token at this place may take more
+abbrev pub moves_within : TokenList → Case → Places → ℕ → ℕ → Bool
+moves_within parts case places place b =
+    is_held places place && token_takes parts case place b && is_wide_at (drop place parts.tokens)
 
 -- the places that are come to, and those whose tokens stay, once this place has taken a byte
 abbrev pub entered_after : TokenList → ℕ → Bool → Places → List Bool
 entered_after parts place arrives places = set (closure_at parts place places) place arrives
 
-abbrev pub staying_after : TokenList → Case → ℕ → List ℕ → Places → List Bool
-staying_after parts case place text places =
-    set places.staying place (moves_within parts case places place text)
+abbrev pub staying_after : TokenList → Case → ℕ → ℕ → Places → List Bool
+staying_after parts case place b places =
+    set places.staying place (moves_within parts case places place b)
 
 -- the steps that a place takes on one byte
 abbrev pub steps_at : Places → ℕ → ℕ

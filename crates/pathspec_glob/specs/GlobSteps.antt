@@ -49,12 +49,6 @@ abbrev pub takes_at : Mode → Case → List Token → ℕ → Bool
 takes_at mode case [] b = false
 takes_at mode case (t ∷ ts) b = takes_byte mode case t b
 
--- The first of the tokens takes the first byte of the text. None takes the text's end.
-abbrev pub tests_at : Mode → Case → List Token → List ℕ → Bool
-tests_at mode case [] text = false
-tests_at mode case (t ∷ ts) [] = false
-tests_at mode case (t ∷ ts) (b ∷ bs) = takes_byte mode case t b
-
--- The token at a place takes the first byte of the text.
-abbrev pub token_takes : TokenList → Case → ℕ → List ℕ → Bool
-token_takes parts case place text = tests_at parts.mode case (drop place parts.tokens) text
+-- The token at a place takes a byte, alone or with others.
+abbrev pub token_takes : TokenList → Case → ℕ → ℕ → Bool
+token_takes parts case place b = takes_at parts.mode case (drop place parts.tokens) b

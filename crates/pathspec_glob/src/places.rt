@@ -66,7 +66,7 @@ impl Places {
     {
         self.begin(tokens);
         for position in 0..text.len() {
-            if !self.advance(tokens, &text[position..], case, steps) {
+            if !self.advance(tokens, text[position], case, steps) {
                 return false;
             }
         }

@@ -152,6 +152,23 @@ fn one_of_a_thousand_files_is_found_by_few_comparisons(rt: HostRuntime) -> Resul
     assert_told(&rt, &mut search, ROWS)
 }
 
+#[test]
+fn paths_that_fall_to_the_head_of_the_last_compare_two(rt: HostRuntime) -> Result<(), Fail> {
+    const ROWS: &[Telling] = &[
+        ("d7/f", (Some((7, VERBATIM)), 1)),
+        ("d7/f/a", (Some((7, PREFIX)), 1)),
+        ("d7/f/b", (Some((7, PREFIX)), 1)),
+        ("d7/fa", (None, 1)),
+        ("d7/g", (None, 0)),
+    ];
+    let mut search = build_from(rt.alloc(), files(rt.alloc(), 1000)?, "")??;
+    told(&mut search, "d7/f")?;
+    for (path, want) in ROWS {
+        assert!(rt; compares(&mut search, path, *want, 2)?, "{path}");
+    }
+    Ok(())
+}
+
 /// So many specs of one text.
 fn equal(alloc: Global, text: &str, count: u32) -> Result<Vec<Pattern>, Fail> {
     let mut patterns = Vec::new(alloc);

@@ -1,61 +1,97 @@
 //! The step by one byte.
 ghost use Rattle.std.specs.Prelude.{IsTrue, IsFalse, ◌≡◌, ◌≤◌, ◌<◌, ◌+◌, ◌^◌, length};
 ghost use Rattle.pathspec_glob.specs.Counts.{KeepsCount};
-ghost use Rattle.pathspec_glob.specs.GlobPlaces.{closure_end, window_end, entered_after, window_start, HasRoom, is_held, IsBounded, IsUnheld, KeepsRoom, AcceptsNothing, AcceptsAfterByte, moves_on, staying_after, steps_at};
+ghost use Rattle.pathspec_glob.specs.GlobPlaces.{closure_end, entered_after, HasRoom, is_held, IsBounded, IsUnheld, KeepsRoom, leads_on, AcceptsNothing, AcceptsAfterByte, moves_on, staying_after, steps_at};
 
 use super::Places;
 use crate::Case;
-use crate::scratch::tokens::{Steps, Tokens};
+use crate::scratch::tokens::{Steps, Tests, Tokens};
+
+/// What a byte did at a place.
+#[derive(Clone, Copy)]
+struct Visit {
+    /// Whether it leads to the next place.
+    arrives: bool,
+    /// Whether the place leads to the next without a byte.
+    leads_on: bool,
+}
 
 impl Places {
-    /// Takes the first byte of a text at this place, which the place before leads to where `arrives` is true, and
-    /// says whether it leads to the place after.
+    /// Takes a byte at this place, which the place before leads to where `arrives` is true.
     fn visit(
         &mut self,
         tokens: &Tokens,
         place: usize,
-        text: &[u8],
+        byte: u8,
         case: Case,
         arrives: bool,
-        steps: &mut Steps,
-    ) -> bool
+        tests: &mut Tests,
+    ) -> Visit
         requires place { place < length tokens.now.tokens }
         requires room { HasRoom (length tokens.now.tokens) self.old }
-        requires steps { steps.old.last + 1 < 2 ^ 128 }
-        ensures after { result ≡ moves_on tokens.now case self.old place text.now }
+        requires tests { tests.old.count + 1 < 2 ^ 64 }
+        ensures after { result.arrives ≡ moves_on tokens.now case self.old place byte }
+        ensures on { result.leads_on ≡ leads_on tokens.now self.old place }
         ensures entered { self.new.entered ≡ entered_after tokens.now place arrives self.old }
-        ensures staying { self.new.staying
-            ≡ staying_after tokens.now case place text.now self.old }
-        ensures end { self.new.end ≡ closure_end (is_held self.old place) place self.old.end }
-        ensures steps { steps.new.last ≡ steps.old.last + steps_at self.old place }
-        ensures counted { KeepsCount steps.old steps.new }
+        ensures staying { self.new.staying ≡ staying_after tokens.now case place byte self.old }
+        ensures end { self.new.end
+            ≡ closure_end (leads_on tokens.now self.old place) place self.old.end }
+        ensures tests { tests.new.count ≡ tests.old.count + steps_at self.old place }
     {
-        let inside = self.close(tokens, place);
-        self.entered.put(place, arrives);
-        if !inside {
-            return false;
+        if !self.holds(place) {
+            self.entered.put(place, arrives);
+            return Visit {
+                arrives: false,
+                leads_on: false,
+            };
         }
-        let taken = tokens.test(place, text, case, steps);
-        let wide = tokens.is_wide(place);
-        self.staying.put(place, taken && wide);
-        taken && !wide
+        let is_taken = tokens.test(place, byte, case, tests);
+        if self.close_held(tokens, place) {
+            self.entered.put(place, arrives);
+            self.staying.put(place, is_taken);
+            return Visit {
+                arrives: false,
+                leads_on: true,
+            };
+        }
+        self.entered.put(place, arrives);
+        self.staying.put(place, false);
+        Visit {
+            arrives: is_taken,
+            leads_on: false,
+        }
     }
 
-    /// The place to go on to behind one of so many tokens: the next where `arrives` is true, and else the next that is held,
-    /// or at which a word begins.
-    fn behind(&self, place: usize, arrives: bool, tokens: usize) -> usize
+    /// The place to go on to behind one of so many tokens: the next where the visit leads to it, and else the next that may
+    /// be held.
+    fn behind(&self, place: usize, visit: Visit, tokens: usize) -> usize
         requires place { place < tokens }
         requires room { HasRoom tokens self.now }
         ensures from { place + 1 ≤ result }
         ensures within { result ≤ tokens }
-        ensures next { IsTrue arrives → result ≡ place + 1 }
+        ensures next { IsTrue visit.arrives → result ≡ place + 1 }
         ensures none { IsUnheld self.now (place + 1) result }
     {
-        let next = place + 1;
-        if arrives || next == tokens {
-            return next;
+        if visit.arrives || visit.leads_on {
+            place + 1
+        } else {
+            self.next_held(place + 1, tokens)
         }
-        self.held_from(next).min(tokens)
+    }
+
+    /// The first place from this one on that may be held, of those in so many tokens and the end: one that is, or at which a
+    /// word begins.
+    fn next_held(&self, place: usize, tokens: usize) -> usize
+        requires place { place ≤ tokens }
+        requires room { HasRoom tokens self.now }
+        ensures from { place ≤ result }
+        ensures within { result ≤ tokens }
+        ensures none { IsUnheld self.now place result }
+    {
+        if place == tokens {
+            return place;
+        }
+        self.held_from(place).min(tokens)
     }
 
     /// The first place from this one on that is held, or at which a word begins.
@@ -70,21 +106,21 @@ impl Places {
         place + (word.trailing_zeros() as usize).min(64 - place % 64)
     }
 
-    /// Goes on by the first byte of a text, and says whether a token was tested. Where none was, no place is held.
+    /// Goes on by a byte, and says whether a token was tested. Where none was, no place is held.
     ///
-    /// It tests each token at most once. It looks at no place before the first that is held or after the last, and of those
-    /// between that aren't held only at the first of each word.
+    /// It tests each token at most once. Of the places that aren't held, it looks only at the first of each word, and at none
+    /// behind the last that was ever held in this match.
     pub(super) fn advance(
         &mut self,
         tokens: &Tokens,
-        text: &[u8],
+        byte: u8,
         case: Case,
         steps: &mut Steps,
     ) -> bool
         requires room { HasRoom (length tokens.now.tokens) self.old }
         requires bounds { IsBounded (length tokens.now.tokens) self.old }
         requires steps { steps.old.last + length tokens.now.tokens < 2 ^ 128 }
-        ensures accepts { AcceptsAfterByte tokens.now case self.old self.new text.now }
+        ensures accepts { AcceptsAfterByte tokens.now case self.old self.new byte }
         ensures tested { IsTrue result → steps.old.last < steps.new.last }
         ensures none { IsFalse result → AcceptsNothing tokens.now case self.new }
         ensures bounds { IsBounded (length tokens.now.tokens) self.new }
@@ -92,41 +128,18 @@ impl Places {
         ensures counted { KeepsCount steps.old steps.new }
         ensures room { KeepsRoom self.old self.new }
     {
-        let before = steps.last();
+        let mut tests = Tests::none();
+        let first = self.next_held(self.first, tokens.len());
         let mut arrives = false;
-        let mut place = self.first;
-        let mut first = place;
-        let mut end = place;
+        let mut place = first;
         while place < self.end && place < tokens.len() {
-            arrives = self.visit(tokens, place, text, case, arrives, steps);
-            let held = self.holds(place);
-            first = window_start(first, place, held);
-            end = window_end(end, place, held);
-            place = self.behind(place, arrives, tokens.len());
+            let visit = self.visit(tokens, place, byte, case, arrives, &mut tests);
+            arrives = visit.arrives;
+            place = self.behind(place, visit, tokens.len());
         }
         self.entered.put(place, arrives);
         self.first = first;
-        self.end = if arrives { place + 1 } else { end };
-        steps.last() > before
+        self.end = if arrives { place + 1 } else { place };
+        steps.add(tests)
     }
-}
-
-/// The first of the places up to this one that may be held, where none before `first` is.
-fn window_start(first: usize, place: usize, held: bool) -> usize
-    requires { place + 1 < 2 ^ 64 }
-    ensures { result ≡ window_start held place first }
-{
-    if !held && first == place {
-        place + 1
-    } else {
-        first
-    }
-}
-
-/// The end of the places up to this one that are held, where none from `end` on is.
-fn window_end(end: usize, place: usize, held: bool) -> usize
-    requires { place + 1 < 2 ^ 64 }
-    ensures { result ≡ window_end held place end }
-{
-    if held { place + 1 } else { end }
 }

@@ -1,10 +1,10 @@
 //! The tokens of globs, and the one question that a text is asked with them.
-ghost use Rattle.std.specs.Prelude.{◌≡◌, ◌+◌, ◌<◌, ◌≤◌, ◌^◌, length, take, drop, map, not, IfOk, OnOk, IsTrue, ◌==◌};
+ghost use Rattle.std.specs.Prelude.{◌≡◌, ◌+◌, ◌<◌, ◌≤◌, ◌^◌, length, take, drop, map, get_or, nat_lt, not, IfOk, OnOk, IsTrue, ◌==◌};
 ghost use Rattle.std.specs.List.{prefix_len};
 ghost use Rattle.pathspec_glob.specs.Bytes.{slash};
 ghost use Rattle.pathspec_glob.specs.GlobRelation.{is_same_byte, is_barred, takes, passes_over};
 ghost use Rattle.pathspec_glob.specs.GlobForms.{single_view, token_view, tokens_view};
-ghost use Rattle.pathspec_glob.specs.GlobSteps.{is_deep_token, is_wide, is_wide_at, may_pass_over_at, token_list, takes_at, takes_byte, token_takes};
+ghost use Rattle.pathspec_glob.specs.GlobSteps.{is_deep_token, is_wide, is_wide_at, may_pass_over_at, token_list, takes_byte, token_takes};
 ghost use Rattle.pathspec_glob.specs.GlobParts.{head_size, takes_each, tests_each, wide_size, wide_takes};
 ghost use Rattle.pathspec_glob.specs.Counts.{BeginsAnew, HasNoSteps, KeepsCount};
 
@@ -56,6 +56,12 @@ pub struct Steps {
     last: u128,
     /// In all matches together, modulo 2^128.
     total: u128,
+}
+
+/// How many tokens were tested at one position of a text. Only [`Tokens::test`] raises it, and it can't be let go but to
+/// [`Steps::add`], which counts it.
+pub struct Tests {
+    count: usize,
 }
 
 impl Model for Tokens {
@@ -117,7 +123,7 @@ impl Tokens {
     /// Whether the token at a place takes a byte, alone or with others.
     fn takes(&self, place: usize, byte: u8, case: Case) -> bool
         requires { place < length self.now.tokens }
-        ensures { result ≡ takes_at self.now.mode case (drop place self.now.tokens) byte }
+        ensures { result ≡ token_takes self.now case place byte }
     {
         self.all[place].takes(self.mode, case, byte)
     }
@@ -167,20 +173,28 @@ impl Tokens {
         size
     }
 
-    /// Tests the token at a place on the first byte of a text, which is counted as one step: whether the token takes the
-    /// byte. None takes the end of a text.
-    pub fn test(&self, place: usize, text: &[u8], case: Case, steps: &mut Steps) -> bool
+    /// Tests the token at a place on a byte: whether the token takes it, alone or with others.
+    pub fn test(&self, place: usize, byte: u8, case: Case, tests: &mut Tests) -> bool
         requires place { place < length self.now.tokens }
+        requires room { tests.old.count + 1 < 2 ^ 64 }
+        ensures answer { result ≡ token_takes self.now case place byte }
+        ensures tests { tests.new.count ≡ tests.old.count + 1 }
+    {
+        tests.count += 1;
+        self.takes(place, byte, case)
+    }
+
+    /// Tests the first token on the first byte of a text, which is counted as one step: whether the token takes it.
+    fn test_first(&self, text: &[u8], case: Case, steps: &mut Steps) -> bool
+        requires some { 0 < length text.now }
+        requires len { length text.now ≡ length self.now.tokens }
         requires room { steps.old.last + 1 < 2 ^ 128 }
-        ensures answer { result ≡ token_takes self.now case place text.now }
+        ensures answer { result ≡ token_takes self.now case 0 (get_or text.now 0 0) }
         ensures steps { steps.new.last ≡ steps.old.last + 1 }
         ensures counted { KeepsCount steps.old steps.new }
     {
-        steps.raise();
-        match text.first() {
-            None => false,
-            Some(byte) => self.all[place].takes(self.mode, case, *byte),
-        }
+        steps.raise_by(1);
+        self.takes(0, text[0], case)
     }
 
     /// Tests the tokens on the bytes of a text one by one, up to a byte that its token doesn't take, each of which is
@@ -196,7 +210,8 @@ impl Tokens {
         ensures least { IsTrue result → steps.new.last ≡ steps.old.last + length text.now }
         ensures counted { KeepsCount steps.old steps.new }
     {
-        text.is_empty() || (self.test(0, text, case, steps) && self.test_others(text, case, steps))
+        text.is_empty()
+            || (self.test_first(text, case, steps) && self.test_others(text, case, steps))
     }
 
     // Out of line, since most texts fail at the first token of a head.
@@ -304,14 +319,25 @@ impl Steps {
         self.total = self.total.wrapping_add(steps);
     }
 
-    /// Counts a step more.
-    fn raise(&mut self)
-        requires { self.old.last + 1 < 2 ^ 128 }
-        ensures steps { self.new.last ≡ self.old.last + 1 }
+    /// Counts the tests at a position, a step each, and says whether there were any.
+    pub fn add(&mut self, tests: Tests) -> bool
+        requires { self.old.last + tests.count < 2 ^ 128 }
+        ensures any { result ≡ nat_lt 0 tests.count }
+        ensures steps { self.new.last ≡ self.old.last + tests.count }
         ensures counted { KeepsCount self.old self.new }
     {
-        self.last += 1;
-        self.total = self.total.wrapping_add(1);
+        let Tests { count } = tests;
+        self.raise_by(count as u128);
+        count > 0
+    }
+}
+
+impl Tests {
+    /// No test.
+    pub fn none() -> Tests
+        ensures { result.count ≡ 0 }
+    {
+        Tests { count: 0 }
     }
 }
 

@@ -1,4 +1,5 @@
-use Rattle.std.proofs.Common.{rules, ◌≡◌, ◌<◌, ◌≤◌, [], length, sym, ◌∙◌, add-one, arith}
+use Rattle.std.proofs.Common.{rules, ◌≡◌, ◌<◌, ◌≤◌, ◌&&◌, [], drop, length, sym, ◌∙◌, add-one, arith}
+use Rattle.pathspec_glob.specs.GlobSteps.{is_wide_at}
 use Rattle.pathspec_glob.specs.GlobPlaces.{either_holds}
 use Rattle.pathspec_glob.specs.GlobRows.{holds}
 use Rattle.pathspec_glob.proofs.AcceptProofs.{end-step, end-end, length-rows_closure}
@@ -27,16 +28,16 @@ loop-place-preserved c =
     let invariant = c.loop-place.invariant in
     let within : place < length tokens.tokens = omega (arith, c.if-place-len.true, c.len.ensures) in
     let longer : length tokens.tokens < length entered = omega (arith, c.requires.room.entered, invariant.entered) in
-    let held = either_holds entered staying place in
+    let leads = either_holds entered staying place && is_wide_at (drop place tokens.tokens) in
     record {
       accepts = λ case. rw (add-one place, c.close.ensures.entered, c.close.ensures.staying) (sym (end-step tokens.mode case place tokens.tokens entered staying within longer) ∙ invariant.accepts case);
       within = omega (arith, within);
       after_entered = λ i far short.
           let end = rw c.close.ensures.end at far in
-          rw c.close.ensures.entered (rows_closure-after tokens.mode tokens.tokens place c.loop-place.self.end i entered staying end ∙ invariant.after_entered i (let least = end-least held place c.loop-place.self.end in omega arith) short);
+          rw c.close.ensures.entered (rows_closure-after tokens.mode tokens.tokens place c.loop-place.self.end i entered staying end ∙ invariant.after_entered i (let least = end-least leads place c.loop-place.self.end in omega arith) short);
       after_staying = λ i far short.
           let end = rw c.close.ensures.end at far in
-          rw c.close.ensures.staying (invariant.after_staying i (let least = end-least held place c.loop-place.self.end in omega arith) short);
+          rw c.close.ensures.staying (invariant.after_staying i (let least = end-least leads place c.loop-place.self.end in omega arith) short);
       entered = rw c.close.ensures.entered (length-rows_closure tokens.mode place tokens.tokens entered staying ∙ invariant.entered);
       staying = search rules;
     }

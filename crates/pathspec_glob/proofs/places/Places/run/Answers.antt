@@ -1,5 +1,5 @@
 use Rattle.std.proofs.Common.{ℕ, ◌≡◌, ◌+◌, ◌*◌, ◌≤◌, ◌<◌, ◌^◌, [], ◌∷◌, false, refl, sym, ◌∙◌, ap, arith, add-one, length, get_or, drop}
-use Rattle.std.proofs.lemmas.List.{drop_more, take_rest}
+use Rattle.std.proofs.lemmas.List.{drop_more}
 use Rattle.std.proofs.Math.ListN.{drop_of_length-le}
 use Rattle.std.proofs.Math.Nat.{mul-le-mul_left, mul-suc}
 use Rattle.pathspec_glob.specs.GlobRelation.{matches}
@@ -31,10 +31,9 @@ loop-position-preserved c =
     let advance = c.if-not-advance.ensures in
     let invariant = c.loop-position.invariant in
     let before = accepts c.args.tokens.now.mode c.args.case c.args.tokens.now.tokens c.loop-position.self.entered c.loop-position.self.staying in
-    let rest = take_rest text position in
     let tested = advance.tested refl in
     record {
-      accepts = advance.accepts (get_or text position 0) (drop (position + 1) text) (rest ∙ next) ∙ ap before rest ∙ invariant.accepts;
+      accepts = advance.accepts (drop (position + 1) text) ∙ ap before (sym next) ∙ invariant.accepts;
       bounds = advance.bounds;
       least = omega (arith, tested, invariant.least);
       most = more-steps (length c.args.tokens.now.tokens) position c.args.steps.now.last c.loop-position.steps.last c.advance.new.steps.last invariant.most advance.steps;
@@ -50,8 +49,7 @@ no-match c =
     let next : drop position text ≡ get_or text position 0 ∷ drop (position + 1) text = drop_more text position 0 c.loop-position-test.true in
     let advance = c.if-not-advance.ensures in
     let before = accepts c.args.tokens.now.mode c.args.case c.args.tokens.now.tokens c.loop-position.self.entered c.loop-position.self.staying in
-    let rest = take_rest text position in
-    sym (advance.none refl (drop (position + 1) text)) ∙ advance.accepts (get_or text position 0) (drop (position + 1) text) (rest ∙ next) ∙ ap before rest ∙ c.loop-position.invariant.accepts
+    sym (advance.none refl (drop (position + 1) text)) ∙ advance.accepts (drop (position + 1) text) ∙ ap before (sym next) ∙ c.loop-position.invariant.accepts
 
 pub returns-then-not-advance-clause-answer : goal.returns-then-not-advance-clause-answer
 returns-then-not-advance-clause-answer c = no-match c
