@@ -1,6 +1,6 @@
 -- The bound of a search by halves, and counts that go round.
 use Rattle.std.proofs.Common.{◌≡◌, ℕ, suc, zero, ◌+◌, ◌-◌, ◌/◌, ◌%◌, ◌^◌, ◌<◌, ◌≤◌, inl, inr, sym, ◌∙◌, ap, arith, ◌⊎◌, add_assoc}
-use Rattle.std.proofs.Math.Nat.{pow-succ', mod-add-mod, mod-mod}
+use Rattle.std.proofs.Math.Nat.{pow-succ', mod-add-mod}
 use Rattle.pathspec_glob.specs.Counts.{Counts}
 
 -- what is left behind a comparison in the middle of fewer than 2 ^ k places

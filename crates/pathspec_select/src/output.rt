@@ -38,27 +38,27 @@ pub(crate) fn write_records<W: Write>(
     devices::write_whole(writer, buffer.as_slice())
 }
 
-/// Puts a record, if there is one, and the separator after it, after those bytes that a buffer holds.
+/// Puts the text of a record, if there is one, and the separator after it, after those bytes that a buffer holds.
 ///
 /// # Errors
 /// [`Refusal::Write`]: a beginning of all these bytes is written.
 fn put_record<W: Write>(
     writer: &mut W,
     buffer: &mut Vec<u8>,
-    record: Option<BStr<'_>>,
+    text: Option<BStr<'_>>,
     separator: u8,
 ) -> Result<(), Refusal>
     ensures put { OnOk result (AppendsUpTo (W.contents writer.old) (W.contents writer.new)
-        (buffer.old.items ++ written_of separator (option_map bstr_bytes record.entry))
+        (buffer.old.items ++ written_of separator (option_map bstr_bytes text.entry))
         buffer.new.items) }
     ensures cause { IfErr result (λ e. e ≡ Refusal.Write) }
     ensures front { OnErr result (AppendsFront (W.contents writer.old) (W.contents writer.new)
-        (buffer.old.items ++ written_of separator (option_map bstr_bytes record.entry))) }
+        (buffer.old.items ++ written_of separator (option_map bstr_bytes text.entry))) }
 {
-    let Some(record) = record else {
+    let Some(text) = text else {
         return Ok(());
     };
-    put(writer, buffer, record.as_bytes())?;
+    put(writer, buffer, text.as_bytes())?;
     put(writer, buffer, &[separator])
 }
 
