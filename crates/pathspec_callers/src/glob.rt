@@ -21,6 +21,14 @@ pub fn is_match(
         IsTrue found ↔ Matches mode case (tokens mode pattern.now) path.now) }
 {
     let glob = Glob::compile(alloc, pattern, mode)?;
+    is_taken(alloc, &glob, path, case)
+}
+
+/// Whether a glob matches a path, in a scratch of its own.
+fn is_taken(alloc: Global, glob: &Glob, path: &[u8], case: Case) -> Result<bool, AllocError>
+    ensures { IfOk result (λ found. IsTrue found
+        ↔ Matches glob.now.mode case (tokens glob.now.mode glob.now.pattern) path.now) }
+{
     let mut scratch = Scratch::for_tokens(alloc, glob.tokens())?;
     Ok(glob.matches(path, case, &mut scratch))
 }

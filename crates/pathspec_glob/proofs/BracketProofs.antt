@@ -1,5 +1,5 @@
 -- Brackets, read from left to right.
-use Rattle.std.proofs.Common.{◌≡◌, ◌≤◌, ◌<◌, ◌+◌, ◌-◌, ℕ, zero, suc, Bool, true, false, inl, inr, refl, ◌∙◌, sym, ap, List, [], ◌∷◌, ◌++◌, length, drop, Option, Some, None, arith, length-drop, length-take, take, get_or, nat_lt, not, if◌then◌else◌, ◌==◌, is_some, ◌&&◌}
+use Rattle.std.proofs.Common.{◌≡◌, ◌≤◌, ◌<◌, ◌+◌, ◌-◌, ℕ, zero, suc, Bool, true, false, inl, inr, refl, ◌∙◌, sym, ap, List, [], ◌∷◌, ◌++◌, length, drop, Option, Some, None, arith, length-drop, length-take, take, nat_lt, not, if◌then◌else◌, ◌==◌, is_some, ◌&&◌}
 use Rattle.std.proofs.lemmas.Bool.{cases_Bool, lt-ltb, le-ltb, ltb-true}
 use Rattle.std.proofs.lemmas.Bool.Decides.{nat_tests}
 use Rattle.std.specs.Char.{to_ascii_lowercase, to_ascii_uppercase}
@@ -258,14 +258,3 @@ pub so_far-Broken : (items : List Kept) (count : ℕ) (first : Bool) (last : Opt
 so_far-Broken items count first last rest whole h k f e =
     let front : front_of (is_empty items) last rest ≡ Broken = rw (f, k, empty-none items) at (sym e) in
     sym (items_before-None (items_view items)) ∙ (ap (items_before (items_view items)) (sym (items_from-Broken (is_empty items) last rest front)) ∙ h)
-
--- a list of six numbers is known by each
-pub six_letters : (xs : List ℕ) (a b c d e f : ℕ) → length xs ≡ 6 → get_or xs 0 0 ≡ a → get_or xs 1 0 ≡ b → get_or xs 2 0 ≡ c → get_or xs 3 0 ≡ d → get_or xs 4 0 ≡ e → get_or xs 5 0 ≡ f → xs ≡ a ∷ b ∷ c ∷ d ∷ e ∷ f ∷ []
-six_letters [] a b c d e f n p0 p1 p2 p3 p4 p5 = absurd (omega arith)
-six_letters (x0 ∷ []) a b c d e f n p0 p1 p2 p3 p4 p5 = absurd (omega arith)
-six_letters (x0 ∷ x1 ∷ []) a b c d e f n p0 p1 p2 p3 p4 p5 = absurd (omega arith)
-six_letters (x0 ∷ x1 ∷ x2 ∷ []) a b c d e f n p0 p1 p2 p3 p4 p5 = absurd (omega arith)
-six_letters (x0 ∷ x1 ∷ x2 ∷ x3 ∷ []) a b c d e f n p0 p1 p2 p3 p4 p5 = absurd (omega arith)
-six_letters (x0 ∷ x1 ∷ x2 ∷ x3 ∷ x4 ∷ []) a b c d e f n p0 p1 p2 p3 p4 p5 = absurd (omega arith)
-six_letters (x0 ∷ x1 ∷ x2 ∷ x3 ∷ x4 ∷ x5 ∷ []) a b c d e f n p0 p1 p2 p3 p4 p5 = cc
-six_letters (x0 ∷ x1 ∷ x2 ∷ x3 ∷ x4 ∷ x5 ∷ x6 ∷ xs) a b c d e f n p0 p1 p2 p3 p4 p5 = absurd (omega arith)

@@ -1,5 +1,5 @@
 //! Brackets of globs: the bytes that `[` .. `]` lists (git's wildmatch).
-ghost use Rattle.std.specs.Prelude.{◌≡◌, ◌≤◌, ◌==◌, ℕ, None, IfOk, true, length, drop};
+ghost use Rattle.std.specs.Prelude.{◌≡◌, ◌≤◌, ◌==◌, ℕ, None, IfOk, true, length, drop, bytes_eq};
 ghost use Rattle.std.specs.Option.{option_map};
 ghost use Rattle.std.specs.List.{list_any, position};
 ghost use Rattle.pathspec_glob.specs.Bytes.{close_bracket, colon, first_is};
@@ -12,7 +12,7 @@ use crate::Case;
 use std::alloc::{AllocError, Global};
 
 /// A class of ASCII bytes that a bracket names, as `[:digit:]`.
-#[derive(Clone, Copy, Debug, PartialEq, Eq)]
+#[derive(Clone, Copy, Debug)]
 pub enum Class {
     /// Letters and digits.
     Alnum,
@@ -45,20 +45,32 @@ impl Class {
     fn from_name(name: &[u8]) -> Option<Class>
         ensures { option_map class_name result ≡ known_class name.now }
     {
-        match name {
-            b"alnum" => Some(Class::Alnum),
-            b"alpha" => Some(Class::Alpha),
-            b"blank" => Some(Class::Blank),
-            b"cntrl" => Some(Class::Cntrl),
-            b"digit" => Some(Class::Digit),
-            b"graph" => Some(Class::Graph),
-            b"lower" => Some(Class::Lower),
-            b"print" => Some(Class::Print),
-            b"punct" => Some(Class::Punct),
-            b"space" => Some(Class::Space),
-            b"upper" => Some(Class::Upper),
-            b"xdigit" => Some(Class::Xdigit),
-            _ => None,
+        if is_same(name, b"alnum") {
+            Some(Class::Alnum)
+        } else if is_same(name, b"alpha") {
+            Some(Class::Alpha)
+        } else if is_same(name, b"blank") {
+            Some(Class::Blank)
+        } else if is_same(name, b"cntrl") {
+            Some(Class::Cntrl)
+        } else if is_same(name, b"digit") {
+            Some(Class::Digit)
+        } else if is_same(name, b"graph") {
+            Some(Class::Graph)
+        } else if is_same(name, b"lower") {
+            Some(Class::Lower)
+        } else if is_same(name, b"print") {
+            Some(Class::Print)
+        } else if is_same(name, b"punct") {
+            Some(Class::Punct)
+        } else if is_same(name, b"space") {
+            Some(Class::Space)
+        } else if is_same(name, b"upper") {
+            Some(Class::Upper)
+        } else if is_same(name, b"xdigit") {
+            Some(Class::Xdigit)
+        } else {
+            None
         }
     }
 
@@ -84,7 +96,7 @@ impl Class {
 }
 
 /// What a bracket lists.
-#[derive(Clone, Copy, Debug, PartialEq, Eq)]
+#[derive(Clone, Copy, Debug)]
 pub enum Item {
     /// One byte.
     Literal(u8),
@@ -118,7 +130,7 @@ impl Item {
 }
 
 /// The items of a bracket, and what follows its `]`.
-#[derive(Debug, Drop)]
+#[derive(Drop)]
 pub struct Read<'p> {
     pub items: Vec<Item>,
     pub rest: &'p [u8],
@@ -238,6 +250,13 @@ fn class_front(bytes: &[u8], closing: Option<usize>) -> Front
         Some(name) => named_front(name),
         None => Front::Listed(Item::Literal(b'['), 1),
     }
+}
+
+/// Whether two names are the same.
+fn is_same(name: &[u8], other: &[u8]) -> bool
+    ensures { result ≡ bytes_eq name.now other.now }
+{
+    name == other
 }
 
 /// What stands before the last byte, where that one is `:`.

@@ -28,7 +28,7 @@ impl Model for Chains {
 }
 
 /// What was found for a text.
-#[derive(Clone, Copy, Debug)]
+#[derive(Clone, Copy)]
 pub struct Deepest {
     /// The last head that begins the text, if one does.
     pub head: Option<usize>,

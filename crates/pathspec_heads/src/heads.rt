@@ -9,7 +9,7 @@ ghost use Rattle.pathspec_heads.specs.Stems.{with_slash};
 use std::marker::Model;
 
 /// How a head compares with a text.
-#[derive(Clone, Copy, Debug)]
+#[derive(Clone, Copy)]
 pub struct Comparison {
     /// How many bytes agree before the first that doesn't.
     pub agreed: usize,

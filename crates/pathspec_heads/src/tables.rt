@@ -2,6 +2,7 @@
 ghost use Rattle.std.specs.Prelude.{◌≡◌, ◌&&◌, true, false, List, map, IfOk};
 ghost use Rattle.std.specs.List.{list_any};
 ghost use Rattle.pathspec_glob.specs.Bytes.{fold_case};
+ghost use Rattle.pathspec_heads.specs.Stems.{HasSameTexts};
 ghost use Rattle.pathspec_heads.specs.Tables.{StemParts, TextLists, TextTable, stem_reaches, is_of_kind, texts_of, IsListed, IsTableOf, directory_reaches, lists_reach};
 
 use crate::stems::Stems;
@@ -60,14 +61,11 @@ impl SpecStem<'_> {
 fn folded(alloc: Global, text: &[u8], ignore_case: bool) -> Result<Vec<u8>, AllocError>
     ensures { IfOk result (λ copy. copy.items ≡ fold_case ignore_case text.now) }
 {
-    if !ignore_case {
-        return Vec::from_slice(alloc, text);
+    if ignore_case {
+        text.to_ascii_lowercase(alloc)
+    } else {
+        Vec::from_slice(alloc, text)
     }
-    let mut copy = Vec::with_capacity(alloc, text.len())?;
-    for byte in text {
-        copy.push(byte.to_ascii_lowercase())?;
-    }
-    Ok(copy)
 }
 
 /// The texts of the stems of a kind, in lower case where case doesn't count.
@@ -87,6 +85,18 @@ fn texts_of(
         }
     }
     Ok(texts)
+}
+
+/// The stems of a kind.
+fn stems_of(
+    alloc: Global,
+    stems: &[SpecStem<'_>],
+    ignore_case: bool,
+    kind: Kind,
+) -> Result<Stems, AllocError>
+    ensures { IfOk result (HasSameTexts (texts_of ignore_case kind stems.now)) }
+{
+    Stems::new(alloc, texts_of(alloc, stems, ignore_case, kind)?)
 }
 
 /// The texts of stems by their kinds: of those with case, or of those without.
@@ -112,9 +122,9 @@ impl StemLists {
     ) -> Result<StemLists, AllocError>
         ensures { IfOk result (IsListed ignore_case stems.now) }
     {
-        let wild = Stems::new(alloc, texts_of(alloc, stems, ignore_case, Kind::Wild)?)?;
-        let literal = Stems::new(alloc, texts_of(alloc, stems, ignore_case, Kind::Literal)?)?;
-        let directory = Stems::new(alloc, texts_of(alloc, stems, ignore_case, Kind::Directory)?)?;
+        let wild = stems_of(alloc, stems, ignore_case, Kind::Wild)?;
+        let literal = stems_of(alloc, stems, ignore_case, Kind::Literal)?;
+        let directory = stems_of(alloc, stems, ignore_case, Kind::Directory)?;
         Ok(StemLists {
             wild,
             literal,

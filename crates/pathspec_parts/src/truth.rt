@@ -91,7 +91,7 @@ fn split_digits(text: &[u8]) -> (&[u8], &[u8])
 fn digit_count(text: &[u8]) -> usize
     ensures { result ≡ prefix_len is_ascii_digit text.now }
 {
-    text.iter().take_while(|byte| byte.is_ascii_digit()).count()
+    text.iter().copied().take_while(u8::is_ascii_digit).count()
 }
 
 /// Whether it is no letter, or one of `k`, `m` and `g`.

@@ -170,22 +170,37 @@ fn a_name_is_set_at_each_of_its_places(rt: HostRuntime) -> Result<(), Fail> {
 
 #[test]
 fn names_of_an_outcome_stand_in_the_order_of_the_list(rt: HostRuntime) -> Result<(), Fail> {
-    let found = outcome(rt.alloc())?;
-    assert!(rt; !found.is_empty());
-    for (place, text) in ["a", "b", "a"].iter().enumerate() {
-        if place < found.len() {
-            assert_eq!(rt; found.name(place).as_bytes(), text.as_bytes());
+    assert!(rt; has_names(&outcome(rt.alloc())?, &["a", "b", "a"]));
+    Ok(())
+}
+
+/// Whether an outcome has these names.
+fn has_names(found: &Outcome, want: &[&str]) -> bool {
+    for (place, text) in want.iter().enumerate() {
+        if place >= found.len() || found.name(place).as_bytes() != text.as_bytes() {
+            return false;
         }
     }
-    Ok(())
+    found.len() == want.len() && !found.is_empty()
+}
+
+/// Whether the rows set these states at `x`.
+fn are_set(alloc: Global, rows: &mut Rows, want: &[StateRef<'_>]) -> Result<bool, Fail> {
+    let mut found = outcome(alloc)?;
+    Ok(ask(rows, "x", &mut found)? && has_states(&found, want))
+}
+
+/// The rows that assign states at `x`.
+fn rows_at_x(alloc: Global) -> Result<Rows, Fail> {
+    let mut rows = Rows::new(alloc);
+    rows.push(b"x", parse::attributes(alloc, b"a -b c")?)?;
+    Ok(rows)
 }
 
 #[test]
 fn rows_set_what_their_path_assigns(rt: HostRuntime) -> Result<(), Fail> {
-    let mut rows = Rows::new(rt.alloc());
-    rows.push(b"x", parse::attributes(rt.alloc(), b"a -b c")?)?;
-    let mut found = outcome(rt.alloc())?;
-    let is_found = ask(&mut rows, "x", &mut found)?;
-    assert!(rt; is_found && has_states(&found, &[StateRef::Set, StateRef::Unset, StateRef::Set]));
+    const WANT: &[StateRef<'static>] = &[StateRef::Set, StateRef::Unset, StateRef::Set];
+    let mut rows = rows_at_x(rt.alloc())?;
+    assert!(rt; are_set(rt.alloc(), &mut rows, WANT)?);
     Ok(())
 }

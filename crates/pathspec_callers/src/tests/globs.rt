@@ -6,7 +6,7 @@ use pathspec_glob::{Glob, Scratch, first_wildcard};
 use std::alloc::{AllocError, Global};
 use std::test::Fail;
 
-/// What a glob says of a text in a new scratch, and how many steps that took.
+/// What a glob of this pattern says of a text in a new scratch, and how many steps that took.
 fn answer(
     alloc: Global,
     mode: Mode,
@@ -15,6 +15,16 @@ fn answer(
     text: &[u8],
 ) -> Result<(bool, u128), AllocError> {
     let glob = Glob::compile(alloc, pattern.as_bytes(), mode)?;
+    answer_of(alloc, &glob, case, text)
+}
+
+/// What a glob says of a text in a new scratch, and how many steps that took.
+fn answer_of(
+    alloc: Global,
+    glob: &Glob,
+    case: Case,
+    text: &[u8],
+) -> Result<(bool, u128), AllocError> {
     let mut scratch = Scratch::for_tokens(alloc, glob.tokens())?;
     let found = glob.matches(text, case, &mut scratch);
     Ok((found, scratch.last_steps()))
@@ -53,6 +63,7 @@ impl Row for Aware {
 #[test]
 fn path_aware_globs_tell_slashes_apart(rt: HostRuntime) -> Result<(), Fail> {
     const ROWS: &[Aware] = &[
+        // Path aware globs tell slashes apart.
         Aware("*.c", "x.c", true),
         Aware("*.c", "d/x.c", false),
         Aware("*", "", true),
@@ -75,6 +86,29 @@ fn path_aware_globs_tell_slashes_apart(rt: HostRuntime) -> Result<(), Fail> {
         Aware("**\\/x", "a/x", true),
         Aware("a[!b]c", "a/c", false),
         Aware("a[!b]c", "axc", true),
+        // Deep stands for nothing only where it is come to.
+        Aware("**/**/x", "x", true),
+        Aware("**/**/x", "a/x", true),
+        Aware("**/**/x", "a/b/c/x", true),
+        Aware("**/**/x", "ax", false),
+        Aware("**/**/x", "a/bx", false),
+        Aware("**/x*", "ax", false),
+        Aware("**/x*", "a/xb", true),
+        Aware("a/**/b", "a/xb", false),
+        Aware("a/**/b*c", "a/bc", true),
+        Aware("a/**/b*c", "a/xbc", false),
+        Aware("*a*", "b/a", false),
+        Aware("**/*a*/**", "b/cad/e", true),
+        Aware("**/*a*/**", "b/c/e", false),
+        // An empty text is taken by stars alone.
+        Aware("", "", true),
+        Aware("**", "", true),
+        Aware("**/**", "", true),
+        Aware("**/", "", true),
+        Aware("*a*", "", false),
+        Aware("?*", "", false),
+        Aware("*?", "", false),
+        Aware("a", "", false),
     ];
     assert_each(&rt, rt.alloc(), ROWS)
 }
@@ -90,8 +124,9 @@ impl Row for Plain {
 }
 
 #[test]
-fn shell_globs_take_slashes_too(rt: HostRuntime) -> Result<(), Fail> {
+fn shell_globs_take_slashes_and_brackets_list_bytes(rt: HostRuntime) -> Result<(), Fail> {
     const ROWS: &[Plain] = &[
+        // Shell globs take slashes too.
         Plain("*.c", b"d/x.c", true),
         Plain("*/c", b"a/d/c", true),
         Plain("**/x", b"x", false),
@@ -109,13 +144,7 @@ fn shell_globs_take_slashes_too(rt: HostRuntime) -> Result<(), Fail> {
             b"aaaaaaaaaaaaaaaaaaaaaaaaaaaaaaaaaaaaaaaaaaaaaaaaaaaaaaaaaaaaaaab",
             false,
         ),
-    ];
-    assert_each(&rt, rt.alloc(), ROWS)
-}
-
-#[test]
-fn brackets_list_bytes_ranges_and_classes(rt: HostRuntime) -> Result<(), Fail> {
-    const ROWS: &[Plain] = &[
+        // Brackets list bytes ranges and classes.
         Plain("[]x]", b"]", true),
         Plain("[]x]", b"x", true),
         Plain("[a-]", b"-", true),
@@ -141,6 +170,16 @@ fn brackets_list_bytes_ranges_and_classes(rt: HostRuntime) -> Result<(), Fail> {
         Plain("[[:alpha", b"a", false),
         Plain("[a", b"[a", false),
         Plain("[a", b"a", false),
+        // A question mark takes one byte of any.
+        Plain("a?b", b"a\0b", true),
+        Plain("a?", b"a\xff", true),
+        Plain("a?", b"a\xc3\xa4", false),
+        // Brackets between stars tell case apart.
+        Plain("*[b-d]*", b"xcx", true),
+        Plain("*[b-d]*", b"xCx", false),
+        Plain("*[!b-d]*", b"bcd", false),
+        Plain("*[!b-d]*", b"bCd", true),
+        Plain("*B*", b"abc", false),
     ];
     assert_each(&rt, rt.alloc(), ROWS)
 }
@@ -158,6 +197,7 @@ impl Row for Folded {
 #[test]
 fn case_may_be_folded(rt: HostRuntime) -> Result<(), Fail> {
     const ROWS: &[Folded] = &[
+        // Case may be folded.
         Folded("A", "a", true),
         Folded("a", "A", true),
         Folded("[[:upper:]]", "q", true),
@@ -166,16 +206,12 @@ fn case_may_be_folded(rt: HostRuntime) -> Result<(), Fail> {
         Folded("*.C", "x.c", true),
         Folded("*.C", ".c", true),
         Folded("*.C", "c", false),
-    ];
-    assert_each(&rt, rt.alloc(), ROWS)
-}
-
-#[test]
-fn a_question_mark_takes_one_byte_of_any(rt: HostRuntime) -> Result<(), Fail> {
-    const ROWS: &[Plain] = &[
-        Plain("a?b", b"a\0b", true),
-        Plain("a?", b"a\xff", true),
-        Plain("a?", b"a\xc3\xa4", false),
+        // Without case brackets between stars do not.
+        Folded("*[b-d]*", "xCx", true),
+        Folded("*[B-D]*", "xcx", true),
+        Folded("*[!b-d]*", "bCd", false),
+        Folded("*B*", "abc", true),
+        Folded("*b*", "ABC", true),
     ];
     assert_each(&rt, rt.alloc(), ROWS)
 }
@@ -206,6 +242,7 @@ impl Row for Holds {
 #[test]
 fn brackets_hold_what_they_list(rt: HostRuntime) -> Result<(), Fail> {
     const ROWS: &[Holds] = &[
+        // Brackets hold what they list.
         Holds("[]x]", "]x"),
         Holds("[a-]", "-a"),
         Holds("[a-c-e]", "-abce"),
@@ -248,13 +285,7 @@ fn brackets_hold_what_they_list(rt: HostRuntime) -> Result<(), Fail> {
             "[[:print:]]",
             " !\"#$%&'()*+,-./0123456789:;<=>?@ABCDEFGHIJKLMNOPQRSTUVWXYZ[\\]^_`abcdefghijklmnopqrstuvwxyz{|}~",
         ),
-    ];
-    assert_each(&rt, rt.alloc(), ROWS)
-}
-
-#[test]
-fn brackets_that_cannot_be_read_hold_nothing(rt: HostRuntime) -> Result<(), Fail> {
-    const ROWS: &[Holds] = &[
+        // Brackets that cannot be read hold nothing.
         Holds("[", ""),
         Holds("[a", ""),
         Holds("[]", ""),
@@ -401,19 +432,38 @@ fn a_step_is_a_token_tested_on_a_byte(rt: HostRuntime) -> Result<(), Fail> {
 /// A pattern, a text, and the steps of this match and of all so far.
 type Count = (&'static str, &'static str, u128, u128);
 
-/// The steps of a new scratch, and of its matches.
-fn are_counted(alloc: Global, counts: &[Count]) -> Result<bool, AllocError> {
-    let mut scratch = Scratch::for_tokens(alloc, 3)?;
-    let mut is_same = scratch.last_steps() == 0 && scratch.total_steps() == 0;
-    for (pattern, text, last, total) in counts {
-        let glob = Glob::compile(alloc, pattern.as_bytes(), Shell)?;
-        if !glob.fits(&scratch) {
+/// Whether a glob fits the scratch, and a match of this text leaves these counts.
+fn goes_on(glob: &Glob, scratch: &mut Scratch, (_, text, last, total): Count) -> bool {
+    if !glob.fits(scratch) {
+        return false;
+    }
+    glob.matches(text.as_bytes(), Sensitive, scratch);
+    scratch.last_steps() == last && scratch.total_steps() == total
+}
+
+/// The same of the glob of the row.
+fn counts(alloc: Global, scratch: &mut Scratch, row: Count) -> Result<bool, AllocError> {
+    let glob = Glob::compile(alloc, row.0.as_bytes(), Shell)?;
+    Ok(goes_on(&glob, scratch, row))
+}
+
+/// Whether a new scratch has no steps, and its matches leave these counts, one after the other.
+fn are_counted(alloc: Global, scratch: &mut Scratch, rows: &[Count]) -> Result<bool, AllocError> {
+    if scratch.last_steps() != 0 || scratch.total_steps() != 0 {
+        return Ok(false);
+    }
+    for row in rows {
+        if !counts(alloc, scratch, *row)? {
             return Ok(false);
         }
-        glob.matches(text.as_bytes(), Sensitive, &mut scratch);
-        is_same = is_same && scratch.last_steps() == *last && scratch.total_steps() == *total;
     }
-    Ok(is_same)
+    Ok(true)
+}
+
+/// The same of a scratch for three tokens.
+fn all_are_counted(alloc: Global, rows: &[Count]) -> Result<bool, AllocError> {
+    let mut scratch = Scratch::for_tokens(alloc, 3)?;
+    are_counted(alloc, &mut scratch, rows)
 }
 
 #[test]
@@ -425,7 +475,7 @@ fn all_steps_of_a_scratch_are_counted(rt: HostRuntime) -> Result<(), AllocError>
         ("", "a", 0, 5),
         ("a*b", "aab", 3, 8),
     ];
-    assert!(rt; are_counted(rt.alloc(), COUNTS)?);
+    assert!(rt; all_are_counted(rt.alloc(), COUNTS)?);
     Ok(())
 }
 
@@ -454,11 +504,20 @@ fn tokens_are_counted(rt: HostRuntime) -> Result<(), Fail> {
 #[derive(Clone, Copy)]
 struct Fits(usize, bool);
 
+/// Whether a glob of three tokens fits the scratch.
+fn has_room(alloc: Global, scratch: &Scratch) -> Result<bool, AllocError> {
+    Ok(Glob::compile(alloc, b"a?c", Shell)?.fits(scratch))
+}
+
+/// Whether a glob of three tokens fits a scratch for so many.
+fn are_fitted(alloc: Global, tokens: usize) -> Result<bool, AllocError> {
+    let scratch = Scratch::for_tokens(alloc, tokens)?;
+    has_room(alloc, &scratch)
+}
+
 impl Row for Fits {
     fn holds(&self, alloc: Global) -> Result<bool, Fail> {
-        let glob = Glob::compile(alloc, b"a?c", Shell)?;
-        let scratch = Scratch::for_tokens(alloc, self.0)?;
-        Ok(glob.fits(&scratch) == self.1)
+        Ok(are_fitted(alloc, self.0)? == self.1)
     }
 }
 
@@ -519,65 +578,6 @@ fn long_globs_between_stars_take_each_byte(rt: HostRuntime) -> Result<(), Fail> 
         Between(127),
         Between(128),
         Between(129),
-    ];
-    assert_each(&rt, rt.alloc(), ROWS)
-}
-
-#[test]
-fn deep_stands_for_nothing_only_where_it_is_come_to(rt: HostRuntime) -> Result<(), Fail> {
-    const ROWS: &[Aware] = &[
-        Aware("**/**/x", "x", true),
-        Aware("**/**/x", "a/x", true),
-        Aware("**/**/x", "a/b/c/x", true),
-        Aware("**/**/x", "ax", false),
-        Aware("**/**/x", "a/bx", false),
-        Aware("**/x*", "ax", false),
-        Aware("**/x*", "a/xb", true),
-        Aware("a/**/b", "a/xb", false),
-        Aware("a/**/b*c", "a/bc", true),
-        Aware("a/**/b*c", "a/xbc", false),
-        Aware("*a*", "b/a", false),
-        Aware("**/*a*/**", "b/cad/e", true),
-        Aware("**/*a*/**", "b/c/e", false),
-    ];
-    assert_each(&rt, rt.alloc(), ROWS)
-}
-
-#[test]
-fn brackets_between_stars_tell_case_apart(rt: HostRuntime) -> Result<(), Fail> {
-    const ROWS: &[Plain] = &[
-        Plain("*[b-d]*", b"xcx", true),
-        Plain("*[b-d]*", b"xCx", false),
-        Plain("*[!b-d]*", b"bcd", false),
-        Plain("*[!b-d]*", b"bCd", true),
-        Plain("*B*", b"abc", false),
-    ];
-    assert_each(&rt, rt.alloc(), ROWS)
-}
-
-#[test]
-fn without_case_brackets_between_stars_do_not(rt: HostRuntime) -> Result<(), Fail> {
-    const ROWS: &[Folded] = &[
-        Folded("*[b-d]*", "xCx", true),
-        Folded("*[B-D]*", "xcx", true),
-        Folded("*[!b-d]*", "bCd", false),
-        Folded("*B*", "abc", true),
-        Folded("*b*", "ABC", true),
-    ];
-    assert_each(&rt, rt.alloc(), ROWS)
-}
-
-#[test]
-fn an_empty_text_is_taken_by_stars_alone(rt: HostRuntime) -> Result<(), Fail> {
-    const ROWS: &[Aware] = &[
-        Aware("", "", true),
-        Aware("**", "", true),
-        Aware("**/**", "", true),
-        Aware("**/", "", true),
-        Aware("*a*", "", false),
-        Aware("?*", "", false),
-        Aware("*?", "", false),
-        Aware("a", "", false),
     ];
     assert_each(&rt, rt.alloc(), ROWS)
 }

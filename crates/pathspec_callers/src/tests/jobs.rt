@@ -25,8 +25,9 @@ const GLOB_AND_NO_GLOB: Variables = &[("glob", "1"), ("noglob", "1")];
 const BAD_CASE: Variables = &[("icase", "maybe")];
 
 #[test]
-fn each_fault_has_its_status_and_line(rt: HostRuntime) -> Result<(), Fail> {
+fn the_first_fault_is_told(rt: HostRuntime) -> Result<(), Fail> {
     const ROWS: &[Refused] = &[
+        // Each fault has its status and line.
         Refused("-", UNSET, 2, USAGE),
         Refused("-zz a", UNSET, 2, USAGE),
         Refused("--prefix=a b", UNSET, 2, USAGE),
@@ -48,13 +49,7 @@ fn each_fault_has_its_status_and_line(rt: HostRuntime) -> Result<(), Fail> {
         Refused("a ../x", UNSET, 3, "spec 1: LeavesRepository"),
         Refused("/a", UNSET, 3, "spec 0: OutsideRoot"),
         Refused("--root /rr a /r/a", UNSET, 3, "spec 1: OutsideRoot"),
-    ];
-    assert_each(&rt, rt.alloc(), ROWS)
-}
-
-#[test]
-fn the_first_fault_is_told(rt: HostRuntime) -> Result<(), Fail> {
-    const ROWS: &[Refused] = &[
+        // The first fault is told.
         Refused("--attr x a=. -y", UNSET, 2, USAGE),
         Refused("-y", BAD_CASE, 2, USAGE),
         Refused("--attr x a=. :#x", BAD_CASE, 2, USAGE),

@@ -15,14 +15,24 @@ struct Entries(&'static str, u8, &'static [Entry]);
 impl Row for Entries {
     fn holds(&self, alloc: Global) -> Result<bool, Fail> {
         let listing = read(alloc, self.0.as_bytes(), self.1)?;
-        let mut cursor = Cursor::new(alloc, listing.tree())?;
-        for entry in self.2 {
-            if !is_next(&listing, &mut cursor, entry) {
-                return Ok(false);
-            }
-        }
-        Ok(cursor.next().is_none() && listing.record(self.2.len()).is_none())
+        has_entries(alloc, &listing, self.2)
     }
+}
+
+/// Whether a listing has these entries.
+fn has_entries(alloc: Global, listing: &Listing<'_>, entries: &[Entry]) -> Result<bool, Fail> {
+    let mut cursor = Cursor::new(alloc, listing.tree())?;
+    Ok(comes_to(listing, &mut cursor, entries) && listing.record(entries.len()).is_none())
+}
+
+/// Whether a cursor comes to these entries and to no other, where every directory is entered.
+fn comes_to(listing: &Listing<'_>, cursor: &mut Cursor<'_>, entries: &[Entry]) -> bool {
+    for entry in entries {
+        if !is_next(listing, cursor, entry) {
+            return false;
+        }
+    }
+    cursor.next().is_none()
 }
 
 /// Whether this is the next entry, which is entered.

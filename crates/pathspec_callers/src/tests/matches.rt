@@ -44,6 +44,7 @@ fn is_found(
 #[rattlefmt::skip]
 fn the_first_spec_that_matches_settles_a_path(rt: HostRuntime) -> Result<(), Fail> {
     const ROWS: &[Found] = &[
+        // The first spec that matches settles a path.
         Found(&["src/**", ":!src/generated/**"], "", "src/lib.rs", false, Some((0, MatchKind::WildcardMatch))),
         Found(&["src/**", ":!src/generated/**"], "", "src/generated/lib.rs", false, Some((1, MatchKind::WildcardMatch))),
         Found(&["src/**", ":!src/generated/**"], "", "lib.rs", false, None),
@@ -72,14 +73,7 @@ fn the_first_spec_that_matches_settles_a_path(rt: HostRuntime) -> Result<(), Fai
         Found(&["a", ":!b", "/r/c", ":!d"], "", "b", false, Some((1, MatchKind::Verbatim))),
         Found(&["a", ":!b", "/r/c", ":!d"], "", "c", false, Some((2, MatchKind::Verbatim))),
         Found(&["a", ":!b", "/r/c", ":!d"], "", "d", false, Some((3, MatchKind::Verbatim))),
-    ];
-    assert_each(&rt, rt.alloc(), ROWS)
-}
-
-#[test]
-#[rattlefmt::skip]
-fn the_nil_pattern_settles_what_no_spec_does(rt: HostRuntime) -> Result<(), Fail> {
-    const ROWS: &[Found] = &[
+        // The nil pattern settles what no spec does.
         Found(&[":!a"], "", "b", false, Some((1, MatchKind::Always))),
         Found(&[":!a"], "", "a/x", false, Some((0, MatchKind::Prefix))),
         Found(&[":!a"], "", "", false, Some((0, MatchKind::Always))),
@@ -130,6 +124,7 @@ impl Row for OfFile {
 #[test]
 fn specs_match_paths_in_four_ways(rt: HostRuntime) -> Result<(), Fail> {
     const ROWS: &[Kind] = &[
+        // Specs match paths in four ways.
         Kind("dir", "", "dirt", false, None),
         Kind("dir", "", "dir/a", false, Some(MatchKind::Prefix)),
         Kind("dir", "", "dir", false, Some(MatchKind::Verbatim)),
@@ -147,13 +142,7 @@ fn specs_match_paths_in_four_ways(rt: HostRuntime) -> Result<(), Fail> {
         Kind(":(icase)Ab/C", "", "aB/c", false, Some(MatchKind::Verbatim)),
         Kind(":(icase)Ab/C", "", "AB/c/D", false, Some(MatchKind::Prefix)),
         Kind(":(icase)Ab/C", "", "ab/cc", false, None),
-    ];
-    assert_each(&rt, rt.alloc(), ROWS)
-}
-
-#[test]
-fn case_counts_in_the_prefix_directory(rt: HostRuntime) -> Result<(), Fail> {
-    const ROWS: &[Kind] = &[
+        // Case counts in the prefix directory.
         Kind(":(icase)B", "a", "a/b", false, Some(MatchKind::Verbatim)),
         Kind(":(icase)B", "a", "A/b", false, None),
         Kind(":(icase)B", "a", "a/b/c", false, Some(MatchKind::Prefix)),
@@ -169,9 +158,10 @@ fn case_counts_in_the_prefix_directory(rt: HostRuntime) -> Result<(), Fail> {
 }
 
 #[test]
-fn stars_match_by_the_mode(rt: HostRuntime) -> Result<(), Fail> {
+fn stars_and_brackets_match_by_the_mode(rt: HostRuntime) -> Result<(), Fail> {
     const WILDCARD: Option<MatchKind> = Some(MatchKind::WildcardMatch);
     const ROWS: &[OfFile] = &[
+        // Stars match by the mode.
         OfFile(":(glob)*.c", "x.c", WILDCARD),
         OfFile(":(glob)*.c", "d/x.c", None),
         OfFile("*.c", "d/x.c", WILDCARD),
@@ -191,14 +181,7 @@ fn stars_match_by_the_mode(rt: HostRuntime) -> Result<(), Fail> {
         OfFile("\\*", "\\*", Some(MatchKind::Verbatim)),
         OfFile(":(literal)a*", "a*", Some(MatchKind::Verbatim)),
         OfFile(":(literal)a*", "ab", None),
-    ];
-    assert_each(&rt, rt.alloc(), ROWS)
-}
-
-#[test]
-fn brackets_match_one_byte(rt: HostRuntime) -> Result<(), Fail> {
-    const WILDCARD: Option<MatchKind> = Some(MatchKind::WildcardMatch);
-    const ROWS: &[OfFile] = &[
+        // Brackets match one byte.
         OfFile("a[!b]c", "a/c", WILDCARD),
         OfFile(":(glob)a[!b]c", "a/c", None),
         OfFile(":(glob)a[!b]c", "axc", WILDCARD),

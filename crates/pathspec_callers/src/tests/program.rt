@@ -60,6 +60,7 @@ impl Row for Written {
 #[test]
 fn chosen_records_are_written(rt: HostRuntime) -> Result<(), Fail> {
     const ROWS: &[Written] = &[
+        // Chosen records are written.
         Written("a/b", "a/\na/b\nc/\nc/d\n", "a/b\n"),
         Written(".", "a/\na/b\nc/\nc/d\n", "a/\na/b\nc/\nc/d\n"),
         Written("a :!a/x", "a/x\na/y\nab\n", "a/y\n"),
@@ -81,13 +82,7 @@ fn chosen_records_are_written(rt: HostRuntime) -> Result<(), Fail> {
         Written(":(literal)a*", "a*\nab\n", "a*\n"),
         Written(":(icase)A/B a/.. b", "a/B/c\nab\n", "a/B/c\nab\n"),
         Written("a", "a/x\nb\na/y\n", "a/x\na/y\n"),
-    ];
-    assert_each(&rt, rt.alloc(), ROWS)
-}
-
-#[test]
-fn specs_are_read_in_a_prefix_and_a_root(rt: HostRuntime) -> Result<(), Fail> {
-    const ROWS: &[Written] = &[
+        // Specs are read in a prefix and a root.
         Written("--prefix a", "a/b\nb\n", "a/b\n"),
         Written("--prefix a :/b c", "b\na/b\na/c\n", "b\na/c\n"),
         Written("--prefix a :(icase)B", "a/b\nA/b\n", "a/b\n"),
@@ -97,23 +92,11 @@ fn specs_are_read_in_a_prefix_and_a_root(rt: HostRuntime) -> Result<(), Fail> {
         Written("--prefix a*", "a*/b\nab/b\n", "a*/b\n"),
         Written("--root /r /r/a", "a/x\nb\n", "a/x\n"),
         Written("--root /r --prefix b /r/a", "a/x\nb/a\n", "a/x\n"),
-    ];
-    assert_each(&rt, rt.alloc(), ROWS)
-}
-
-#[test]
-fn records_end_by_nul_where_it_is_asked_for(rt: HostRuntime) -> Result<(), Fail> {
-    const ROWS: &[Written] = &[
+        // Records end by nul where it is asked for.
         Written("-z x", "x\0y\0x/z", "x\0x/z\0"),
         Written("-z :!y", "x\n\0y\0", "x\n\0"),
         Written("-z", "", ""),
-    ];
-    assert_each(&rt, rt.alloc(), ROWS)
-}
-
-#[test]
-fn attributes_are_those_of_the_options(rt: HostRuntime) -> Result<(), Fail> {
-    const ROWS: &[Written] = &[
+        // Attributes are those of the options.
         Written("--attr x gen :(exclude,attr:gen).", "x\ny\n", "y\n"),
         Written("--attr x gen --attr x -gen :(attr:-gen)x", "x\n", "x\n"),
         Written("--attr x gen --attr x -gen :(attr:gen)x", "x\n", ""),

@@ -26,8 +26,10 @@ fn says(pattern: &Pattern, path: &str, bits: u32, mode: SearchMode) -> bool {
 }
 
 #[test]
-fn short_magic_says_a_signature(rt: HostRuntime) -> Result<(), Fail> {
+#[rattlefmt::skip]
+fn magic_says_a_signature_and_a_mode(rt: HostRuntime) -> Result<(), Fail> {
     const ROWS: &[Magic] = &[
+        // Short magic says a signature.
         Magic("::", "", 0, ShellGlob),
         Magic(":!", "", 4, ShellGlob),
         Magic(":^", "", 4, ShellGlob),
@@ -41,14 +43,7 @@ fn short_magic_says_a_signature(rt: HostRuntime) -> Result<(), Fail> {
         Magic("::-x", "-x", 0, ShellGlob),
         Magic(":/:a", "a", 1, ShellGlob),
         Magic(":!a/", "a", 12, ShellGlob),
-    ];
-    assert_each(&rt, rt.alloc(), ROWS)
-}
-
-#[test]
-#[rattlefmt::skip]
-fn long_magic_says_a_signature_and_a_mode(rt: HostRuntime) -> Result<(), Fail> {
-    const ROWS: &[Magic] = &[
+        // Long magic says a signature and a mode.
         Magic(":(top)x", "x", 1, ShellGlob),
         Magic(":(top,)x", "x", 1, ShellGlob),
         Magic(":(,top)x", "x", 1, ShellGlob),

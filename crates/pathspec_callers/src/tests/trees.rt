@@ -58,17 +58,21 @@ impl Row for Walk {
     fn holds(&self, alloc: Global) -> Result<bool, Fail> {
         let tree = tree_of(alloc, self.0)?;
         let mut cursor = Cursor::new(alloc, &tree)?;
-        if !cursor.is_new() || !is_nowhere(&mut cursor) {
-            return Ok(false);
-        }
-        for visit in self.1 {
-            if !is_next(&mut cursor, visit) {
-                return Ok(false);
-            }
-        }
-        let is_end = cursor.next().is_none() && is_nowhere(&mut cursor);
-        Ok(is_end && cursor.next().is_none() && are_same(cursor.entered(), self.2))
+        Ok(comes_to(&mut cursor, self.1) && are_same(cursor.entered(), self.2))
     }
+}
+
+/// Whether a new cursor comes to these entries and to no other.
+fn comes_to(cursor: &mut Cursor<'_>, visits: &[Visit]) -> bool {
+    if !cursor.is_new() || !is_nowhere(cursor) {
+        return false;
+    }
+    for visit in visits {
+        if !is_next(cursor, visit) {
+            return false;
+        }
+    }
+    cursor.next().is_none() && is_nowhere(cursor) && cursor.next().is_none()
 }
 
 /// `a/`, `a/b/`, `a/b/c`, `a/b`, `d`, `a/`, `a/e`, of which the last directory is never closed.

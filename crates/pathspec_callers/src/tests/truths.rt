@@ -15,8 +15,9 @@ impl Row for Truth {
 }
 
 #[test]
-fn words_are_read_in_any_case(rt: HostRuntime) -> Result<(), Fail> {
+fn words_and_numbers_are_true_or_false(rt: HostRuntime) -> Result<(), Fail> {
     const ROWS: &[Truth] = &[
+        // Words are read in any case.
         Truth(b"yes", Some(true)),
         Truth(b"on", Some(true)),
         Truth(b"true", Some(true)),
@@ -27,13 +28,7 @@ fn words_are_read_in_any_case(rt: HostRuntime) -> Result<(), Fail> {
         Truth(b"false", Some(false)),
         Truth(b"oFF", Some(false)),
         Truth(b"", Some(false)),
-    ];
-    assert_each(&rt, rt.alloc(), ROWS)
-}
-
-#[test]
-fn numbers_are_true_but_for_zero(rt: HostRuntime) -> Result<(), Fail> {
-    const ROWS: &[Truth] = &[
+        // Numbers are true but for zero.
         Truth(b"1", Some(true)),
         Truth(b"-1", Some(true)),
         Truth(b"+7", Some(true)),
@@ -45,13 +40,7 @@ fn numbers_are_true_but_for_zero(rt: HostRuntime) -> Result<(), Fail> {
         Truth(b"-0", Some(false)),
         Truth(b"0k", Some(false)),
         Truth(b"+0G", Some(false)),
-    ];
-    assert_each(&rt, rt.alloc(), ROWS)
-}
-
-#[test]
-fn numbers_without_their_unit_fit_64_bits(rt: HostRuntime) -> Result<(), Fail> {
-    const ROWS: &[Truth] = &[
+        // Numbers without their unit fit 64 bits.
         Truth(b"9223372036854775807", Some(true)),
         Truth(b"9223372036854775807g", Some(true)),
         Truth(b"9223372036854775808", None),
@@ -61,13 +50,7 @@ fn numbers_without_their_unit_fit_64_bits(rt: HostRuntime) -> Result<(), Fail> {
         Truth(b"18446744073709551616", None),
         Truth(b"100000000000000000000000000000", None),
         Truth(b"000000000000000000000000000001", Some(true)),
-    ];
-    assert_each(&rt, rt.alloc(), ROWS)
-}
-
-#[test]
-fn other_words_say_nothing(rt: HostRuntime) -> Result<(), Fail> {
-    const ROWS: &[Truth] = &[
+        // Other words say nothing.
         Truth(b"k", None),
         Truth(b"maybe", None),
         Truth(b"y", None),
