@@ -184,23 +184,12 @@ fn has_names(found: &Outcome, want: &[&str]) -> bool {
     found.len() == want.len() && !found.is_empty()
 }
 
-/// Whether the rows set these states at `x`.
-fn are_set(alloc: Global, rows: &mut Rows, want: &[StateRef<'_>]) -> Result<bool, Fail> {
-    let mut found = outcome(alloc)?;
-    Ok(ask(rows, "x", &mut found)? && has_states(&found, want))
-}
-
-/// The rows that assign states at `x`.
-fn rows_at_x(alloc: Global) -> Result<Rows, Fail> {
-    let mut rows = Rows::new(alloc);
-    rows.push(b"x", parse::attributes(alloc, b"a -b c")?)?;
-    Ok(rows)
-}
-
 #[test]
 fn rows_set_what_their_path_assigns(rt: HostRuntime) -> Result<(), Fail> {
-    const WANT: &[StateRef<'static>] = &[StateRef::Set, StateRef::Unset, StateRef::Set];
-    let mut rows = rows_at_x(rt.alloc())?;
-    assert!(rt; are_set(rt.alloc(), &mut rows, WANT)?);
+    let mut rows = Rows::new(rt.alloc());
+    rows.push(b"x", parse::attributes(rt.alloc(), b"a -b c")?)?;
+    let mut found = outcome(rt.alloc())?;
+    let is_found = ask(&mut rows, "x", &mut found)?;
+    assert!(rt; is_found && has_states(&found, &[StateRef::Set, StateRef::Unset, StateRef::Set]));
     Ok(())
 }

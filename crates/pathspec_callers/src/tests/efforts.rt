@@ -65,9 +65,8 @@ const ALWAYS: MatchKind = MatchKind::Always;
 
 #[test]
 #[rattlefmt::skip]
-fn specs_whose_head_begins_the_path_are_asked(rt: HostRuntime) -> Result<(), Fail> {
+fn only_specs_whose_head_begins_the_path_are_asked(rt: HostRuntime) -> Result<(), Fail> {
     const ROWS: &[Asks] = &[
-        // Only specs whose head begins the path are asked.
         Asks(&["a/x", "a/y", "b", ":!a/x/z"], "", "a/x/q", Some((0, PREFIX)), 1, 1),
         Asks(&["a/x", "a/y", "b", ":!a/x/z"], "", "a/x/z", Some((3, VERBATIM)), 1, 1),
         Asks(&["a/x", "a/y", "b", ":!a/x/z"], "", "a/yy", None, 0, 1),
@@ -81,7 +80,7 @@ fn specs_whose_head_begins_the_path_are_asked(rt: HostRuntime) -> Result<(), Fai
         Asks(&["a/b", "a"], "", "a/b/c", Some((0, PREFIX)), 1, 1),
         Asks(&["a", "a/b"], "", "a/b/c", Some((0, PREFIX)), 1, 1),
         Asks(&["b", ":"], "", "c", Some((1, ALWAYS)), 1, 1),
-        // Only excludes ask those that fit.
+        // Of excludes alone those that fit are asked.
         Asks(&[":!a", ":!a/b", ":!b"], "", "a/b", Some((0, PREFIX)), 1, 1),
         Asks(&[":!a", ":!a/b", ":!b"], "", "b", Some((2, VERBATIM)), 1, 1),
         Asks(&[":!a", ":!a/b", ":!b"], "", "c", Some((3, ALWAYS)), 0, 0),
@@ -89,7 +88,7 @@ fn specs_whose_head_begins_the_path_are_asked(rt: HostRuntime) -> Result<(), Fai
         Asks(&[":!*.c", ":!b"], "", "b", Some((1, VERBATIM)), 1, 2),
         Asks(&[":!a"], "d", "a", Some((1, ALWAYS)), 0, 0),
         Asks(&[":!a"], "d", "d/a", Some((0, VERBATIM)), 1, 1),
-        // Without case specs stand at their prefix directory.
+        // Specs without case stand at their prefix directory.
         Asks(&[":(icase)A", ":(icase)B"], "", "b", Some((1, VERBATIM)), 1, 2),
         Asks(&[":(icase)A", ":(icase)B"], "", "c", None, 0, 2),
         Asks(&[":(icase)A", ":(icase)B"], "d", "d/b", Some((1, VERBATIM)), 1, 2),

@@ -49,7 +49,7 @@ fn the_first_fault_is_told(rt: HostRuntime) -> Result<(), Fail> {
         Refused("a ../x", UNSET, 3, "spec 1: LeavesRepository"),
         Refused("/a", UNSET, 3, "spec 0: OutsideRoot"),
         Refused("--root /rr a /r/a", UNSET, 3, "spec 1: OutsideRoot"),
-        // The first fault is told.
+        // Of two faults the first is told.
         Refused("--attr x a=. -y", UNSET, 2, USAGE),
         Refused("-y", BAD_CASE, 2, USAGE),
         Refused("--attr x a=. :#x", BAD_CASE, 2, USAGE),

@@ -44,7 +44,6 @@ fn is_found(
 #[rattlefmt::skip]
 fn the_first_spec_that_matches_settles_a_path(rt: HostRuntime) -> Result<(), Fail> {
     const ROWS: &[Found] = &[
-        // The first spec that matches settles a path.
         Found(&["src/**", ":!src/generated/**"], "", "src/lib.rs", false, Some((0, MatchKind::WildcardMatch))),
         Found(&["src/**", ":!src/generated/**"], "", "src/generated/lib.rs", false, Some((1, MatchKind::WildcardMatch))),
         Found(&["src/**", ":!src/generated/**"], "", "lib.rs", false, None),
@@ -73,7 +72,7 @@ fn the_first_spec_that_matches_settles_a_path(rt: HostRuntime) -> Result<(), Fai
         Found(&["a", ":!b", "/r/c", ":!d"], "", "b", false, Some((1, MatchKind::Verbatim))),
         Found(&["a", ":!b", "/r/c", ":!d"], "", "c", false, Some((2, MatchKind::Verbatim))),
         Found(&["a", ":!b", "/r/c", ":!d"], "", "d", false, Some((3, MatchKind::Verbatim))),
-        // The nil pattern settles what no spec does.
+        // The nil pattern settles the empty path, and under excludes alone what no spec does.
         Found(&[":!a"], "", "b", false, Some((1, MatchKind::Always))),
         Found(&[":!a"], "", "a/x", false, Some((0, MatchKind::Prefix))),
         Found(&[":!a"], "", "", false, Some((0, MatchKind::Always))),
@@ -124,7 +123,6 @@ impl Row for OfFile {
 #[test]
 fn specs_match_paths_in_four_ways(rt: HostRuntime) -> Result<(), Fail> {
     const ROWS: &[Kind] = &[
-        // Specs match paths in four ways.
         Kind("dir", "", "dirt", false, None),
         Kind("dir", "", "dir/a", false, Some(MatchKind::Prefix)),
         Kind("dir", "", "dir", false, Some(MatchKind::Verbatim)),

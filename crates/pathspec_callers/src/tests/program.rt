@@ -60,7 +60,6 @@ impl Row for Written {
 #[test]
 fn chosen_records_are_written(rt: HostRuntime) -> Result<(), Fail> {
     const ROWS: &[Written] = &[
-        // Chosen records are written.
         Written("a/b", "a/\na/b\nc/\nc/d\n", "a/b\n"),
         Written(".", "a/\na/b\nc/\nc/d\n", "a/\na/b\nc/\nc/d\n"),
         Written("a :!a/x", "a/x\na/y\nab\n", "a/y\n"),
@@ -92,7 +91,7 @@ fn chosen_records_are_written(rt: HostRuntime) -> Result<(), Fail> {
         Written("--prefix a*", "a*/b\nab/b\n", "a*/b\n"),
         Written("--root /r /r/a", "a/x\nb\n", "a/x\n"),
         Written("--root /r --prefix b /r/a", "a/x\nb/a\n", "a/x\n"),
-        // Records end by nul where it is asked for.
+        // Records end with the byte 0 where that is asked for.
         Written("-z x", "x\0y\0x/z", "x\0x/z\0"),
         Written("-z :!y", "x\n\0y\0", "x\n\0"),
         Written("-z", "", ""),
