@@ -12,7 +12,8 @@ use Rattle.pathspec_glob.specs.Bytes.{begins_with, fold_case, is_wildcard}
 use Rattle.pathspec_glob.specs.Tokens.{Token, tokens}
 use Rattle.pathspec_glob.specs.GlobRelation.{matches}
 use Rattle.pathspec_glob.specs.Globs.{folds, MatchBeginsStem}
-use Rattle.pathspec_glob.proofs.TailProofs.{plain_tokens, tokens_from-plain}
+use Rattle.pathspec_glob.specs.GlobParts.{plain_tokens}
+use Rattle.pathspec_glob.proofs.TailProofs.{tokens_from-plain}
 
 -- ---- what stands before the first wildcard
 

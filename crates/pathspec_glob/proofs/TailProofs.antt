@@ -17,6 +17,7 @@ use Rattle.pathspec_glob.specs.Tokens.{Token, piece_of, tokens, tokens_from}
 use Rattle.pathspec_glob.specs.Tokens.Single.{Byte}
 use Rattle.pathspec_glob.specs.Tokens.Token.{One, Star, Deep}
 use Rattle.pathspec_glob.specs.GlobRelation.{matches, some_suffix, is_same_byte}
+use Rattle.pathspec_glob.specs.GlobParts.{plain_tokens}
 use Rattle.pathspec_glob.specs.Globs.{folds, is_tail_pattern}
 
 -- ---- the one end that has the rest's length
@@ -60,10 +61,6 @@ plain_piece mode after_slash b rest h =
     let r = or_parts (b == open_bracket) ((b == backslash) || false) q.1 in
     let t = or_parts (b == backslash) false r.1 in
     rw (t.0, q.0, r.0, p.0) refl
-
--- the tokens of such bytes
-abbrev pub plain_tokens : List ℕ → List Token
-plain_tokens front = map (λ b. One (Byte b)) front
 
 -- whether what follows the bytes stands after a slash, or where they stood
 abbrev pub slash_before_rest : Bool → List ℕ → Bool

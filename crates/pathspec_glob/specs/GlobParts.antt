@@ -1,10 +1,11 @@
 -- The parts of a glob: its head and its tail, whose tokens take one byte each, and what stands between.
-use Rattle.std.specs.Prelude.{◌≡◌, ℕ, suc, ◌-◌, Bool, true, false, not, ◌&&◌, List, [], ◌∷◌, ◌==◌, length, take, drop, if◌then◌else◌}
+use Rattle.std.specs.Prelude.{◌≡◌, ℕ, suc, ◌-◌, Bool, true, false, not, ◌&&◌, List, [], ◌∷◌, ◌==◌, length, map, take, drop, if◌then◌else◌}
 use Rattle.std.specs.List.{list_all, prefix_len}
 use Rattle.pathspec_glob.specs.declared.Mode.{Mode}
 use Rattle.pathspec_glob.specs.declared.Case.{Case}
 use Rattle.pathspec_glob.specs.Bytes.{slash, is_empty}
 use Rattle.pathspec_glob.specs.Tokens.{Token, tokens}
+use Rattle.pathspec_glob.specs.Tokens.Single.{Byte}
 use Rattle.pathspec_glob.specs.Tokens.Token.{One, Star, Deep}
 use Rattle.pathspec_glob.specs.GlobSteps.{TokenList, is_wide, may_pass_over_at, takes_byte}
 
@@ -48,6 +49,10 @@ abbrev pub tests_each : Mode → Case → List Token → List ℕ → ℕ
 tests_each mode case [] text = 0
 tests_each mode case (t ∷ ts) [] = 0
 tests_each mode case (t ∷ ts) (b ∷ bs) = suc (if takes_byte mode case t b then tests_each mode case ts bs else 0)
+
+-- tokens that want these bytes, one each
+abbrev pub plain_tokens : List ℕ → List Token
+plain_tokens bytes = map (λ b. One (Byte b)) bytes
 
 -- they take the front of the text, or its end
 abbrev pub takes_front : TokenList → Case → List ℕ → Bool

@@ -1,63 +1,121 @@
 //! The ends of a glob, its head and its tail: each of their tokens takes one byte.
-ghost use Rattle.std.specs.Prelude.{◌≡◌, ◌≤◌, ◌<◌, ◌+◌, ◌^◌, length, is_some, IfSome};
+ghost use Rattle.std.specs.Prelude.{◌≡◌, ◌≤◌, ◌<◌, ◌+◌, ◌^◌, length, is_some, IfOk, IfSome, IsTrue};
 ghost use Rattle.pathspec_glob.specs.Counts.{KeepsCount};
-ghost use Rattle.pathspec_glob.specs.GlobParts.{before_end, behind_front, takes_end, takes_front};
+ghost use Rattle.pathspec_glob.specs.GlobParts.{before_end, behind_front, takes_each, takes_end, takes_front, tests_each};
 
 use crate::Case;
-use crate::scratch::tokens::{Steps, Tokens};
+use crate::scratch::tokens::{self, Steps, Tokens};
+use std::alloc::{AllocError, Global};
+use std::marker::Model;
 
-/// What stands in a text behind the front that the tokens take, one byte each; None where they don't take it.
-///
-/// It tests each token at most once, and none where the text is shorter than they are many.
-pub fn behind_front<'t>(
-    tokens: &Tokens,
-    text: &'t [u8],
-    case: Case,
-    steps: &mut Steps,
-) -> Option<&'t [u8]>
-    requires { steps.old.last + length text.now < 2 ^ 128 }
-    ensures taken { is_some result ≡ takes_front tokens.now case text.now }
-    ensures behind { IfSome result (λ behind. behind.now ≡ behind_front tokens.now text.now) }
-    ensures most { steps.new.last ≤ steps.old.last + length text.now }
-    ensures least { IfSome result (λ behind.
-        steps.new.last + length behind.now ≡ steps.old.last + length text.now) }
-    ensures counted { KeepsCount steps.old steps.new }
-{
-    if text.len() < tokens.len() {
-        return None;
-    }
-    let (front, behind) = text.split_at(tokens.len());
-    if tokens.test_each(front, case, steps) {
-        Some(behind)
-    } else {
-        None
-    }
+/// The tokens of a head or of a tail.
+#[derive(Debug, Drop)]
+pub struct End {
+    tokens: Tokens,
+    /// The bytes that they want, where each wants a byte of its own.
+    bytes: Option<Vec<u8>>,
 }
 
-/// What stands in a text before the end that the tokens take, one byte each; None where they don't take it.
-///
-/// It tests each token at most once, and none where the text is shorter than they are many.
-pub fn before_end<'t>(
-    tokens: &Tokens,
-    text: &'t [u8],
-    case: Case,
-    steps: &mut Steps,
-) -> Option<&'t [u8]>
-    requires { steps.old.last + length text.now < 2 ^ 128 }
-    ensures taken { is_some result ≡ takes_end tokens.now case text.now }
-    ensures before { IfSome result (λ before. before.now ≡ before_end tokens.now text.now) }
-    ensures most { steps.new.last ≤ steps.old.last + length text.now }
-    ensures least { IfSome result (λ before.
-        steps.new.last + length before.now ≡ steps.old.last + length text.now) }
-    ensures counted { KeepsCount steps.old steps.new }
-{
-    if text.len() < tokens.len() {
-        return None;
+impl Model for End {
+    ghost use Rattle.std.specs.Prelude.{◌≡◌};
+    ghost use Rattle.std.specs.Option.{ForSome};
+    ghost use Rattle.pathspec_glob.specs.GlobParts.{plain_tokens};
+    ghost use Rattle.pathspec_glob.specs.GlobSteps.{TokenList};
+
+    ghost Value = { TokenList };
+
+    ghost view = { λ e. e.tokens };
+
+    ghost invariant = { λ e. ForSome e.bytes
+        (λ bytes. e.tokens.tokens ≡ plain_tokens bytes.items) };
+}
+
+impl End {
+    /// These tokens. The cost is linear in them, and so is the memory.
+    ///
+    /// # Errors
+    /// Memory runs out.
+    pub fn of_tokens(alloc: Global, tokens: Tokens) -> Result<End, AllocError>
+        ensures { IfOk result (λ end. end ≡ tokens) }
+    {
+        let bytes = tokens.bytes(alloc)?;
+        Ok(End { tokens, bytes })
     }
-    let (before, end) = text.split_at(text.len() - tokens.len());
-    if tokens.test_each(end, case, steps) {
-        Some(before)
-    } else {
-        None
+
+    /// How many tokens they are.
+    pub fn len(&self) -> usize
+        ensures { result ≡ length self.now.tokens }
+    {
+        self.tokens.len()
+    }
+
+    /// What stands in a text behind the front that the tokens take, one byte each; None where they don't take it.
+    ///
+    /// It tests each token at most once, and none where the text is shorter than they are many.
+    pub fn behind_front<'t>(
+        &self,
+        text: &'t [u8],
+        case: Case,
+        steps: &mut Steps,
+    ) -> Option<&'t [u8]>
+        requires { steps.old.last + length text.now < 2 ^ 128 }
+        ensures taken { is_some result ≡ takes_front self.now case text.now }
+        ensures behind { IfSome result (λ behind. behind.now ≡ behind_front self.now text.now) }
+        ensures most { steps.new.last ≤ steps.old.last + length text.now }
+        ensures least { IfSome result (λ behind.
+            steps.new.last + length behind.now ≡ steps.old.last + length text.now) }
+        ensures counted { KeepsCount steps.old steps.new }
+    {
+        if text.len() < self.len() {
+            return None;
+        }
+        let (front, behind) = text.split_at(self.len());
+        if self.test_each(front, case, steps) {
+            Some(behind)
+        } else {
+            None
+        }
+    }
+
+    /// What stands in a text before the end that the tokens take, one byte each; None where they don't take it.
+    ///
+    /// It tests each token at most once, and none where the text is shorter than they are many.
+    pub fn before_end<'t>(&self, text: &'t [u8], case: Case, steps: &mut Steps) -> Option<&'t [u8]>
+        requires { steps.old.last + length text.now < 2 ^ 128 }
+        ensures taken { is_some result ≡ takes_end self.now case text.now }
+        ensures before { IfSome result (λ before. before.now ≡ before_end self.now text.now) }
+        ensures most { steps.new.last ≤ steps.old.last + length text.now }
+        ensures least { IfSome result (λ before.
+            steps.new.last + length before.now ≡ steps.old.last + length text.now) }
+        ensures counted { KeepsCount steps.old steps.new }
+    {
+        if text.len() < self.len() {
+            return None;
+        }
+        let (before, end) = text.split_at(text.len() - self.len());
+        if self.test_each(end, case, steps) {
+            Some(before)
+        } else {
+            None
+        }
+    }
+
+    /// Tests the tokens on the bytes of a text one by one, up to a byte that its token doesn't take, each of which is
+    /// counted as one step: whether they take them all.
+    #[inline(always)]
+    fn test_each(&self, text: &[u8], case: Case, steps: &mut Steps) -> bool
+        requires len { length text.now ≡ length self.now.tokens }
+        requires room { steps.old.last + length text.now < 2 ^ 128 }
+        ensures answer { result ≡ takes_each self.now.mode case self.now.tokens text.now }
+        ensures tests { steps.new.last
+            ≡ steps.old.last + tests_each self.now.mode case self.now.tokens text.now }
+        ensures most { steps.new.last ≤ steps.old.last + length text.now }
+        ensures least { IsTrue result → steps.new.last ≡ steps.old.last + length text.now }
+        ensures counted { KeepsCount steps.old steps.new }
+    {
+        match &self.bytes {
+            Some(bytes) => tokens::test_bytes(bytes, text, case, steps),
+            None => self.tokens.test_each(text, case, steps),
+        }
     }
 }

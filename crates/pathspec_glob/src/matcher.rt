@@ -3,10 +3,11 @@ ghost use Rattle.std.specs.Prelude.{◌≡◌, ◌≤◌, ◌↔◌, length, IfO
 ghost use Rattle.pathspec_glob.specs.Globs.{glob_tokens, is_tail_pattern, AnswersGlob, AnswersTail, GlobIsRelation};
 ghost use Rattle.pathspec_glob.specs.Counts.{Counts};
 
+use crate::ends::End;
 use crate::middle::Middle;
 use crate::scratch::Scratch;
 use crate::scratch::tokens::Tokens;
-use crate::{Case, Mode, ends};
+use crate::{Case, Mode};
 use std::alloc::{AllocError, Global};
 use std::marker::Model;
 
@@ -15,11 +16,11 @@ use std::marker::Model;
 pub struct Glob {
     pattern: Vec<u8>,
     /// The tokens before the first that takes any number of bytes.
-    head: Tokens,
+    head: End,
     /// Those up to the last that does, with a slash that this one may stand for nothing with.
     middle: Middle,
     /// Those behind.
-    tail: Tokens,
+    tail: End,
 }
 
 impl Model for Glob {
@@ -49,9 +50,9 @@ impl Glob {
         let tail = middle.split_off(middle_size)?;
         Ok(Glob {
             pattern: Vec::from_slice(alloc, pattern)?,
-            head,
+            head: End::of_tokens(alloc, head)?,
             middle: Middle::of_tokens(alloc, middle)?,
-            tail,
+            tail: End::of_tokens(alloc, tail)?,
         })
     }
 
@@ -92,10 +93,10 @@ impl Glob {
         let places = &mut scratch.places;
         let steps = &mut scratch.steps;
         steps.begin();
-        let Some(behind) = ends::behind_front(&self.head, text, case, steps) else {
+        let Some(behind) = self.head.behind_front(text, case, steps) else {
             return false;
         };
-        let Some(between) = ends::before_end(&self.tail, behind, case, steps) else {
+        let Some(between) = self.tail.before_end(behind, case, steps) else {
             return false;
         };
         self.middle.matches(between, case, places, steps)

@@ -79,8 +79,10 @@ impl Places {
         }
     }
 
+    // Out of line, since it is rare where many places are held, and the loop over them is shorter without it.
     /// The first place from this one on that may be held, of those in so many tokens and the end: one that is, or at which a
     /// word begins.
+    #[inline(never)]
     fn next_held(&self, place: usize, tokens: usize) -> usize
         requires place { place ≤ tokens }
         requires room { HasRoom tokens self.now }

@@ -1,11 +1,13 @@
 //! The tokens of globs, and the one question that a text is asked with them.
-ghost use Rattle.std.specs.Prelude.{◌≡◌, ◌+◌, ◌<◌, ◌≤◌, ◌^◌, length, take, drop, map, get_or, nat_lt, not, IfOk, OnOk, IsTrue, ◌==◌};
+ghost use Rattle.std.specs.Prelude.{◌≡◌, ◌+◌, ◌<◌, ◌≤◌, ◌^◌, length, take, drop, map, nat_lt, not, IfOk, IfSome, OnOk, IsTrue, ◌==◌};
 ghost use Rattle.std.specs.List.{prefix_len};
 ghost use Rattle.pathspec_glob.specs.Bytes.{slash};
 ghost use Rattle.pathspec_glob.specs.GlobRelation.{is_same_byte, is_barred, takes, passes_over};
 ghost use Rattle.pathspec_glob.specs.GlobForms.{single_view, token_view, tokens_view};
 ghost use Rattle.pathspec_glob.specs.GlobSteps.{is_deep_token, is_wide, is_wide_at, may_pass_over_at, token_list, takes_byte, token_takes};
-ghost use Rattle.pathspec_glob.specs.GlobParts.{head_size, takes_each, tests_each, wide_size, wide_takes};
+ghost use Rattle.pathspec_glob.specs.GlobParts.{plain_tokens, head_size, takes_each, tests_each, wide_size, wide_takes};
+ghost use Rattle.pathspec_glob.specs.Tokens.Single.{Byte};
+ghost use Rattle.pathspec_glob.specs.Tokens.Token.{One};
 ghost use Rattle.pathspec_glob.specs.Counts.{BeginsAnew, HasNoSteps, KeepsCount};
 
 pub mod word;
@@ -184,22 +186,21 @@ impl Tokens {
         self.takes(place, byte, case)
     }
 
-    /// Tests the first token on the first byte of a text, which is counted as one step: whether the token takes it.
-    fn test_first(&self, text: &[u8], case: Case, steps: &mut Steps) -> bool
-        requires some { 0 < length text.now }
-        requires len { length text.now ≡ length self.now.tokens }
-        requires room { steps.old.last + 1 < 2 ^ 128 }
-        ensures answer { result ≡ token_takes self.now case 0 (get_or text.now 0 0) }
-        ensures steps { steps.new.last ≡ steps.old.last + 1 }
-        ensures counted { KeepsCount steps.old steps.new }
+    /// The bytes that they want, where each is a byte of the pattern; None where one isn't.
+    ///
+    /// # Errors
+    /// Memory runs out.
+    pub fn bytes(&self, alloc: Global) -> Result<Option<Vec<u8>>, AllocError>
+        ensures { IfOk result (λ found.
+            IfSome found (λ bytes. self.now.tokens ≡ plain_tokens bytes.items)) }
     {
-        steps.raise_by(1);
-        self.takes(0, text[0], case)
+        bytes_of(alloc, &self.all)
     }
 
+    // Out of line, since heads and tails are mostly bytes alone.
     /// Tests the tokens on the bytes of a text one by one, up to a byte that its token doesn't take, each of which is
     /// counted as one step: whether they take them all.
-    #[inline(always)]
+    #[inline(never)]
     pub fn test_each(&self, text: &[u8], case: Case, steps: &mut Steps) -> bool
         requires len { length text.now ≡ length self.now.tokens }
         requires room { steps.old.last + length text.now < 2 ^ 128 }
@@ -210,32 +211,13 @@ impl Tokens {
         ensures least { IsTrue result → steps.new.last ≡ steps.old.last + length text.now }
         ensures counted { KeepsCount steps.old steps.new }
     {
-        text.is_empty()
-            || (self.test_first(text, case, steps) && self.test_others(text, case, steps))
-    }
-
-    // Out of line, since most texts fail at the first token of a head.
-    /// The same of the tokens behind the first, on the bytes behind the first.
-    #[inline(never)]
-    fn test_others(&self, text: &[u8], case: Case, steps: &mut Steps) -> bool
-        requires some { 0 < length text.now }
-        requires len { length text.now ≡ length self.now.tokens }
-        requires room { steps.old.last + length text.now ≤ 2 ^ 128 }
-        ensures answer { result
-            ≡ takes_each self.now.mode case (drop 1 self.now.tokens) (drop 1 text.now) }
-        ensures tests { steps.new.last ≡ steps.old.last
-            + tests_each self.now.mode case (drop 1 self.now.tokens) (drop 1 text.now) }
-        ensures most { steps.new.last < steps.old.last + length text.now }
-        ensures least { IsTrue result → steps.new.last + 1 ≡ steps.old.last + length text.now }
-        ensures counted { KeepsCount steps.old steps.new }
-    {
-        for place in 1..text.len() {
+        for place in 0..text.len() {
             if !self.takes(place, text[place], case) {
-                steps.raise_by(place as u128);
+                steps.raise_by((place + 1) as u128);
                 return false;
             }
         }
-        steps.raise_by((text.len() - 1) as u128);
+        steps.raise_by(text.len() as u128);
         true
     }
 
@@ -262,6 +244,44 @@ impl Tokens {
             true
         }
     }
+}
+
+/// Tests tokens that want these bytes as [`Tokens::test_each`] does.
+#[inline(always)]
+pub fn test_bytes(bytes: &[u8], text: &[u8], case: Case, steps: &mut Steps) -> bool
+    requires len { length text.now ≡ length bytes.now }
+    requires room { steps.old.last + length text.now < 2 ^ 128 }
+    ensures answer { (mode : Mode)
+        → result ≡ takes_each mode case (plain_tokens bytes.now) text.now }
+    ensures tests { (mode : Mode) → steps.new.last
+        ≡ steps.old.last + tests_each mode case (plain_tokens bytes.now) text.now }
+    ensures most { steps.new.last ≤ steps.old.last + length text.now }
+    ensures least { IsTrue result → steps.new.last ≡ steps.old.last + length text.now }
+    ensures counted { KeepsCount steps.old steps.new }
+{
+    for place in 0..text.len() {
+        if !is_same_byte(case, bytes[place], text[place]) {
+            steps.raise_by((place + 1) as u128);
+            return false;
+        }
+    }
+    steps.raise_by(text.len() as u128);
+    true
+}
+
+/// The bytes that the tokens want, where each is a byte of the pattern.
+fn bytes_of(alloc: Global, tokens: &[Token]) -> Result<Option<Vec<u8>>, AllocError>
+    ensures { IfOk result (λ found.
+        IfSome found (λ bytes. tokens_view tokens.now ≡ plain_tokens bytes.items)) }
+{
+    let mut bytes = Vec::new(alloc);
+    for token in tokens {
+        let Some(byte) = token.byte() else {
+            return Ok(None);
+        };
+        bytes.push(byte)?;
+    }
+    Ok(Some(bytes))
 }
 
 /// How many tokens stand before the first that takes any number of bytes.
@@ -371,6 +391,16 @@ impl Token {
         ensures { result ≡ is_wide (token_view self.now) }
     {
         !matches!(self, Token::One(_))
+    }
+
+    /// The byte of the pattern that it is.
+    fn byte(&self) -> Option<u8>
+        ensures { IfSome result (λ byte. token_view self.now ≡ One (Byte byte)) }
+    {
+        match self {
+            Token::One(Single::Byte(byte)) => Some(*byte),
+            _ => None,
+        }
     }
 
     /// Whether it takes a byte, alone or with others.

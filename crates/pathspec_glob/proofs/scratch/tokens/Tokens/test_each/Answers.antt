@@ -2,8 +2,8 @@ use Rattle.std.proofs.Common.{◌≡◌, ◌+◌, ◌∙◌, sym, ap, arith, dro
 use Rattle.std.proofs.Math.ListN.{drop_of_length-le}
 use Rattle.pathspec_glob.specs.GlobParts.{takes_each, tests_each}
 use Rattle.pathspec_glob.proofs.EndProofs.{takes_each-step, tests_each-step, tests_each-none}
-use Rattle.pathspec_glob.proofs.scratch.tokens.Tokens.test_others.Goals.{After-takes}
-use Rattle.pathspec_glob.proofs.scratch.tokens.Tokens.test_others.Goals as goal
+use Rattle.pathspec_glob.proofs.scratch.tokens.Tokens.test_each.Goals.{After-takes}
+use Rattle.pathspec_glob.proofs.scratch.tokens.Tokens.test_each.Goals as goal
 
 -- the test of a place, and those behind it
 tested : (c : After-takes) → takes_each c.args.self.now.mode c.args.case (drop c.loop-place.place c.args.self.now.tokens) (drop c.loop-place.place c.args.text.now)
