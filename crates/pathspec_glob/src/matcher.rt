@@ -14,6 +14,13 @@ use std::marker::Model;
 /// A compiled glob (git's wildmatch).
 #[derive(Debug, Drop)]
 pub struct Glob {
+    /// In a box, so that a glob is moved and dropped as one.
+    parts: Box<Parts>,
+}
+
+/// A pattern and its tokens in three parts.
+#[derive(Debug, Drop)]
+struct Parts {
     pattern: Vec<u8>,
     /// The tokens before the first that takes any number of bytes.
     head: End,
@@ -24,14 +31,20 @@ pub struct Glob {
 }
 
 impl Model for Glob {
+    ghost use Rattle.std.specs.Box.{box_value};
     ghost use Rattle.pathspec_glob.specs.Globs.{GlobSource};
     ghost use Rattle.pathspec_glob.specs.GlobParts.{IsParted};
 
     ghost Value = { GlobSource };
 
-    ghost view = { λ g. record { mode = g.head.mode; pattern = g.pattern.items } };
+    ghost view = { λ g. record {
+      mode = (box_value g.parts).head.mode;
+      pattern = (box_value g.parts).pattern.items;
+    } };
 
-    ghost invariant = { λ g. IsParted g.head.mode g.pattern.items g.head g.middle g.tail };
+    ghost invariant = { λ g. IsParted (box_value g.parts).head.mode
+        (box_value g.parts).pattern.items (box_value g.parts).head
+        (box_value g.parts).middle (box_value g.parts).tail };
 }
 
 impl Glob {
@@ -48,11 +61,14 @@ impl Glob {
         let mut middle = head.split_off(head_size)?;
         let middle_size = middle.wide_size();
         let tail = middle.split_off(middle_size)?;
-        Ok(Glob {
+        let parts = Parts {
             pattern: Vec::from_slice(alloc, pattern)?,
             head: End::of_tokens(alloc, head)?,
             middle: Middle::of_tokens(alloc, middle)?,
             tail: End::of_tokens(alloc, tail)?,
+        };
+        Ok(Glob {
+            parts: Box::new(alloc, parts)?,
         })
     }
 
@@ -61,7 +77,8 @@ impl Glob {
         ensures tokens { result ≡ length (glob_tokens self.now) }
         ensures few { result ≤ length self.now.pattern }
     {
-        self.head.len() + self.middle.len() + self.tail.len()
+        let parts = &*self.parts;
+        parts.head.len() + parts.middle.len() + parts.tail.len()
     }
 
     /// Whether the scratch was made for at least as many tokens.
@@ -90,15 +107,16 @@ impl Glob {
         ensures counted { Counts scratch.old.total_steps scratch.new.steps scratch.new.total_steps }
         ensures room { scratch.new.tokens ≡ scratch.old.tokens }
     {
+        let parts = &*self.parts;
         let places = &mut scratch.places;
         let steps = &mut scratch.steps;
         steps.begin();
-        let Some(behind) = self.head.behind_front(text, case, steps) else {
+        let Some(behind) = parts.head.behind_front(text, case, steps) else {
             return false;
         };
-        let Some(between) = self.tail.before_end(behind, case, steps) else {
+        let Some(between) = parts.tail.before_end(behind, case, steps) else {
             return false;
         };
-        self.middle.matches(between, case, places, steps)
+        parts.middle.matches(between, case, places, steps)
     }
 }
