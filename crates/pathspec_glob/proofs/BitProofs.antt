@@ -1,14 +1,14 @@
 -- The places that a number holds.
-use Rattle.std.proofs.Common.{◌≡◌, ℕ, zero, suc, ◌+◌, ◌*◌, ◌/◌, ◌%◌, ◌^◌, ◌<◌, true, false, ◌&&◌, ◌||◌, refl, sym, ◌∙◌, ap, arith, ◌==◌, min, max, inl, inr, w64}
+use Rattle.std.proofs.Common.{◌≡◌, ℕ, zero, suc, ◌+◌, ◌-◌, ◌*◌, ◌/◌, ◌%◌, ◌^◌, ◌<◌, true, false, not, ◌&&◌, ◌||◌, refl, sym, ◌∙◌, ap, arith, ◌==◌, min, max, inl, inr, w64}
 use Rattle.std.proofs.Math.Bool.{or-false}
 use Rattle.std.proofs.Math.Nat.{div-div-eq-div-mul}
 use Rattle.std.proofs.lemmas.Nat.{pow-add}
 use Rattle.std.proofs.lemmas.Bool.{cases_eq}
 use Rattle.std.specs.Int.Count.{count_trailing_zeros}
-use Rattle.std.specs.Int.{bit_at}
+use Rattle.std.specs.Int.{bit_at, bit_not}
 use Rattle.std.specs.Int.Bits.{bit_and}
 use Rattle.std.specs.Int.RustNames.{bit_or}
-use Rattle.std.proofs.lemmas.Nat.Bits.{bit_at-trailing_zeros, bit_at_and, bit_at_or, bit_at-lt, bit_at-suc, bit_at_lowest, bit_at-zero, bit_at_cat_low}
+use Rattle.std.proofs.lemmas.Nat.Bits.{bit_at-trailing_zeros, bit_at_and, bit_at_or, bit_at_not, bit_at-lt, bit_at-suc, bit_at_lowest, bit_at-zero, bit_at_cat_low}
 use Rattle.std.proofs.lemmas.Nat.{shl-shr, shr_split}
 use Rattle.pathspec_glob.specs.GlobCells.{has, further, with_first}
 
@@ -33,6 +33,14 @@ has-and a b i = rw (bit_at_and a b i) (and-cases (bit_at a i) (bit_at b i) (bit_
 
 pub has-or : (a b i : ℕ) → has (bit_or a b) i ≡ (has a i || has b i)
 has-or a b i = rw (bit_at_or a b i) (or-cases (bit_at a i) (bit_at b i) (bit_at-lt a i) (bit_at-lt b i))
+
+not-cases : (x : ℕ) → x < 2 → (1 - x == 1) ≡ not (x == 1)
+not-cases zero h = refl
+not-cases (suc zero) h = refl
+not-cases (suc (suc x)) h = absurd (let no : ⊥ = omega arith in no)
+
+pub has-not : (n i : ℕ) → n < 2 ^ 64 → i < 64 → has (bit_not w64 n) i ≡ not (has n i)
+has-not n i fits h = rw (bit_at_not w64 n i fits h) (not-cases (bit_at n i) (bit_at-lt n i))
 
 pub has-zero : (i : ℕ) → has 0 i ≡ false
 has-zero i = rw (bit_at-zero i) refl

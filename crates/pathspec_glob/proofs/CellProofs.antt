@@ -1,19 +1,20 @@
 -- A set of places goes on by a byte.
 use Rattle.std.proofs.Common.{◌≡◌, ℕ, zero, suc, ◌<◌, ◌≤◌, Bool, true, false, ◌&&◌, ◌||◌, refl, sym, ◌∙◌, arith, List, [], ◌∷◌, length}
-use Rattle.std.proofs.Math.Bool.{or-false, and-false, and-true}
+use Rattle.std.proofs.Math.Bool.{or-false, and-false, and-true, not-not}
 use Rattle.std.specs.List.{list_all}
 use Rattle.pathspec_glob.specs.declared.Mode.{Mode}
 use Rattle.pathspec_glob.specs.declared.Case.{Case}
 use Rattle.pathspec_glob.specs.GlobRelation.{takes}
-use Rattle.std.proofs.Common.{◌*◌, ◌^◌, ◌%◌, ◌/◌, ◌==◌, ap, drop, inl, inr}
-use Rattle.std.proofs.lemmas.Bool.{cases_lt}
+use Rattle.std.proofs.Common.{◌*◌, ◌^◌, ◌%◌, ◌/◌, ◌==◌, ap, drop, inl, inr, not, w64, if◌then◌else◌}
+use Rattle.std.proofs.lemmas.Bool.{cases_Bool, cases_lt, eqb-true, eqb-false, ne_eqb}
 use Rattle.std.proofs.Math.ListN.{drop_of_length-le}
 use Rattle.std.proofs.lemmas.Nat.Bits.{bit_at-suc}
-use Rattle.std.specs.Int.{bit_at}
+use Rattle.std.specs.Int.{bit_at, bit_not}
+use Rattle.pathspec_glob.specs.Bytes.{slash}
 use Rattle.std.specs.Int.Bits.{bit_and}
 use Rattle.std.specs.Int.RustNames.{bit_or}
-use Rattle.pathspec_glob.specs.GlobCells.{Loop, Cell, keeps, within, cells_match, set_leads, Rules, has}
-use Rattle.pathspec_glob.proofs.BitProofs.{has-zero, has-and, has-or, has-shl, has-shl_first, alone}
+use Rattle.pathspec_glob.specs.GlobCells.{Loop, Cell, keeps, within, cells_match, set_leads, further, not_free, Rules, StayAtEnds, has}
+use Rattle.pathspec_glob.proofs.BitProofs.{has-zero, has-and, has-not, has-or, has-shl, has-shl_first, alone}
 
 -- what the place behind all cells leads to by a byte
 end-cases : (a f k m : Bool) → ((a || (f && k)) && m) ≡ ((a && m) || (f && (k && m)))
@@ -49,6 +50,42 @@ follows mode case (c ∷ cs) last a d t l p n m g b bs rules held taken passed o
     (rw (taken 0 (omega arith), passed 0 (omega arith), come) (next-cases (n 0) (m 0) (p 0) (d 0) (t 0) (once 0 (omega arith)))) in
     rw (ih, held 0 (omega arith), sym come, rules.0, rules.1, rules.2)
     (byte-cases a (d 0) (takes mode case c.single b) (keeps c.loop b) c.over (within (keeps c.loop) (takes mode case c.single) (cells_match mode case cs last) bs) (cells_match mode case cs last bs) (set_leads mode case cs last (λ i. d (suc i)) (b ∷ bs)))
+
+-- where none is passed over to, since only the first may be and no byte leads to it
+pub follows-plain : (mode : Mode) (case : Case) (cs : List Cell) (last : Loop) (d t l p g : ℕ → Bool) (b : ℕ) (bs : List ℕ)
+    → Rules mode case cs last t l p b
+    → g 0 ≡ (d 0 && l 0)
+    → ((i : ℕ) → i < length cs → g (suc i) ≡ ((d i && t i) || (d (suc i) && l (suc i))))
+    → ((i : ℕ) → i < length cs → p (suc i) ≡ false)
+    → set_leads mode case cs last g bs ≡ set_leads mode case cs last d (b ∷ bs)
+follows-plain mode case cs last d t l p g b bs rules first next none =
+    follows mode case cs last false d t l p (further false (λ i. d i && t i)) (λ i. false) g b bs rules held (λ i h. refl) passed (λ i h. refl) refl
+  where
+    held : (i : ℕ) → i ≤ length cs → g i ≡ ((further false (λ i. d i && t i) i || false) || (d i && l i))
+    held zero h = first
+    held (suc i) h = next i (omega arith) ∙ ap (λ x. x || (d (suc i) && l (suc i))) (sym (or-false (d i && t i)))
+
+    passed : (i : ℕ) → i < length cs → false ≡ (further false (λ i. d i && t i) i && p i)
+    passed zero h = refl
+    passed (suc i) h = rw (none i (omega arith)) (sym (and-false (d i && t i)))
+
+-- the same places lead to the same
+pub leads-same : (mode : Mode) (case : Case) (cs : List Cell) (last : Loop) (f g : ℕ → Bool) (text : List ℕ) → ((i : ℕ) → i ≤ length cs → f i ≡ g i)
+    → set_leads mode case cs last f text ≡ set_leads mode case cs last g text
+leads-same mode case [] last f g text same = rw (same 0 (omega arith)) refl
+leads-same mode case (c ∷ cs) last f g text same =
+    rw (same 0 (omega arith), leads-same mode case cs last (λ i. f (suc i)) (λ i. g (suc i)) text (λ i h. same (suc i) (omega arith))) refl
+
+-- rules say the same of the same places
+pub rules-same : (mode : Mode) (case : Case) (cs : List Cell) (last : Loop) (t u l p : ℕ → Bool) (b : ℕ) → ((i : ℕ) → i < length cs → t i ≡ u i)
+    → Rules mode case cs last t l p b → Rules mode case cs last u l p b
+rules-same mode case [] last t u l p b same rules = rules
+rules-same mode case (c ∷ cs) last t u l p b same rules = (
+  sym (same 0 (omega arith)) ∙ rules.0,
+  rules.1,
+  rules.2,
+  rules-same mode case cs last (λ i. t (suc i)) (λ i. u (suc i)) (λ i. l (suc i)) (λ i. p (suc i)) b (λ i h. same (suc i) (omega arith)) rules.3,
+)
 
 -- ---- words
 
@@ -89,6 +126,77 @@ word-follows mode case cs last places taken kept overs all come over result b bs
     (once all come over cs first passed apart)
     (rw (is_come, has-shl_first (bit_and places taken), first) refl)
 
+-- ---- a word of the places that aren't held, and one of the last
+
+drop-cases : (x y : Bool) → not (x || y) ≡ ((not x && not y) || false)
+drop-cases true y = refl
+drop-cases false true = refl
+drop-cases false false = refl
+
+stay-cases : (e x y : Bool) → not (e && (x || y)) ≡ ((not x && not y) || not e)
+stay-cases true x y = drop-cases x y
+stay-cases false true y = refl
+stay-cases false false true = refl
+stay-cases false false false = refl
+
+-- the first place is held after a byte, since no bit is shifted in
+pub first-held : (end freed last : ℕ) (stay : Bool) → not_free (freed * 2 ^ 1 % 2 ^ 64) (if stay then bit_and end (freed * 2 ^ 1 % 2 ^ 64) else freed * 2 ^ 1 % 2 ^ 64) last 0 ≡ true
+first-held end freed last stay =
+    let none : has (freed * 2 ^ 1 % 2 ^ 64) 0 ≡ false = has-shl_first freed in
+    elim (cases_Bool (0 == last)) [
+      | inl e ↦ elim (cases_Bool stay) [
+        | inl s ↦ rw (e, s, has-and end (freed * 2 ^ 1 % 2 ^ 64) 0, none, and-false (has end 0)) refl
+        | inr s ↦ rw (e, s, none) refl
+      ]
+      | inr e ↦ rw (e, none) refl
+    ]
+
+-- each other place is held after a byte where the one before was and takes it, and the last besides where it was and stays
+pub next-held : (free end row last : ℕ) (stay : Bool) (l : ℕ → Bool) → last < 64
+    → ((i : ℕ) → 0 < i → i < last → l i ≡ false) → stay ≡ l last → (i : ℕ) → i < last
+    → not_free (bit_or free row * 2 ^ 1 % 2 ^ 64) (if stay then bit_and end (bit_or free row * 2 ^ 1 % 2 ^ 64) else bit_or free row * 2 ^ 1 % 2 ^ 64) last (suc i)
+    ≡ ((not_free free end last i && not (has row i)) || (not_free free end last (suc i) && l (suc i)))
+next-held free end row last stay l fits between stays i h =
+    let freed = bit_or free row * 2 ^ 1 % 2 ^ 64 in
+    let here : (i == last) ≡ false = ne_eqb i last (λ e. omega (arith, h, e)) in
+    let moved : has freed (suc i) ≡ (has free i || has row i) = has-shl (bit_or free row) i (omega (arith, h, fits)) ∙ has-or free row i in
+    elim (cases_Bool (suc i == last)) [
+      | inl e ↦
+          let is : stay ≡ l (suc i) = stays ∙ ap l (sym (eqb-true (suc i) last e)) in
+          elim (cases_Bool stay) [
+            | inl s ↦ rw (here, e, sym is, s, has-and end freed (suc i), moved, and-true (not (has end (suc i)))) (stay-cases (has end (suc i)) (has free i) (has row i))
+            | inr s ↦ rw (here, e, sym is, s, moved, and-false (not (has end (suc i)))) (drop-cases (has free i) (has row i))
+          ]
+      | inr e ↦
+          let less : suc i < last = omega (arith, h, eqb-false (suc i) last e) in
+          rw (here, e, moved, between (suc i) (omega arith) less, and-false (not (has free (suc i)))) (drop-cases (has free i) (has row i))
+    ]
+
+-- at the start both words are the complement of the places
+pub begins-held : (places last i : ℕ) → places < 2 ^ 64 → i < 64 → not_free (bit_not w64 places) (bit_not w64 places) last i ≡ has places i
+begins-held places last i fits h =
+    let same : not (has (bit_not w64 places) i) ≡ has places i = ap not (has-not places i fits h) ∙ not-not (has places i) in
+    elim (cases_Bool (i == last)) [ inl e ↦ rw e same | inr e ↦ rw e same ]
+
+-- what stays at a byte, by the places that stay at a slash and at any other
+pub first-stays : (loops deeps overs last b : ℕ) (stays stays_at_slash : Bool) → StayAtEnds loops deeps overs last stays stays_at_slash
+    → has (if b == slash then deeps else loops) 0 ≡ true
+first-stays loops deeps overs last b stays stays_at_slash ends = elim (cases_Bool (b == slash)) [ inl e ↦ rw e ends.first_at_slash | inr e ↦ rw e ends.first ]
+
+pub none-stays : (loops deeps overs last b : ℕ) (stays stays_at_slash : Bool) → StayAtEnds loops deeps overs last stays stays_at_slash
+    → (i : ℕ) → 0 < i → i < last → has (if b == slash then deeps else loops) i ≡ false
+none-stays loops deeps overs last b stays stays_at_slash ends i some below =
+    elim (cases_Bool (b == slash)) [ inl e ↦ rw e (ends.between_at_slash i some below) | inr e ↦ rw e (ends.between i some below) ]
+
+pub last-stays : (loops deeps overs last b : ℕ) (stays stays_at_slash : Bool) → StayAtEnds loops deeps overs last stays stays_at_slash
+    → (if b == slash then stays_at_slash else stays) ≡ has (if b == slash then deeps else loops) last
+last-stays loops deeps overs last b stays stays_at_slash ends =
+    elim (cases_Bool (b == slash)) [ inl e ↦ rw e ends.last_stays_at_slash | inr e ↦ rw e ends.last_stays ]
+
+-- no place behind the first may be passed over
+pub none-passed : (overs i : ℕ) → overs / 2 ≡ 0 → has overs (suc i) ≡ false
+none-passed overs i none = ap (λ x. x == 1) (bit_at-suc overs i ∙ ap (λ n. bit_at n i) none) ∙ has-zero i
+
 -- the end of a text leads on from the last place alone
 pub leads-end : (mode : Mode) (case : Case) (cs : List Cell) (last : Loop) (f : ℕ → Bool) → set_leads mode case cs last f [] ≡ f (length cs)
 leads-end mode case [] last f = and-true (f 0)
@@ -112,15 +220,15 @@ leads-rest mode case cs last places read text halted = elim (cases_lt read (leng
 ]
 
 -- The first place, with the one that it may be passed over to, leads to what the cells match.
-pub set-begins : (mode : Mode) (case : Case) (cs : List Cell) (last : Loop) (taken kept overs over result : ℕ) (b : ℕ) (bs : List ℕ)
-    → length cs < 64 → Rules mode case cs last (has taken) (has kept) (has overs) b → ((i : ℕ) → i < length cs → (has overs i && has overs (suc i)) ≡ false)
+pub set-begins : (mode : Mode) (case : Case) (cs : List Cell) (last : Loop) (t : ℕ → Bool) (kept overs over result : ℕ) (b : ℕ) (bs : List ℕ)
+    → length cs < 64 → Rules mode case cs last t (has kept) (has overs) b → ((i : ℕ) → i < length cs → (has overs i && has overs (suc i)) ≡ false)
     → over ≡ bit_and 1 overs * 2 ^ 1 % 2 ^ 64 → result ≡ bit_or 1 over
     → set_leads mode case cs last (has result) bs ≡ cells_match mode case cs last bs
-set-begins mode case cs last taken kept overs over result b bs few rules apart is_over is_result =
+set-begins mode case cs last t kept overs over result b bs few rules apart is_over is_result =
     let passed : (i : ℕ) → i < length cs → has over (suc i) ≡ (has 1 i && has overs i) =
     λ i h. rw is_over (has-shl (bit_and 1 overs) i (omega arith) ∙ has-and 1 overs i) in
     let first : has over 0 ≡ false = rw is_over (has-shl_first (bit_and 1 overs)) in
-    follows mode case cs last true (λ i. false) (has taken) (has kept) (has overs) (has 1) (has over) (has result) b bs rules
+    follows mode case cs last true (λ i. false) t (has kept) (has overs) (has 1) (has over) (has result) b bs rules
     (λ i h. rw (is_result, has-or 1 over i) (sym (or-false _)))
     (λ i h. alone i)
     passed

@@ -1,6 +1,6 @@
 -- The words of tokens hold what their cells say.
 use Rattle.std.proofs.Common.{◌≡◌, ℕ, zero, suc, ◌+◌, ◌-◌, ◌<◌, ◌≤◌, Bool, true, false, not, ◌&&◌, ◌||◌, refl, sym, ◌∙◌, ap, add-one, arith, List, [], ◌∷◌, length, drop, get_or, inl, inr, ◌==◌, if◌then◌else◌}
-use Rattle.std.proofs.Math.Bool.{or-false}
+use Rattle.std.proofs.Math.Bool.{or-false, not-not}
 use Rattle.std.proofs.lemmas.Bool.{cases_Bool, and_parts, eqb-true}
 use Rattle.pathspec_glob.specs.declared.Mode.{Mode}
 use Rattle.pathspec_glob.specs.declared.Case.{Case}
@@ -176,8 +176,8 @@ masked parts case rows loops deeps overs few alternate table loops_are deeps_are
     let size = length-cells_of parts.mode Nothing ts in
     record {
       few = omega (arith, few, size);
-      rules = λ b fits. rules-of parts.mode case Nothing ts (has (get_or rows b 0)) (has (if b == slash then deeps else loops)) (has overs) b (alternates-loop Nothing ts alternate)
-          (λ i h. table b i fits (omega (arith, few, size, h)))
+      rules = λ b fits. rules-of parts.mode case Nothing ts (λ i. not (has (get_or rows b 0) i)) (has (if b == slash then deeps else loops)) (has overs) b (alternates-loop Nothing ts alternate)
+          (λ i h. ap not (table b i fits (omega (arith, few, size, h))) ∙ not-not (taken_at parts.mode case ts b i))
           (λ i h. let low : i < 64 = omega (arith, few, size, h) in kept-byte ts loops deeps b i (loops_are i low) (deeps_are i low) ∙ sym (with_first-none (kept_at ts b) i))
           (λ i h. overs_are i (omega (arith, few, size, h)) ∙ sym (with_first-none (passed_at parts.mode ts) i));
       apart = λ i h. apart i;

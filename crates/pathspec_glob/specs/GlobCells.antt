@@ -1,5 +1,5 @@
 -- The tokens of a glob as cells, each a token for one byte and what may be taken before it, and sets of places as numbers.
-use Rattle.std.specs.Prelude.{ℕ, zero, suc, Bool, true, false, not, ◌&&◌, ◌||◌, List, [], ◌∷◌, ◌≡◌, ◌==◌, ◌<◌, length, get_or, if◌then◌else◌}
+use Rattle.std.specs.Prelude.{ℕ, zero, suc, Bool, true, false, not, ◌&&◌, ◌||◌, List, [], ◌∷◌, ◌≡◌, ◌==◌, ◌<◌, ◌/◌, length, get_or, if◌then◌else◌}
 use Rattle.std.specs.List.{list_all}
 use Rattle.std.specs.Int.{bit_at}
 use Rattle.pathspec_glob.specs.declared.Mode.{Mode}
@@ -54,11 +54,25 @@ Rules mode case (c ∷ cs) last t l p b =
 abbrev pub has : ℕ → ℕ → Bool
 has n i = bit_at n i == 1
 
--- rows of words for the cells: what takes each byte, what stays, and what may be passed over, which no place directly behind another may
+-- rows of words for the cells: what doesn't take each byte, what stays, and what may be passed over, which no place directly behind another may
 pub record Masked (mode : Mode) (case : Case) (cs : List Cell) (last : Loop) (row : List ℕ) (loops deeps overs : ℕ) : Type 0 where
   pub few : length cs < 64
-  pub rules : (b : ℕ) → b < 256 → Rules mode case cs last (has (get_or row b 0)) (has (if b == slash then deeps else loops)) (has overs) b
+  pub rules : (b : ℕ) → b < 256 → Rules mode case cs last (λ i. not (has (get_or row b 0) i)) (has (if b == slash then deeps else loops)) (has overs) b
   pub apart : (i : ℕ) → i < length cs → (has overs i && has overs (suc i)) ≡ false
+
+-- Only the first place stays at every byte, the last as these say, and none between, and only the first may be passed over.
+pub record StayAtEnds (loops deeps overs last : ℕ) (stays stays_at_slash : Bool) : Type 0 where
+  pub first : has loops 0 ≡ true
+  pub first_at_slash : has deeps 0 ≡ true
+  pub between : (i : ℕ) → 0 < i → i < last → has loops i ≡ false
+  pub between_at_slash : (i : ℕ) → 0 < i → i < last → has deeps i ≡ false
+  pub last_stays : stays ≡ has loops last
+  pub last_stays_at_slash : stays_at_slash ≡ has deeps last
+  pub passed : overs / 2 ≡ 0
+
+-- the places that aren't free, where a word of its own says of the last whether it is
+abbrev pub not_free : ℕ → ℕ → ℕ → ℕ → Bool
+not_free free end last i = not (has (if i == last then end else free) i)
 
 -- ---- tokens as cells
 
@@ -139,6 +153,6 @@ passed_at mode (One single ∷ ts) i = further false (passed_at mode ts) i
 passed_at mode (Star ∷ ts) i = with_first (may_pass_over_at mode (Star ∷ ts)) (passed_at mode ts) i
 passed_at mode (Deep ∷ ts) i = with_first (may_pass_over_at mode (Deep ∷ ts)) (passed_at mode ts) i
 
--- a row for each byte, of the places whose tokens take it
+-- a row for each byte, of the places whose tokens don't take it
 abbrev pub IsTable : TokenList → Case → List ℕ → Type 0
-IsTable parts case rows = (b i : ℕ) → b < 256 → i < 64 → has (get_or rows b 0) i ≡ taken_at parts.mode case parts.tokens b i
+IsTable parts case rows = (b i : ℕ) → b < 256 → i < 64 → has (get_or rows b 0) i ≡ not (taken_at parts.mode case parts.tokens b i)

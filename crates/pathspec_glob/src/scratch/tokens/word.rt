@@ -16,7 +16,7 @@ use std::alloc::{AllocError, Global};
 /// number of bytes lets the place behind it stay.
 #[derive(Debug, Drop)]
 pub struct Word {
-    /// For each byte the places whose tokens take it.
+    /// For each byte the places whose tokens don't take it.
     exact: Vec<u64>,
     /// The same without case.
     folded: Vec<u64>,

@@ -1,21 +1,29 @@
 //! The places of tokens, which are the states of an automaton, and the words that say what leads on from each.
-ghost use Rattle.std.specs.Prelude.{◌≡◌, ℕ, suc, ◌<◌, ◌≤◌, ◌&&◌, true, false, length, vec_len, IfOk, IsTrue};
+ghost use Rattle.std.specs.Prelude.{◌≡◌, ℕ, suc, ◌<◌, ◌≤◌, ◌&&◌, true, false, not, length, vec_len, IfOk, IsTrue};
 ghost use Rattle.pathspec_glob.specs.GlobCells.{alternates_behind, cell_count, further, has, kept_at, passed_at, taken_at, with_first, IsTable};
 
 use super::super::Tokens;
 use crate::Case;
 use std::alloc::{AllocError, Global};
 
-/// A word for each byte: the places whose tokens take it.
+/// A word for each byte: the places whose tokens don't take it.
 pub fn rows(alloc: Global, tokens: &Tokens, case: Case) -> Result<Vec<u64>, AllocError>
     ensures len { IfOk result (λ rows. vec_len rows ≡ 256) }
     ensures table { IfOk result (λ rows. IsTable tokens.now case rows.items) }
 {
     let mut rows = Vec::with_capacity(alloc, 256)?;
     for byte in 0..=255u8 {
-        rows.push(taken(tokens, byte, case))?;
+        rows.push(refused(tokens, byte, case))?;
     }
     Ok(rows)
+}
+
+/// The places whose tokens don't take the byte.
+fn refused(tokens: &Tokens, byte: u8, case: Case) -> u64
+    ensures { (i : ℕ) → i < 64
+        → has result i ≡ not (taken_at tokens.now.mode case tokens.now.tokens byte i) }
+{
+    !taken(tokens, byte, case)
 }
 
 /// The places whose tokens take the byte.

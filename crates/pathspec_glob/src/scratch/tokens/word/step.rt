@@ -1,9 +1,9 @@
 //! The step by one byte.
-ghost use Rattle.std.specs.Prelude.{◌≡◌, ℕ, suc, List, ◌∷◌, ◌<◌, ◌≤◌, ◌/◌, ◌==◌, ◌&&◌, false, length, drop, IsTrue, if◌then◌else◌};
+ghost use Rattle.std.specs.Prelude.{◌≡◌, ℕ, suc, List, ◌∷◌, ◌<◌, ◌≤◌, ◌/◌, ◌==◌, ◌&&◌, true, false, length, drop, IsTrue, if◌then◌else◌};
 ghost use Rattle.pathspec_glob.specs.Bytes.{slash};
 ghost use Rattle.pathspec_glob.specs.declared.Mode.{Mode};
 ghost use Rattle.pathspec_glob.specs.declared.Case.{Case};
-ghost use Rattle.pathspec_glob.specs.GlobCells.{cells_match, has, set_leads, Cell, Loop, Masked, Rules};
+ghost use Rattle.pathspec_glob.specs.GlobCells.{cells_match, has, set_leads, Cell, Loop, Masked, Rules, StayAtEnds};
 
 use super::closure::enter;
 
@@ -35,7 +35,21 @@ pub fn run(rows: &[u64], loops: u64, deeps: u64, overs: u64, last: usize, text: 
     ensures least { IsTrue result.accepted → result.read ≡ length text.now }
 {
     let places = enter(1, overs);
-    let reached = if !is_plain(loops, deeps, overs) {
+    let plain = is_plain(loops, deeps, overs);
+    if plain && none_between(loops | deeps, last) {
+        return Ran {
+            accepted: accepts(
+                places,
+                rows,
+                holds(loops, last),
+                holds(deeps, last),
+                last,
+                text,
+            ),
+            read: text.len(),
+        };
+    }
+    let reached = if !plain {
         reach(places, rows, loops, deeps, overs, true, text)
     } else if loops == deeps {
         reach(places, rows, loops, loops, 0, false, text)
@@ -43,16 +57,101 @@ pub fn run(rows: &[u64], loops: u64, deeps: u64, overs: u64, last: usize, text: 
         reach(places, rows, loops, deeps, 0, false, text)
     };
     Ran {
-        accepted: (reached.places >> last) & 1 == 1,
+        accepted: holds(reached.places, last),
         read: reached.read,
     }
 }
 
+/// Whether a word holds the place.
+fn holds(word: u64, place: usize) -> bool
+    requires { place < 64 }
+    ensures { result ≡ has word place }
+{
+    (word >> place) & 1 == 1
+}
+
 /// Whether the first place stays at every byte, so that some place is always held, and no other may be passed over.
 fn is_plain(loops: u64, deeps: u64, overs: u64) -> bool
-    ensures { IsTrue result → overs / 2 ≡ 0 }
+    ensures passed { IsTrue result → overs / 2 ≡ 0 }
+    ensures first { IsTrue result → has loops 0 ≡ true }
+    ensures first_at_slash { IsTrue result → has deeps 0 ≡ true }
 {
-    overs <= 1 && loops & deeps & 1 == 1
+    overs <= 1 && holds(loops & deeps, 0)
+}
+
+/// Whether a word holds no place between the first and the last.
+fn none_between(word: u64, last: usize) -> bool
+    requires { last < 64 }
+    ensures { IsTrue result → (i : ℕ) → 0 < i → i < last → has word i ≡ false }
+{
+    word & !1 & !(1 << last) == 0
+}
+
+/// Whether a text leads from places to the last, where the first stays at every byte, the last where it is said to, and
+/// none between.
+fn accepts(
+    places: u64,
+    rows: &[u64],
+    stays: bool,
+    stays_at_slash: bool,
+    last: usize,
+    text: &[u8],
+) -> bool
+    requires rows { length rows.now ≡ 256 }
+    requires last { last < 64 }
+    ensures { (mode : Mode) (case : Case) (cells : List Cell) (end : Loop) (loops deeps overs : ℕ)
+        → Masked mode case cells end rows.now loops deeps overs → length cells ≡ last
+        → StayAtEnds loops deeps overs last stays stays_at_slash → has places 0 ≡ true
+        → result ≡ set_leads mode case cells end (has places) text.now }
+{
+    if stays && stays_at_slash {
+        leads_to_last(places, rows, true, true, last, text)
+    } else if stays {
+        leads_to_last(places, rows, true, false, last, text)
+    } else {
+        leads_to_last(places, rows, false, stays_at_slash, last, text)
+    }
+}
+
+// In line, so that each call has a loop of its own. A place is free where its bit is 1, so that the shift leaves the first
+// one held, and the chain of a byte is two instructions.
+/// What `accepts` says, byte by byte.
+#[inline(always)]
+fn leads_to_last(
+    places: u64,
+    rows: &[u64],
+    stays: bool,
+    stays_at_slash: bool,
+    last: usize,
+    text: &[u8],
+) -> bool
+    requires rows { length rows.now ≡ 256 }
+    requires last { last < 64 }
+    ensures { (mode : Mode) (case : Case) (cells : List Cell) (end : Loop) (loops deeps overs : ℕ)
+        → Masked mode case cells end rows.now loops deeps overs → length cells ≡ last
+        → StayAtEnds loops deeps overs last stays stays_at_slash → has places 0 ≡ true
+        → result ≡ set_leads mode case cells end (has places) text.now }
+{
+    let mut free = !places;
+    let mut end = free;
+    for position in 0..text.len() {
+        let byte = text[position];
+        free = (free | rows[byte as usize]) << 1;
+        end = if stay(byte, stays, stays_at_slash) {
+            end & free
+        } else {
+            free
+        };
+    }
+    !holds(end, last)
+}
+
+/// Whether a place stays at a byte.
+#[inline(always)]
+fn stay(byte: u8, stays: bool, stays_at_slash: bool) -> bool
+    ensures { result ≡ (if byte == slash then stays_at_slash else stays) }
+{
+    if byte == b'/' { stays_at_slash } else { stays }
 }
 
 // In line, so that each call has a loop of its own, which tests only what that call leaves open.
@@ -87,7 +186,7 @@ fn reach(
         let byte = text[position];
         places = advance(
             places,
-            rows[byte as usize],
+            !rows[byte as usize],
             stays(byte, loops, deeps),
             overs,
         );

@@ -1,7 +1,10 @@
-use Rattle.std.proofs.Common.{◌≡◌, ◌<◌, [], ◌∷◌, sym, ◌∙◌, ap, arith, get_or, drop, length, ◌+◌}
+use Rattle.std.proofs.Common.{◌≡◌, ℕ, ◌<◌, ◌-◌, ◌==◌, not, if◌then◌else◌, [], ◌∷◌, sym, ◌∙◌, ap, arith, get_or, drop, length, ◌+◌}
 use Rattle.std.proofs.lemmas.List.{drop_more}
 use Rattle.std.proofs.Math.ListN.{drop_of_length-le}
+use Rattle.pathspec_glob.specs.Bytes.{slash}
 use Rattle.pathspec_glob.specs.GlobCells.{has, set_leads}
+use Rattle.pathspec_glob.proofs.BitProofs.{has-not}
+use Rattle.pathspec_glob.proofs.CellProofs.{rules-same}
 use Rattle.pathspec_glob.proofs.scratch.tokens.word.step.reach.Goals as goal
 
 pub loop-position-preserved : goal.loop-position-preserved
@@ -11,7 +14,11 @@ loop-position-preserved c mode case cells end all masked same =
     let byte = get_or text position 0 in
     let next : drop position text ≡ byte ∷ drop (position + 1) text = drop_more text position 0 c.loop-position-test.true in
     let fits : byte < 256 = omega (arith, c.type_inv.text position) in
-    c.advance-places.ensures mode case cells end all byte (drop (position + 1) text) masked.few (rw c.stays.ensures (masked.rules byte fits)) masked.apart same
+    let row = get_or c.args.rows.now byte 0 in
+    let taken : (i : ℕ) → i < length cells → not (has row i) ≡ has (18446744073709551615 - row) i =
+    λ i h. sym (has-not row i (omega (arith, c.type_inv.rows byte)) (omega (arith, h, masked.few))) in
+    let rules = rules-same mode case cells end (λ i. not (has row i)) (has (18446744073709551615 - row)) (has (if byte == slash then c.args.deeps else c.args.loops)) (has all) byte taken (masked.rules byte fits) in
+    c.advance-places.ensures mode case cells end all byte (drop (position + 1) text) masked.few (rw c.stays.ensures rules) masked.apart same
     ∙ ap (set_leads mode case cells end (has c.loop-position.places)) (sym next)
     ∙ c.loop-position.invariant mode case cells end all masked same
 
