@@ -6,7 +6,7 @@ use Rattle.pathspec_glob.specs.Bytes.{slash}
 use Rattle.pathspec_glob.specs.GlobSteps.{TokenList}
 use Rattle.pathspec_glob.specs.GlobCells.{has, kept_at, passed_at, cell_count, alternates_behind, IsTable}
 
--- the word is that of the tokens: what takes each byte, what stays at a byte other than a slash and at a slash, and what may be passed over
+-- the word is that of the tokens: what doesn't take each byte, what stays at a byte other than a slash and at a slash, and what may be passed over
 pub record IsWordOf (parts : TokenList) (word : Word) : Type 0 where
   pub last : word.last ≡ cell_count parts.tokens
   pub some : 0 < cell_count parts.tokens
