@@ -70,6 +70,12 @@ pub record StayAtEnds (loops deeps overs last : ℕ) (stays stays_at_slash : Boo
   pub last_stays_at_slash : stays_at_slash ≡ has deeps last
   pub passed : overs / 2 ≡ 0
 
+-- The answer is whether the places lead to the last by the text, for cells whose words have these rows and of which only the ends stay.
+abbrev pub LeadsToLast : List ℕ → Bool → Bool → ℕ → ℕ → List ℕ → Bool → Type 0
+LeadsToLast rows stays stays_at_slash last places text answer = (mode : Mode) (case : Case) (cells : List Cell) (end : Loop) (loops deeps overs : ℕ)
+    → Masked mode case cells end rows loops deeps overs → length cells ≡ last → StayAtEnds loops deeps overs last stays stays_at_slash
+    → has places 0 ≡ true → answer ≡ set_leads mode case cells end (has places) text
+
 -- the places that aren't free, where a word of its own says of the last whether it is
 abbrev pub not_free : ℕ → ℕ → ℕ → ℕ → Bool
 not_free free end last i = not (has (if i == last then end else free) i)

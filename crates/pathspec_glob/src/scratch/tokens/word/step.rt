@@ -3,7 +3,7 @@ ghost use Rattle.std.specs.Prelude.{◌≡◌, ℕ, suc, List, ◌∷◌, ◌<�
 ghost use Rattle.pathspec_glob.specs.Bytes.{slash};
 ghost use Rattle.pathspec_glob.specs.declared.Mode.{Mode};
 ghost use Rattle.pathspec_glob.specs.declared.Case.{Case};
-ghost use Rattle.pathspec_glob.specs.GlobCells.{cells_match, has, set_leads, Cell, Loop, Masked, Rules, StayAtEnds};
+ghost use Rattle.pathspec_glob.specs.GlobCells.{cells_match, has, set_leads, Cell, LeadsToLast, Loop, Masked, Rules};
 
 use super::closure::enter;
 
@@ -99,10 +99,7 @@ fn accepts(
 ) -> bool
     requires rows { length rows.now ≡ 256 }
     requires last { last < 64 }
-    ensures { (mode : Mode) (case : Case) (cells : List Cell) (end : Loop) (loops deeps overs : ℕ)
-        → Masked mode case cells end rows.now loops deeps overs → length cells ≡ last
-        → StayAtEnds loops deeps overs last stays stays_at_slash → has places 0 ≡ true
-        → result ≡ set_leads mode case cells end (has places) text.now }
+    ensures { LeadsToLast rows.now stays stays_at_slash last places text.now result }
 {
     if stays && stays_at_slash {
         leads_to_last(places, rows, true, true, last, text)
@@ -127,31 +124,20 @@ fn leads_to_last(
 ) -> bool
     requires rows { length rows.now ≡ 256 }
     requires last { last < 64 }
-    ensures { (mode : Mode) (case : Case) (cells : List Cell) (end : Loop) (loops deeps overs : ℕ)
-        → Masked mode case cells end rows.now loops deeps overs → length cells ≡ last
-        → StayAtEnds loops deeps overs last stays stays_at_slash → has places 0 ≡ true
-        → result ≡ set_leads mode case cells end (has places) text.now }
+    ensures { LeadsToLast rows.now stays stays_at_slash last places text.now result }
 {
     let mut free = !places;
     let mut end = free;
     for position in 0..text.len() {
         let byte = text[position];
         free = (free | rows[byte as usize]) << 1;
-        end = if stay(byte, stays, stays_at_slash) {
+        end = if of_byte(byte, stays, stays_at_slash) {
             end & free
         } else {
             free
         };
     }
     !holds(end, last)
-}
-
-/// Whether a place stays at a byte.
-#[inline(always)]
-fn stay(byte: u8, stays: bool, stays_at_slash: bool) -> bool
-    ensures { result ≡ (if byte == slash then stays_at_slash else stays) }
-{
-    if byte == b'/' { stays_at_slash } else { stays }
 }
 
 // In line, so that each call has a loop of its own, which tests only what that call leaves open.
@@ -187,7 +173,7 @@ fn reach(
         places = advance(
             places,
             !rows[byte as usize],
-            stays(byte, loops, deeps),
+            of_byte(byte, loops, deeps),
             overs,
         );
     }
@@ -211,10 +197,10 @@ fn advance(places: u64, taken: u64, stays: u64, overs: u64) -> u64
     enter((places & taken) << 1, overs) | (places & stays)
 }
 
-/// The places that may stay at a byte.
+/// What is said of a byte, where one thing is said of a slash and another of each other byte.
 #[inline(always)]
-fn stays(byte: u8, loops: u64, deeps: u64) -> u64
-    ensures { result ≡ (if byte == slash then deeps else loops) }
+fn of_byte<T: Copy>(byte: u8, other: T, at_slash: T) -> T
+    ensures { result ≡ (if byte == slash then at_slash else other) }
 {
-    if byte == b'/' { deeps } else { loops }
+    if byte == b'/' { at_slash } else { other }
 }

@@ -5,7 +5,7 @@ use Rattle.std.proofs.Math.ListN.{drop_of_length-le}
 use Rattle.pathspec_glob.specs.Bytes.{slash}
 use Rattle.pathspec_glob.specs.GlobCells.{has, not_free, set_leads}
 use Rattle.pathspec_glob.proofs.CellProofs.{begins-held, first-held, first-stays, follows-plain, last-stays, leads-end, leads-same, next-held, none-passed, none-stays}
-use Rattle.pathspec_glob.proofs.scratch.tokens.word.step.leads_to_last.Goals.{then-stay, else-stay}
+use Rattle.pathspec_glob.proofs.scratch.tokens.word.step.leads_to_last.Goals.{then-of_byte, else-of_byte}
 use Rattle.pathspec_glob.proofs.scratch.tokens.word.step.leads_to_last.Goals as goal
 
 pub loop-position-init : goal.loop-position-init
@@ -31,19 +31,19 @@ loop-position-preserved c mode case cells end loops deeps overs masked size ends
     let next : drop position text ≡ byte ∷ drop (position + 1) text = drop_more text position 0 c.loop-position-test.true in
     let fits : byte < 256 = omega (arith, c.type_inv.text position) in
     let before = c.loop-position.invariant mode case cells end loops deeps overs masked size ends held in
-    let stays : c.stay.result ≡ has kept last = c.stay.ensures ∙ last-stays loops deeps overs last byte c.args.stays c.args.stays_at_slash ends in
-    let ended : c.if-stay.end ≡ (if c.stay.result then bit_and c.loop-position.end freed else freed) = elim c.if-stay.branch [
-      | then-stay w ↦ rw w.if-stay.true w.end-is
-      | else-stay w ↦ rw w.if-stay.false w.end-is
+    let stays : c.of_byte.result ≡ has kept last = c.of_byte.ensures ∙ last-stays loops deeps overs last byte c.args.stays c.args.stays_at_slash ends in
+    let ended : c.if-of_byte.end ≡ (if c.of_byte.result then bit_and c.loop-position.end freed else freed) = elim c.if-of_byte.branch [
+      | then-of_byte w ↦ rw w.if-of_byte.true w.end-is
+      | else-of_byte w ↦ rw w.if-of_byte.false w.end-is
     ] in
-    let first = first-held c.loop-position.end (bit_or free row) last c.stay.result in
+    let first = first-held c.loop-position.end (bit_or free row) last c.of_byte.result in
     let between = none-stays loops deeps overs last byte c.args.stays c.args.stays_at_slash ends in
     rw ended record {
       first = first;
       leads = follows-plain mode case cells end (not_free free c.loop-position.end last) (λ i. not (has row i)) (has kept) (has overs)
-          (not_free freed (if c.stay.result then bit_and c.loop-position.end freed else freed) last) byte (drop (position + 1) text) (masked.rules byte fits)
+          (not_free freed (if c.of_byte.result then bit_and c.loop-position.end freed else freed) last) byte (drop (position + 1) text) (masked.rules byte fits)
           (rw (before.first, first-stays loops deeps overs last byte c.args.stays c.args.stays_at_slash ends) first)
-          (λ i h. next-held free c.loop-position.end row last c.stay.result (has kept) c.requires.last between stays i (omega (arith, h, size)))
+          (λ i h. next-held free c.loop-position.end row last c.of_byte.result (has kept) c.requires.last between stays i (omega (arith, h, size)))
           (λ i h. none-passed overs i ends.passed)
           ∙ ap (set_leads mode case cells end (not_free free c.loop-position.end last)) (sym next)
           ∙ before.leads;

@@ -18,7 +18,7 @@ loop-position-preserved c mode case cells end all masked same =
     let taken : (i : ℕ) → i < length cells → not (has row i) ≡ has (18446744073709551615 - row) i =
     λ i h. sym (has-not row i (omega (arith, c.type_inv.rows byte)) (omega (arith, h, masked.few))) in
     let rules = rules-same mode case cells end (λ i. not (has row i)) (has (18446744073709551615 - row)) (has (if byte == slash then c.args.deeps else c.args.loops)) (has all) byte taken (masked.rules byte fits) in
-    c.advance-places.ensures mode case cells end all byte (drop (position + 1) text) masked.few (rw c.stays.ensures rules) masked.apart same
+    c.advance-places.ensures mode case cells end all byte (drop (position + 1) text) masked.few (rw c.of_byte.ensures rules) masked.apart same
     ∙ ap (set_leads mode case cells end (has c.loop-position.places)) (sym next)
     ∙ c.loop-position.invariant mode case cells end all masked same
 
