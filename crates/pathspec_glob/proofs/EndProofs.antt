@@ -1,12 +1,14 @@
 -- A glob matches a text where its head takes the front, its tail the end, and what stands between matches the rest.
 use Rattle.std.proofs.Common.{◌≡◌, ℕ, zero, suc, ◌+◌, ◌-◌, ◌≤◌, ◌<◌, Bool, true, false, ◌&&◌, ◌||◌, not, refl, sym, ◌∙◌, ap, arith, add-one, get_or, List, [], ◌∷◌, ◌++◌, length, take, drop, inl, inr, ◌==◌, if◌then◌else◌}
-use Rattle.std.proofs.lemmas.Bool.{cases_lt, false_from_ne_true, and_parts, not-true}
+use Rattle.std.proofs.lemmas.Bool.{cases_Bool, cases_lt, eqb-true, false_from_ne_true, and_parts, not-true, or_right}
 use Rattle.std.proofs.Math.Bool.{or-false, and-false, and-true}
 use Rattle.std.proofs.Math.Seq.{drop-length}
 use Rattle.std.proofs.lemmas.List.{drop_more, take_all, drop-map, length-map}
 use Rattle.std.specs.List.{list_all}
 use Rattle.pathspec_glob.specs.declared.Mode.{Mode}
+use Rattle.pathspec_glob.specs.declared.Mode.TheVariants.{Shell, PathAware}
 use Rattle.pathspec_glob.specs.declared.Case.{Case}
+use Rattle.pathspec_glob.specs.declared.Case.TheVariants.{Sensitive, Fold}
 use Rattle.pathspec_glob.specs.Bytes.{is_empty, slash}
 use Rattle.pathspec_glob.specs.Tokens.{Token}
 use Rattle.pathspec_glob.specs.Tokens.Single.{Byte}
@@ -15,6 +17,7 @@ use Rattle.pathspec_glob.specs.GlobRelation.{is_same_byte, takes, takes_first, m
 use Rattle.pathspec_glob.specs.GlobSteps.{takes_byte, takes_at, is_wide_at, may_pass_over_at}
 use Rattle.pathspec_glob.specs.GlobParts.{head_of, middle_of, tail_of, plain_tokens, takes_each, tests_each, wide_takes}
 use Rattle.pathspec_glob.proofs.AcceptProofs.{from-place}
+use Rattle.pathspec_glob.proofs.GlobProofs.{passed}
 use Rattle.pathspec_glob.proofs.PartProofs.{is_single, stands, head-singles, tail-singles, tail-stands, parts-all}
 
 -- tokens that want bytes of their own are as many as these
@@ -246,3 +249,45 @@ module _ (mode : Mode) (case : Case) where
   wide-alone (Deep ∷ []) text one h = refl
   wide-alone (Star ∷ t ∷ ts) text one h = absurd (let no : ⊥ = omega arith in no)
   wide-alone (Deep ∷ t ∷ ts) text one h = absurd (let no : ⊥ = omega arith in no)
+
+-- ---- deep, a slash that it may stand for nothing with, and star
+
+same-slash : (case : Case) → is_same_byte case slash slash ≡ true
+same-slash Sensitive = refl
+same-slash Fold = refl
+
+slash-taken : (case : Case) (b : ℕ) → (is_same_byte case slash b || not (b == slash)) ≡ true
+slash-taken case b = elim (cases_Bool (b == slash)) [
+  | inl e ↦ rw (eqb-true b slash e, same-slash case) refl
+  | inr e ↦ or_right (is_same_byte case slash b) (not (b == slash)) (rw e refl)
+]
+
+byte-cases : (t a s n : Bool) → (t || n) ≡ true → (s || a) ≡ true → (((t && a) || s) || (n && a)) ≡ true
+byte-cases t a s n h k = grind (arith, or-false, h, k)
+
+-- star takes what stands behind the last slash of a text, or all of it
+behind-slash : (case : Case) (text : List ℕ)
+    → (some_suffix (λ b. true) (matches PathAware case (One (Byte slash) ∷ Star ∷ [])) text || list_all (λ b. not (b == slash)) text) ≡ true
+unfolding matches
+behind-slash case [] = refl
+behind-slash case (b ∷ bs) =
+    rw (star-alone PathAware case bs)
+    (byte-cases (is_same_byte case slash b) (list_all (λ b. not (b == slash)) bs) (some_suffix (λ b. true) (matches PathAware case (One (Byte slash) ∷ Star ∷ [])) bs) (not (b == slash)) (slash-taken case b) (behind-slash case bs))
+
+-- so the three take any text
+any-taken : (mode : Mode) (case : Case) (t next : Token) (ts : List Token) (text : List ℕ) → may_pass_over_at mode (t ∷ next ∷ ts) ≡ true
+    → matches mode case (t ∷ next ∷ Star ∷ []) text ≡ wide_takes (t ∷ next ∷ ts) text
+unfolding matches
+any-taken mode case (One s) next ts text over = cc
+any-taken mode case Star next ts text over = cc
+any-taken Shell case Deep next ts text over = cc
+any-taken PathAware case Deep next ts text over = rw (passed PathAware next over, star-alone PathAware case text) (behind-slash case text)
+
+-- as deep alone does
+pub deep-slash_star : (mode : Mode) (case : Case) (ts : List Token) (text : List ℕ) → length ts ≡ 3 → drop 2 ts ≡ Star ∷ drop 3 ts → may_pass_over_at mode ts ≡ true
+    → matches mode case ts text ≡ wide_takes ts text
+deep-slash_star mode case [] text three third over = cc
+deep-slash_star mode case (t ∷ []) text three third over = cc
+deep-slash_star mode case (t ∷ u ∷ []) text three third over = absurd (let no : ⊥ = omega arith in no)
+deep-slash_star mode case (t ∷ u ∷ v ∷ []) text three third over = ap (λ ts. matches mode case (t ∷ u ∷ ts) text) third ∙ any-taken mode case t u (v ∷ []) text over
+deep-slash_star mode case (t ∷ u ∷ v ∷ w ∷ ts) text three third over = absurd (let no : ⊥ = omega arith in no)

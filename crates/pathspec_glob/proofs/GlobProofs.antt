@@ -45,7 +45,7 @@ any_skip : (u : List ℕ) → list_all (λ b. true) u ≡ true
 any_skip [] = refl
 any_skip (b ∷ u) = any_skip u
 
-passed : (mode : Mode) (t : Token) → passes_over mode t ≡ true → IsPassedOver mode t
+pub passed : (mode : Mode) (t : Token) → passes_over mode t ≡ true → IsPassedOver mode t
 passed PathAware (One (Byte b)) h = ap (λ x. One (Byte x)) (eqb-true b slash h)
 passed PathAware (One (Quoted b)) h = cc
 passed PathAware (One Any) h = cc

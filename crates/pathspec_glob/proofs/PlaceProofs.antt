@@ -1,16 +1,25 @@
 -- What is read at a place of a list of tokens, and at a position of a text.
-use Rattle.std.proofs.Common.{◌≡◌, ℕ, ◌+◌, ◌<◌, sym, ◌∙◌, ap, subst, arith, ◌-◌, List, ◌∷◌, length, get_or, take, drop, map}
+use Rattle.std.proofs.Common.{◌≡◌, ℕ, ◌+◌, ◌<◌, sym, ◌∙◌, ap, subst, arith, ◌-◌, true, List, [], ◌∷◌, length, get_or, take, drop, map}
 use Rattle.std.proofs.lemmas.List.{drop_more, drop-map, length-map, length-drop, take_all}
 use Rattle.pathspec_glob.specs.declared.scratch.tokens.Token.{Token as Part}
 use Rattle.pathspec_glob.specs.Tokens.{Token}
 use Rattle.pathspec_glob.specs.GlobForms.{token_view, tokens_view}
+use Rattle.pathspec_glob.specs.GlobSteps.{is_wide_at}
+
+-- where the first takes any number of bytes there is one
+pub some-token : (ts : List Token) → is_wide_at ts ≡ true → 0 < length ts
+some-token [] h = cc
+some-token (t ∷ ts) h = omega arith
+
+-- tokens are as many as their parts
+pub length-view : (parts : List Part) (tokens : List Token) → tokens_view parts ≡ tokens → length tokens ≡ length parts
+length-view parts tokens view = ap length (sym view) ∙ length-map parts token_view
 
 -- from a place on stand the token there and those after it
 pub tokens-at : (parts : List Part) (tokens : List Token) (place : ℕ) (part : Part) → tokens_view parts ≡ tokens → place < length tokens → part ≡ get_or parts place part
     → drop place tokens ≡ token_view part ∷ drop (place + 1) tokens
 tokens-at parts tokens place part view within read =
-    let len : length tokens ≡ length parts = ap length (sym view) ∙ length-map parts token_view in
-    let h : place < length parts = subst (λ n. place < n) len within in
+    let h : place < length parts = subst (λ n. place < n) (length-view parts tokens view) within in
     let e : drop place parts ≡ part ∷ drop (place + 1) parts = drop_more parts place part h ∙ ap (λ x. x ∷ drop (place + 1) parts) (sym read) in
     let f : drop place (tokens_view parts) ≡ token_view part ∷ drop (place + 1) (tokens_view parts) = drop-map token_view place parts ∙ ap (map token_view) e ∙ ap (λ ts. token_view part ∷ ts) (sym (drop-map token_view (place + 1) parts)) in
     subst (λ ts. drop place ts ≡ token_view part ∷ drop (place + 1) ts) view f

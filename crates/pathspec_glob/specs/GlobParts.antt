@@ -7,6 +7,7 @@ use Rattle.pathspec_glob.specs.Bytes.{slash, is_empty}
 use Rattle.pathspec_glob.specs.Tokens.{Token, tokens}
 use Rattle.pathspec_glob.specs.Tokens.Single.{Byte}
 use Rattle.pathspec_glob.specs.Tokens.Token.{One, Star, Deep}
+use Rattle.pathspec_glob.specs.GlobRelation.{matches}
 use Rattle.pathspec_glob.specs.GlobSteps.{TokenList, is_wide, may_pass_over_at, takes_byte}
 
 -- how many tokens stand before the first that takes any number of bytes
@@ -74,6 +75,16 @@ wide_takes [] text = false
 wide_takes (One single ∷ ts) text = false
 wide_takes (Star ∷ ts) text = list_all (λ b. not (b == slash)) text
 wide_takes (Deep ∷ ts) text = true
+
+-- how many bytes of the text that token is tested on, up to one that it doesn't take
+abbrev pub wide_tests : List Token → List ℕ → ℕ
+wide_tests (Star ∷ ts) (b ∷ bs) = suc (if b == slash then 0 else wide_tests (Star ∷ ts) bs)
+wide_tests (Deep ∷ ts) (b ∷ bs) = suc (wide_tests (Deep ∷ ts) bs)
+wide_tests ts text = 0
+
+-- the tokens match just the texts of which the first of them takes all
+abbrev pub MatchAsFirst : TokenList → Type 0
+MatchAsFirst parts = (case : Case) (text : List ℕ) → matches parts.mode case parts.tokens text ≡ wide_takes parts.tokens text
 
 -- the tokens of a pattern, in their parts
 pub record IsParted (mode : Mode) (pattern : List ℕ) (head middle tail : TokenList) : Type 0 where

@@ -49,7 +49,8 @@ impl Model for Glob {
 
 impl Glob {
     /// The glob of a pattern. Every byte string is one. The cost is linear in the pattern, and so is the memory; where 1 to
-    /// 63 tokens for one byte stand between head and tail, each of them is tested on every byte, for a table of 4 kB.
+    /// 63 tokens for one byte stand between head and tail, each of them is tested on every byte, for a table of 4 kB, but
+    /// not where `**/*` stands there.
     ///
     /// # Errors
     /// Memory runs out.

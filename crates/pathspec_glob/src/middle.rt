@@ -15,7 +15,7 @@ use std::marker::Model;
 #[derive(Debug, Drop)]
 pub struct Middle {
     tokens: Tokens,
-    /// The same as words, where their places fit one.
+    /// The same as words, where their places fit one and the first token alone doesn't take the same texts.
     word: Option<Word>,
 }
 
@@ -39,7 +39,11 @@ impl Middle {
     pub fn of_tokens(alloc: Global, tokens: Tokens) -> Result<Middle, AllocError>
         ensures { IfOk result (λ middle. middle ≡ tokens) }
     {
-        let word = Word::of_tokens(alloc, &tokens)?;
+        let word = if tokens.match_as_first() {
+            None
+        } else {
+            Word::of_tokens(alloc, &tokens)?
+        };
         Ok(Middle { tokens, word })
     }
 
@@ -50,8 +54,8 @@ impl Middle {
         self.tokens.len()
     }
 
-    /// Whether the tokens match the whole of a text: one token by itself, others by sets of places, in one word where
-    /// they fit it and else in rows. It takes no memory.
+    /// Whether the tokens match the whole of a text: by the first alone where this takes the same texts, and else by sets
+    /// of places, in one word where they fit it and else in rows. It takes no memory.
     pub fn matches(&self, text: &[u8], case: Case, places: &mut Places, steps: &mut Steps) -> bool
         requires room { HasRoom (length self.now.tokens) places.old }
         requires steps { steps.old.last + length self.now.tokens * length text.now < 2 ^ 128 }
@@ -63,7 +67,7 @@ impl Middle {
     {
         match &self.word {
             Some(word) => word.test(text, case, steps),
-            None if self.tokens.is_alone() => self.tokens.test_all(text, steps),
+            None if self.tokens.match_as_first() => self.tokens.test_all(text, steps),
             None => places.run(&self.tokens, text, case, steps),
         }
     }

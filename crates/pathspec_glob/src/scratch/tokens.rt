@@ -5,9 +5,9 @@ ghost use Rattle.pathspec_glob.specs.Bytes.{slash};
 ghost use Rattle.pathspec_glob.specs.GlobRelation.{is_same_byte, is_barred, takes, passes_over};
 ghost use Rattle.pathspec_glob.specs.GlobForms.{single_view, token_view, tokens_view};
 ghost use Rattle.pathspec_glob.specs.GlobSteps.{is_deep_token, is_wide, is_wide_at, may_pass_over_at, token_list, takes_byte, token_takes};
-ghost use Rattle.pathspec_glob.specs.GlobParts.{plain_tokens, head_size, takes_each, tests_each, wide_size, wide_takes};
+ghost use Rattle.pathspec_glob.specs.GlobParts.{plain_tokens, head_size, takes_each, tests_each, wide_size, wide_takes, wide_tests, MatchAsFirst};
 ghost use Rattle.pathspec_glob.specs.Tokens.Single.{Byte};
-ghost use Rattle.pathspec_glob.specs.Tokens.Token.{One};
+ghost use Rattle.pathspec_glob.specs.Tokens.Token.{One, Star};
 ghost use Rattle.pathspec_glob.specs.Counts.{BeginsAnew, HasNoSteps, KeepsCount};
 
 pub mod word;
@@ -114,12 +114,17 @@ impl Tokens {
         may_pass_over(self.mode, &self.all[place..])
     }
 
-    /// Whether they are one token, which takes any number of bytes.
-    pub fn is_alone(&self) -> bool
-        ensures one { IsTrue result → length self.now.tokens ≡ 1 }
+    /// Whether they match just what the first of them takes, which takes any number of bytes: it stands alone, or they are
+    /// `**/*`, where `**` and the slash may stand for nothing.
+    pub fn match_as_first(&self) -> bool
         ensures wide { IsTrue result → IsTrue (is_wide_at self.now.tokens) }
+        ensures same { IsTrue result → MatchAsFirst self.now }
     {
-        self.len() == 1 && self.is_wide(0)
+        match self.all.as_slice() {
+            [first] => first.is_wide(),
+            [_, _, last] => last.is_star() && self.may_pass_over(0),
+            _ => false,
+        }
     }
 
     /// Whether the token at a place takes a byte, alone or with others.
@@ -227,6 +232,7 @@ impl Tokens {
         requires wide { IsTrue (is_wide_at self.now.tokens) }
         requires room { steps.old.last + length text.now < 2 ^ 128 }
         ensures answer { result ≡ wide_takes self.now.tokens text.now }
+        ensures tests { steps.new.last ≡ steps.old.last + wide_tests self.now.tokens text.now }
         ensures most { steps.new.last ≤ steps.old.last + length text.now }
         ensures least { IsTrue result → steps.new.last ≡ steps.old.last + length text.now }
         ensures counted { KeepsCount steps.old steps.new }
@@ -377,6 +383,13 @@ impl Token {
         ensures { result ≡ is_deep_token (token_view self.now) }
     {
         matches!(self, Token::Deep)
+    }
+
+    /// Whether it takes any bytes without `/`.
+    fn is_star(&self) -> bool
+        ensures { IsTrue result → token_view self.now ≡ Star }
+    {
+        matches!(self, Token::Star)
     }
 
     /// Whether deep before it may stand for nothing with it.

@@ -1,8 +1,16 @@
-use Rattle.std.proofs.Common.{sym, ◌∙◌, refl}
-use Rattle.pathspec_glob.proofs.EndProofs.{wide-alone}
+use Rattle.std.proofs.Common.{sym, ◌∙◌, refl, arith, length}
+use Rattle.std.proofs.Math.Nat.{mul-le-mul}
+use Rattle.pathspec_glob.proofs.PlaceProofs.{some-token}
 use Rattle.pathspec_glob.proofs.middle.Middle.matches.Goals as goal
 
 pub returns-in-None-clause-answer : goal.returns-in-None-clause-answer
 returns-in-None-clause-answer c =
-    let tokens = c.self.inside.tokens in
-    rw (sym c.self.view_is) (c.test_all.ensures.answer ∙ sym (wide-alone tokens.mode c.args.case tokens.tokens c.args.text.now (c.if-is_alone.ensures.one refl) (c.if-is_alone.ensures.wide refl)))
+    rw (sym c.self.view_is) (c.test_all.ensures.answer ∙ sym (c.if-match_as_first.ensures.same refl c.args.case c.args.text.now))
+
+pub returns-in-None-clause-most : goal.returns-in-None-clause-most
+returns-in-None-clause-most c =
+    let tokens = c.args.self.now.tokens in
+    let size = length c.args.text.now in
+    let some = some-token c.self.inside.tokens.tokens (c.if-match_as_first.ensures.wide refl) in
+    let once = mul-le-mul {n₁ = 1} {m₁ = size} {n₂ = length tokens} {m₂ = size} (rw (sym c.self.view_is) some) (omega arith) in
+    omega (arith, c.test_all.ensures.most, once)
