@@ -10,10 +10,10 @@ use Rattle.pathspec_glob.specs.GlobCells.{has, kept_at, passed_at, cell_count, a
 pub record IsWordOf (parts : TokenList) (word : Word) : Type 0 where
   pub last : word.last ≡ cell_count parts.tokens
   pub some : 0 < cell_count parts.tokens
-  pub tokens : word.tokens ≡ length parts.tokens
+  pub tokens : word.exact.tokens ≡ length parts.tokens
   pub alternate : alternates_behind false parts.tokens ≡ true
-  pub exact : IsTable parts Sensitive word.exact.items
-  pub folded : IsTable parts Fold word.folded.items
+  pub exact : IsTable parts Sensitive word.exact.rows.items
+  pub folded : IsTable parts Fold word.folded.rows.items
   pub loops : (i : ℕ) → i < 64 → has word.loops i ≡ kept_at parts.tokens 0 i
   pub deeps : (i : ℕ) → i < 64 → has word.deeps i ≡ kept_at parts.tokens slash i
   pub overs : (i : ℕ) → i < 64 → has word.overs i ≡ passed_at parts.mode parts.tokens i

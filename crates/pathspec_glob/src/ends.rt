@@ -1,7 +1,7 @@
 //! The ends of a glob, its head and its tail: each of their tokens takes one byte.
 ghost use Rattle.std.specs.Prelude.{◌≡◌, ◌≤◌, ◌<◌, ◌+◌, ◌^◌, length, is_some, IfOk, IfSome, IsTrue};
 ghost use Rattle.pathspec_glob.specs.Counts.{KeepsCount};
-ghost use Rattle.pathspec_glob.specs.GlobParts.{before_end, behind_front, takes_each, takes_end, takes_front, tests_each};
+ghost use Rattle.pathspec_glob.specs.GlobParts.{before_end, behind_front, end_tests, front_tests, takes_each, takes_end, takes_front, tests_each};
 
 use crate::Case;
 use crate::scratch::tokens::{self, Steps, Tokens};
@@ -61,6 +61,7 @@ impl End {
         requires { steps.old.last + length text.now < 2 ^ 128 }
         ensures taken { is_some result ≡ takes_front self.now case text.now }
         ensures behind { IfSome result (λ behind. behind.now ≡ behind_front self.now text.now) }
+        ensures tests { steps.new.last ≡ steps.old.last + front_tests self.now case text.now }
         ensures most { steps.new.last ≤ steps.old.last + length text.now }
         ensures least { IfSome result (λ behind.
             steps.new.last + length behind.now ≡ steps.old.last + length text.now) }
@@ -84,6 +85,7 @@ impl End {
         requires { steps.old.last + length text.now < 2 ^ 128 }
         ensures taken { is_some result ≡ takes_end self.now case text.now }
         ensures before { IfSome result (λ before. before.now ≡ before_end self.now text.now) }
+        ensures tests { steps.new.last ≡ steps.old.last + end_tests self.now case text.now }
         ensures most { steps.new.last ≤ steps.old.last + length text.now }
         ensures least { IfSome result (λ before.
             steps.new.last + length before.now ≡ steps.old.last + length text.now) }

@@ -7,19 +7,22 @@ ghost use Rattle.pathspec_glob.specs.GlobSteps.{TokenList};
 mod closure;
 mod states;
 mod step;
+mod table;
 
 use super::{Steps, Tokens};
 use crate::Case;
 use std::alloc::{AllocError, Global};
+use step::Ran;
+use table::Table;
 
 /// Tokens as words. A place stands before each token that takes one byte, and one at the end; a token that takes any
 /// number of bytes lets the place behind it stay.
 #[derive(Debug, Drop)]
 pub struct Word {
-    /// For each byte the places whose tokens don't take it.
-    exact: Vec<u64>,
+    /// Which tokens don't take a byte.
+    exact: Table,
     /// The same without case.
-    folded: Vec<u64>,
+    folded: Table,
     /// The places that may stay at a byte, and at a slash.
     loops: u64,
     deeps: u64,
@@ -27,10 +30,7 @@ pub struct Word {
     overs: u64,
     /// The last place.
     last: usize,
-    /// How many tokens they stand for.
-    tokens: usize,
-    ghost exact_all: { vec_len exact ≡ 256 },
-    ghost folded_all: { vec_len folded ≡ 256 },
+    ghost one_size: { folded.tokens ≡ exact.tokens },
     ghost last_within: { last < 64 },
 }
 
@@ -53,32 +53,33 @@ impl Word {
             return Ok(None);
         }
         Ok(Some(Word {
-            exact: states::rows(alloc, tokens, Case::Sensitive)?,
-            folded: states::rows(alloc, tokens, Case::Fold)?,
+            exact: Table::of_tokens(alloc, tokens, Case::Sensitive)?,
+            folded: Table::of_tokens(alloc, tokens, Case::Fold)?,
             loops: states::kept(tokens, 0),
             deeps: states::kept(tokens, b'/'),
             overs,
             last,
-            tokens: tokens.len(),
         }))
     }
 
     /// Whether the tokens match the whole text. A byte asks which of them take it, which is counted as a step for each.
     pub fn test(&self, text: &[u8], case: Case, steps: &mut Steps) -> bool
-        requires { steps.old.last + self.now.tokens * length text.now < 2 ^ 128 }
+        requires { steps.old.last + self.now.exact.tokens * length text.now < 2 ^ 128 }
         ensures answer { (parts : TokenList) → IsWordOf parts self.now
             → result ≡ matches parts.mode case parts.tokens text.now }
-        ensures most { steps.new.last ≤ steps.old.last + self.now.tokens * length text.now }
+        ensures most { steps.new.last ≤ steps.old.last + self.now.exact.tokens * length text.now }
         ensures least { IsTrue result
-            → steps.new.last ≡ steps.old.last + self.now.tokens * length text.now }
+            → steps.new.last ≡ steps.old.last + self.now.exact.tokens * length text.now }
         ensures counted { KeepsCount steps.old steps.new }
     {
-        let rows = match case {
+        let table = match case {
             Case::Sensitive => &self.exact,
             Case::Fold => &self.folded,
         };
-        let ran = step::run(rows, self.loops, self.deeps, self.overs, self.last, text);
-        steps.raise_by(self.tokens as u128 * ran.read as u128);
-        ran.accepted
+        let Ran { accepted, asked } = step::run(
+            table, self.loops, self.deeps, self.overs, self.last, text,
+        );
+        asked.count(steps);
+        accepted
     }
 }

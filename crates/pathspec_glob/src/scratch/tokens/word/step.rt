@@ -6,59 +6,55 @@ ghost use Rattle.pathspec_glob.specs.declared.Case.{Case};
 ghost use Rattle.pathspec_glob.specs.GlobCells.{cells_match, has, set_leads, Cell, LeadsToLast, Loop, Masked, Rules};
 
 use super::closure::enter;
+use super::table::{Asked, Table};
 
 /// How a text was run through.
-#[derive(Clone, Copy)]
 pub struct Ran {
     /// Whether its end leads to the last place.
     pub accepted: bool,
-    /// How many bytes were read.
-    pub read: usize,
+    /// What the table was asked, once for each byte that was read.
+    pub asked: Asked,
 }
 
 /// Where a text, as far as it was read, leads to.
-#[derive(Clone, Copy)]
 struct Reached {
     places: u64,
-    /// How many bytes were read.
-    read: usize,
+    /// What the table was asked, once for each byte that was read.
+    asked: Asked,
 }
 
 /// Runs through a text, up to a byte before which no place is held.
-pub fn run(rows: &[u64], loops: u64, deeps: u64, overs: u64, last: usize, text: &[u8]) -> Ran
-    requires rows { length rows.now ≡ 256 }
-    requires last { last < 64 }
+pub fn run(table: &Table, loops: u64, deeps: u64, overs: u64, last: usize, text: &[u8]) -> Ran
+    requires { last < 64 }
     ensures answer { (mode : Mode) (case : Case) (cells : List Cell) (end : Loop)
-        → Masked mode case cells end rows.now loops deeps overs → length cells ≡ last
+        → Masked mode case cells end table.now.rows.items loops deeps overs → length cells ≡ last
         → result.accepted ≡ cells_match mode case cells end text.now }
-    ensures most { result.read ≤ length text.now }
-    ensures least { IsTrue result.accepted → result.read ≡ length text.now }
+    ensures tokens { result.asked.tokens ≡ table.now.tokens }
+    ensures most { result.asked.bytes ≤ length text.now }
+    ensures least { IsTrue result.accepted → result.asked.bytes ≡ length text.now }
 {
-    let places = enter(1, overs);
+    let from = enter(1, overs);
     let plain = is_plain(loops, deeps, overs);
     if plain && none_between(loops | deeps, last) {
-        return Ran {
-            accepted: accepts(
-                places,
-                rows,
-                holds(loops, last),
-                holds(deeps, last),
-                last,
-                text,
-            ),
-            read: text.len(),
-        };
+        return accepts(
+            from,
+            table,
+            holds(loops, last),
+            holds(deeps, last),
+            last,
+            text,
+        );
     }
-    let reached = if !plain {
-        reach(places, rows, loops, deeps, overs, true, text)
+    let Reached { places, asked } = if !plain {
+        reach(from, table, loops, deeps, overs, true, text)
     } else if loops == deeps {
-        reach(places, rows, loops, loops, 0, false, text)
+        reach(from, table, loops, loops, 0, false, text)
     } else {
-        reach(places, rows, loops, deeps, 0, false, text)
+        reach(from, table, loops, deeps, 0, false, text)
     };
     Ran {
-        accepted: holds(reached.places, last),
-        read: reached.read,
+        accepted: holds(places, last),
+        asked,
     }
 }
 
@@ -91,22 +87,24 @@ fn none_between(word: u64, last: usize) -> bool
 /// none between.
 fn accepts(
     places: u64,
-    rows: &[u64],
+    table: &Table,
     stays: bool,
     stays_at_slash: bool,
     last: usize,
     text: &[u8],
-) -> bool
-    requires rows { length rows.now ≡ 256 }
-    requires last { last < 64 }
-    ensures { LeadsToLast rows.now stays stays_at_slash last places text.now result }
+) -> Ran
+    requires { last < 64 }
+    ensures leads { LeadsToLast table.now.rows.items stays stays_at_slash last places text.now
+        result.accepted }
+    ensures tokens { result.asked.tokens ≡ table.now.tokens }
+    ensures bytes { result.asked.bytes ≡ length text.now }
 {
     if stays && stays_at_slash {
-        leads_to_last(places, rows, true, true, last, text)
+        leads_to_last(places, table, true, true, last, text)
     } else if stays {
-        leads_to_last(places, rows, true, false, last, text)
+        leads_to_last(places, table, true, false, last, text)
     } else {
-        leads_to_last(places, rows, false, stays_at_slash, last, text)
+        leads_to_last(places, table, false, stays_at_slash, last, text)
     }
 }
 
@@ -116,28 +114,34 @@ fn accepts(
 #[inline(always)]
 fn leads_to_last(
     places: u64,
-    rows: &[u64],
+    table: &Table,
     stays: bool,
     stays_at_slash: bool,
     last: usize,
     text: &[u8],
-) -> bool
-    requires rows { length rows.now ≡ 256 }
-    requires last { last < 64 }
-    ensures { LeadsToLast rows.now stays stays_at_slash last places text.now result }
+) -> Ran
+    requires { last < 64 }
+    ensures leads { LeadsToLast table.now.rows.items stays stays_at_slash last places text.now
+        result.accepted }
+    ensures tokens { result.asked.tokens ≡ table.now.tokens }
+    ensures bytes { result.asked.bytes ≡ length text.now }
 {
+    let mut asked = table.unasked();
     let mut free = !places;
     let mut end = free;
     for position in 0..text.len() {
         let byte = text[position];
-        free = (free | rows[byte as usize]) << 1;
+        free = (free | table.refused(byte, &mut asked)) << 1;
         end = if of_byte(byte, stays, stays_at_slash) {
             end & free
         } else {
             free
         };
     }
-    !holds(end, last)
+    Ran {
+        accepted: !holds(end, last),
+        asked,
+    }
 }
 
 // In line, so that each call has a loop of its own, which tests only what that call leaves open.
@@ -146,41 +150,36 @@ fn leads_to_last(
 #[inline(always)]
 fn reach(
     from: u64,
-    rows: &[u64],
+    table: &Table,
     loops: u64,
     deeps: u64,
     overs: u64,
     halts: bool,
     text: &[u8],
 ) -> Reached
-    requires rows { length rows.now ≡ 256 }
     ensures leads { (mode : Mode) (case : Case) (cells : List Cell) (end : Loop) (all : ℕ)
-        → Masked mode case cells end rows.now loops deeps all → overs / 2 ≡ all / 2
-        → set_leads mode case cells end (has result.places) (drop result.read text.now)
+        → Masked mode case cells end table.now.rows.items loops deeps all → overs / 2 ≡ all / 2
+        → set_leads mode case cells end (has result.places) (drop result.asked.bytes text.now)
         ≡ set_leads mode case cells end (has from) text.now }
-    ensures most { result.read ≤ length text.now }
-    ensures halted { result.read < length text.now → result.places ≡ 0 }
+    ensures tokens { result.asked.tokens ≡ table.now.tokens }
+    ensures most { result.asked.bytes ≤ length text.now }
+    ensures halted { result.asked.bytes < length text.now → result.places ≡ 0 }
 {
+    let mut asked = table.unasked();
     let mut places = from;
     for position in 0..text.len() {
         if halts && places == 0 {
-            return Reached {
-                places,
-                read: position,
-            };
+            return Reached { places, asked };
         }
         let byte = text[position];
         places = advance(
             places,
-            !rows[byte as usize],
+            !table.refused(byte, &mut asked),
             of_byte(byte, loops, deeps),
             overs,
         );
     }
-    Reached {
-        places,
-        read: text.len(),
-    }
+    Reached { places, asked }
 }
 
 /// The places that a byte leads to: those behind the ones whose tokens take it, with those that may be passed over to
