@@ -6,7 +6,7 @@ use Rattle.std.proofs.lemmas.List.{take-append-drop}
 use Rattle.std.specs.List.{list_all, prefix_len}
 use Rattle.pathspec_glob.specs.declared.Mode.{Mode}
 use Rattle.pathspec_glob.specs.declared.Mode.TheVariants.{Shell, PathAware}
-use Rattle.pathspec_glob.specs.declared.scratch.tokens.Token.{Token as Part}
+use Rattle.pathspec_glob.specs.declared.tokens.Token.{Token as Part}
 use Rattle.pathspec_glob.specs.Tokens.{Token}
 use Rattle.pathspec_glob.specs.Tokens.Single.{Byte}
 use Rattle.pathspec_glob.specs.Tokens.Token.{One, Star, Deep}

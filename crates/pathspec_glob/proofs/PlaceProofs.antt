@@ -1,7 +1,7 @@
 -- What is read at a place of a list of tokens, and at a position of a text.
 use Rattle.std.proofs.Common.{◌≡◌, ℕ, ◌+◌, ◌<◌, sym, ◌∙◌, ap, subst, arith, ◌-◌, true, List, [], ◌∷◌, length, get_or, take, drop, map}
 use Rattle.std.proofs.lemmas.List.{drop_more, drop-map, length-map, length-drop, take_all}
-use Rattle.pathspec_glob.specs.declared.scratch.tokens.Token.{Token as Part}
+use Rattle.pathspec_glob.specs.declared.tokens.Token.{Token as Part}
 use Rattle.pathspec_glob.specs.Tokens.{Token}
 use Rattle.pathspec_glob.specs.GlobForms.{token_view, tokens_view}
 use Rattle.pathspec_glob.specs.GlobSteps.{is_wide_at}

@@ -1,6 +1,6 @@
 -- Counts of steps: those of one match, and those of all matches together.
-use Rattle.std.specs.Prelude.{◌≡◌, ℕ, ◌+◌, ◌%◌, ◌^◌}
-use Rattle.pathspec_glob.specs.declared.scratch.tokens.Steps.{Steps}
+use Rattle.std.specs.Prelude.{◌≡◌, ◌≤◌, ℕ, ◌+◌, ◌%◌, ◌^◌}
+use Rattle.pathspec_glob.specs.declared.tokens.Steps.{Steps}
 
 -- so many steps were counted between two counts, which go round at 2 ^ 128
 abbrev pub Counts : ℕ → ℕ → ℕ → Type 0
@@ -16,6 +16,7 @@ pub record BeginsAnew (old new : Steps) : Type 0 where
   pub last : new.last ≡ 0
   pub total : new.total ≡ old.total
 
--- where the steps of the match were counted in the total before, they still are
-abbrev pub KeepsCount : Steps → Steps → Type 0
-KeepsCount old new = (before : ℕ) → Counts before old.last old.total → Counts before new.last new.total
+-- where the steps of the match were counted in the total before, they still are, and none of them is taken back
+pub record KeepsCount (old new : Steps) : Type 0 where
+  pub goes_on : (before : ℕ) → Counts before old.last old.total → Counts before new.last new.total
+  pub rises : old.last ≤ new.last

@@ -8,10 +8,10 @@ use Rattle.pathspec_glob.specs.declared.brackets.Front.{Front as Seen}
 use Rattle.pathspec_glob.specs.declared.brackets.Front.TheVariants as seen
 use Rattle.pathspec_glob.specs.declared.brackets.Read.{Read}
 use Rattle.pathspec_glob.specs.declared.reading.Piece.{Piece as Taken}
-use Rattle.pathspec_glob.specs.declared.scratch.tokens.Single.{Single as Held}
-use Rattle.pathspec_glob.specs.declared.scratch.tokens.Single.TheVariants as held
-use Rattle.pathspec_glob.specs.declared.scratch.tokens.Token.{Token as Part}
-use Rattle.pathspec_glob.specs.declared.scratch.tokens.Token.TheVariants as part
+use Rattle.pathspec_glob.specs.declared.tokens.Single.{Single as Held}
+use Rattle.pathspec_glob.specs.declared.tokens.Single.TheVariants as held
+use Rattle.pathspec_glob.specs.declared.tokens.Token.{Token as Part}
+use Rattle.pathspec_glob.specs.declared.tokens.Token.TheVariants as part
 use Rattle.pathspec_glob.specs.Tokens.{Item, Front, Items, Single, Token, Piece}
 use Rattle.pathspec_glob.specs.Tokens.Item.{Literal, Range, Class}
 use Rattle.pathspec_glob.specs.Tokens.Front.{Listed, Closed, Broken}

@@ -1,7 +1,7 @@
 -- Tokens as words.
 use Rattle.std.specs.Prelude.{◌≡◌, ℕ, suc, ◌<◌, ◌&&◌, true, false, length}
 use Rattle.pathspec_glob.specs.declared.Case.TheVariants.{Sensitive, Fold}
-use Rattle.pathspec_glob.specs.declared.scratch.tokens.word.Word.{Word}
+use Rattle.pathspec_glob.specs.declared.tokens.word.Word.{Word}
 use Rattle.pathspec_glob.specs.Bytes.{slash}
 use Rattle.pathspec_glob.specs.GlobSteps.{TokenList}
 use Rattle.pathspec_glob.specs.GlobCells.{has, kept_at, passed_at, cell_count, alternates_behind, IsTable}

@@ -4,7 +4,7 @@ ghost use Rattle.pathspec_glob.specs.Counts.{KeepsCount};
 ghost use Rattle.pathspec_glob.specs.GlobParts.{before_end, behind_front, end_tests, front_tests, takes_each, takes_end, takes_front, tests_each};
 
 use crate::Case;
-use crate::scratch::tokens::{self, Steps, Tokens};
+use crate::tokens::{self, Steps, Tokens};
 use std::alloc::{AllocError, Global};
 use std::marker::Model;
 

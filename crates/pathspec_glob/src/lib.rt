@@ -14,6 +14,7 @@ mod places;
 mod reading;
 mod rows;
 mod scratch;
+mod tokens;
 
 pub use matcher::Glob;
 pub use scratch::Scratch;

@@ -6,7 +6,7 @@ ghost use Rattle.pathspec_glob.specs.Counts.{Counts};
 use crate::ends::End;
 use crate::middle::Middle;
 use crate::scratch::Scratch;
-use crate::scratch::tokens::Tokens;
+use crate::tokens::Tokens;
 use crate::{Case, Mode};
 use std::alloc::{AllocError, Global};
 use std::marker::Model;

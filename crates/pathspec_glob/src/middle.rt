@@ -6,8 +6,8 @@ ghost use Rattle.pathspec_glob.specs.GlobPlaces.{HasRoom, KeepsRoom};
 
 use crate::Case;
 use crate::places::Places;
-use crate::scratch::tokens::word::Word;
-use crate::scratch::tokens::{Steps, Tokens};
+use crate::tokens::word::{Ran, Word};
+use crate::tokens::{Steps, Tokens};
 use std::alloc::{AllocError, Global};
 use std::marker::Model;
 
@@ -66,7 +66,11 @@ impl Middle {
         ensures room { KeepsRoom places.old places.new }
     {
         match &self.word {
-            Some(word) => word.test(text, case, steps),
+            Some(word) => {
+                let Ran { accepted, asked } = word.run(text, case);
+                asked.count(steps);
+                accepted
+            }
             None if self.tokens.match_as_first() => self.tokens.test_all(text, steps),
             None => places.run(&self.tokens, text, case, steps),
         }

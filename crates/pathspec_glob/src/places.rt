@@ -9,7 +9,7 @@ mod step;
 
 use crate::Case;
 use crate::rows::Row;
-use crate::scratch::tokens::{Steps, Tokens};
+use crate::tokens::{Steps, Tokens};
 use std::alloc::{AllocError, Global};
 
 /// A set of places in a glob's tokens. A place is held where it is come to, or where its token stays.

@@ -6,7 +6,7 @@ ghost use Rattle.pathspec_glob.specs.Tokens.{escaped_piece, bracket_piece, EndsP
 ghost use Rattle.pathspec_glob.specs.Tokens.Token.{One};
 ghost use Rattle.pathspec_glob.specs.GlobForms.{single_view, token_view, tokens_view, piece_view};
 
-use crate::scratch::tokens::{Single, Token};
+use crate::tokens::{Single, Token};
 use crate::{Mode, brackets};
 use std::alloc::{AllocError, Global};
 

@@ -2,12 +2,16 @@
 ghost use Rattle.std.specs.Prelude.{◌≡◌, IfOk};
 ghost use Rattle.pathspec_glob.specs.Globs.{room_for};
 
-pub mod tokens;
-
 use crate::places::Places;
+use crate::tokens::Steps;
 use std::alloc::{AllocError, Global};
 use std::marker::Model;
-use tokens::Steps;
+
+/// What a count of steps is made with. Only a scratch has one, so a match has no count but its scratch's.
+#[derive(Debug, Drop)]
+pub struct Key {
+    own: (),
+}
 
 /// The room that a match works in.
 #[derive(Debug, Drop)]
@@ -38,7 +42,7 @@ impl Scratch {
     {
         Ok(Scratch {
             places: Places::for_tokens(alloc, tokens)?,
-            steps: Steps::none(),
+            steps: Steps::none(Key { own: () }),
         })
     }
 

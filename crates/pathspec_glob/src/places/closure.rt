@@ -5,7 +5,7 @@ ghost use Rattle.pathspec_glob.specs.GlobPlaces.{closure_at, closure_end, HasRoo
 ghost use Rattle.pathspec_glob.specs.declared.Case.{Case};
 
 use super::Places;
-use crate::scratch::tokens::Tokens;
+use crate::tokens::Tokens;
 
 impl Places {
     /// Comes to each place that the token at this one, which is held, leads to without a byte, and says whether the token

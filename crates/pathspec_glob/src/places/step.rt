@@ -5,7 +5,7 @@ ghost use Rattle.pathspec_glob.specs.GlobPlaces.{closure_end, entered_after, Has
 
 use super::Places;
 use crate::Case;
-use crate::scratch::tokens::{Steps, Tests, Tokens};
+use crate::tokens::{Steps, Tests, Tokens};
 
 /// What a byte did at a place.
 #[derive(Clone, Copy)]

@@ -37,7 +37,10 @@ loop-position-preserved c =
       bounds = advance.bounds;
       least = omega (arith, tested, invariant.least);
       most = more-steps (length c.args.tokens.now.tokens) position c.args.steps.now.last c.loop-position.steps.last c.advance.new.steps.last invariant.most advance.steps;
-      counted = λ before was. advance.counted before (invariant.counted before was);
+      counted = record {
+        goes_on = λ before was. advance.counted.goes_on before (invariant.counted.goes_on before was);
+        rises = omega (arith, invariant.counted.rises, advance.counted.rises);
+      };
       room = record { entered = advance.room.entered ∙ invariant.room.entered; staying = advance.room.staying ∙ invariant.room.staying };
     }
 

@@ -1,0 +1,25 @@
+use Rattle.std.proofs.Common.{◌≡◌, ◌-◌, ◌∙◌, true, false, sym, arith, drop}
+use Rattle.pathspec_glob.specs.GlobSteps.{is_wide_at}
+use Rattle.pathspec_glob.specs.GlobCells.{has}
+use Rattle.pathspec_glob.proofs.WordProofs.{taken-more}
+use Rattle.pathspec_glob.proofs.tokens.word.states.taken.Goals as goal
+
+pub loop-place-preserved-then-not-is_wide : goal.loop-place-preserved-then-not-is_wide
+loop-place-preserved-then-not-is_wide c =
+    let tokens = c.args.tokens.now in
+    let place = c.loop-place.place in
+    let single : is_wide_at (drop (place - 1) tokens.tokens) ≡ false = sym c.is_wide.ensures ∙ c.if-not-is_wide.true in
+    record {
+      word = λ i h. c.further-word.ensures i h ∙ (rw (sym c.takes.ensures, single) at (taken-more tokens.mode c.args.case tokens.tokens place c.args.byte (has c.loop-place.word) (omega (arith, c.loop-place-test.true)) c.loop-place.invariant.within c.loop-place.invariant.word i h));
+      within = omega (arith, c.loop-place.invariant.within);
+    }
+
+pub loop-place-preserved : goal.loop-place-preserved
+loop-place-preserved c =
+    let tokens = c.args.tokens.now in
+    let place = c.loop-place.place in
+    let wide : is_wide_at (drop (place - 1) tokens.tokens) ≡ true = sym c.is_wide.ensures ∙ c.if-not-is_wide.false in
+    record {
+      word = λ i h. rw wide at (taken-more tokens.mode c.args.case tokens.tokens place c.args.byte (has c.loop-place.word) (omega (arith, c.loop-place-test.true)) c.loop-place.invariant.within c.loop-place.invariant.word i h);
+      within = omega (arith, c.loop-place.invariant.within);
+    }

@@ -1,0 +1,12 @@
+use Rattle.std.proofs.Common.{◌≡◌, ℕ, ◌<◌, ◌≤◌, length, drop}
+use Rattle.pathspec_glob.specs.GlobCells.{has, taken_at}
+use Rattle.pathspec_glob.proofs.tokens.word.states.taken.Given as goal
+
+abbrev pub invariant-loop-place : goal.invariant-loop-place
+invariant-loop-place l = record {
+  word : (i : ℕ) → i < 64 → has l.word i ≡ taken_at l.tokens.mode l.case (drop l.place l.tokens.tokens) l.byte i;
+  within : l.place ≤ length l.tokens.tokens;
+}
+
+abbrev pub decreases-loop-place : goal.decreases-loop-place
+decreases-loop-place l = l.place

@@ -1,0 +1,13 @@
+use Rattle.std.proofs.Common.{◌≡◌, ◌/◌, ℕ, List, drop}
+use Rattle.pathspec_glob.specs.declared.Mode.{Mode}
+use Rattle.pathspec_glob.specs.declared.Case.{Case}
+use Rattle.pathspec_glob.specs.GlobCells.{has, Cell, Loop, Masked, set_leads}
+use Rattle.pathspec_glob.proofs.tokens.word.step.reach.Given as goal
+
+abbrev pub invariant-loop-position : goal.invariant-loop-position
+invariant-loop-position l = record {
+  bytes : l.asked.bytes ≡ l.position;
+  tokens : l.asked.tokens ≡ l.table.tokens;
+  leads : (mode : Mode) (case : Case) (cells : List Cell) (end : Loop) (all : ℕ) → Masked mode case cells end l.table.rows.items l.loops l.deeps all → l.overs / 2 ≡ all / 2
+      → set_leads mode case cells end (has l.places) (drop l.position l.text) ≡ set_leads mode case cells end (has l.from) l.text;
+}

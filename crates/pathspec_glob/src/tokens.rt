@@ -1,0 +1,472 @@
+//! The tokens of globs, and the one question that a text is asked with them.
+ghost use Rattle.std.specs.Prelude.{◌≡◌, ◌+◌, ◌<◌, ◌≤◌, ◌^◌, length, take, drop, map, nat_lt, not, IfOk, IfSome, OnOk, IsTrue, ◌==◌};
+ghost use Rattle.std.specs.List.{prefix_len};
+ghost use Rattle.pathspec_glob.specs.Bytes.{slash};
+ghost use Rattle.pathspec_glob.specs.GlobRelation.{is_same_byte, is_barred, takes, passes_over};
+ghost use Rattle.pathspec_glob.specs.GlobForms.{single_view, token_view, tokens_view};
+ghost use Rattle.pathspec_glob.specs.GlobSteps.{is_deep_token, is_wide, is_wide_at, may_pass_over_at, token_list, takes_byte, token_takes};
+ghost use Rattle.pathspec_glob.specs.GlobParts.{plain_tokens, head_size, takes_each, tests_each, wide_size, wide_takes, wide_tests, MatchAsFirst};
+ghost use Rattle.pathspec_glob.specs.Tokens.Single.{Byte};
+ghost use Rattle.pathspec_glob.specs.Tokens.Token.{One, Star};
+ghost use Rattle.pathspec_glob.specs.Counts.{BeginsAnew, HasNoSteps, KeepsCount};
+
+pub mod word;
+
+use crate::brackets::{self, Item};
+use crate::scratch::Key;
+use crate::{Case, Mode, reading};
+use std::alloc::{AllocError, Global};
+use std::marker::Model;
+
+/// What one byte of a text is held to.
+#[derive(Debug, Drop)]
+pub enum Single {
+    /// This byte.
+    Byte(u8),
+    /// This byte, which stands after a backslash in the pattern.
+    Quoted(u8),
+    /// Any byte.
+    Any,
+    /// A byte that the items hold, or one that they don't.
+    Bracket(bool, Vec<Item>),
+    /// No byte.
+    Dead,
+}
+
+/// One part of a glob.
+#[derive(Debug, Drop)]
+pub enum Token {
+    /// One byte.
+    One(Single),
+    /// Any bytes without `/`.
+    Star,
+    /// Any bytes.
+    Deep,
+}
+
+/// The tokens of a glob, or some of them that stand side by side.
+#[derive(Debug, Drop)]
+pub struct Tokens {
+    mode: Mode,
+    all: Vec<Token>,
+}
+
+/// How many steps were taken. A step is one token tested at one position of a text: only such tests raise a count, and
+/// only a scratch has one.
+#[derive(Debug, Drop)]
+pub struct Steps {
+    /// In the last match.
+    last: u128,
+    /// In all matches together, modulo 2^128.
+    total: u128,
+    /// Only a scratch has one.
+    key: Key,
+}
+
+/// How many tokens were tested at one position of a text. Only [`Tokens::test`] raises it, and it can't be let go but to
+/// [`Steps::add`], which counts it.
+pub struct Tests {
+    count: usize,
+}
+
+impl Model for Tokens {
+    ghost use Rattle.pathspec_glob.specs.GlobForms.{tokens_view};
+    ghost use Rattle.pathspec_glob.specs.GlobSteps.{TokenList};
+
+    ghost Value = { TokenList };
+
+    ghost view = { λ t. record { mode = t.mode; tokens = tokens_view t.all.items } };
+}
+
+impl Tokens {
+    /// The tokens of a pattern. The cost is linear in the pattern.
+    ///
+    /// # Errors
+    /// Memory runs out.
+    pub fn of_pattern(alloc: Global, pattern: &[u8], mode: Mode) -> Result<Tokens, AllocError>
+        ensures { IfOk result (λ read. read ≡ token_list mode pattern.now) }
+    {
+        Ok(Tokens {
+            mode,
+            all: reading::tokens(alloc, pattern, mode)?,
+        })
+    }
+
+    /// How many they are.
+    pub fn len(&self) -> usize
+        ensures { result ≡ length self.now.tokens }
+    {
+        self.all.len()
+    }
+
+    /// Whether the token at this place takes any number of bytes.
+    pub fn is_wide(&self, place: usize) -> bool
+        requires { place < length self.now.tokens }
+        ensures { result ≡ is_wide_at (drop place self.now.tokens) }
+    {
+        self.all[place].is_wide()
+    }
+
+    /// Whether the token at this place may stand for nothing together with the next: in PathAware, where it takes
+    /// any bytes and the next is a plain `/`.
+    pub fn may_pass_over(&self, place: usize) -> bool
+        requires { place < length self.now.tokens }
+        ensures over { result ≡ may_pass_over_at self.now.mode (drop place self.now.tokens) }
+        ensures next { IsTrue result → place + 1 < length self.now.tokens }
+    {
+        may_pass_over(self.mode, &self.all[place..])
+    }
+
+    /// Whether they match just what the first of them takes, which takes any number of bytes: it stands alone, or they are
+    /// `**/*`, where `**` and the slash may stand for nothing.
+    pub fn match_as_first(&self) -> bool
+        ensures wide { IsTrue result → IsTrue (is_wide_at self.now.tokens) }
+        ensures same { IsTrue result → MatchAsFirst self.now }
+    {
+        match self.all.as_slice() {
+            [first] => first.is_wide(),
+            [_, _, last] => last.is_star() && self.may_pass_over(0),
+            _ => false,
+        }
+    }
+
+    /// Whether the token at a place takes a byte, alone or with others.
+    fn takes(&self, place: usize, byte: u8, case: Case) -> bool
+        requires { place < length self.now.tokens }
+        ensures { result ≡ token_takes self.now case place byte }
+    {
+        self.all[place].takes(self.mode, case, byte)
+    }
+
+    /// Splits off the tokens from a place on.
+    ///
+    /// # Errors
+    /// Memory runs out, and nothing was split off.
+    pub fn split_off(&mut self, place: usize) -> Result<Tokens, AllocError>
+        requires { place ≤ length self.old.tokens }
+        ensures front { OnOk result
+            (self.new ≡ record { mode = self.old.mode; tokens = take place self.old.tokens }) }
+        ensures behind { IfOk result (λ behind.
+            behind ≡ record { mode = self.old.mode; tokens = drop place self.old.tokens }) }
+    {
+        let behind = self.all.split_off(place)?;
+        Ok(Tokens {
+            mode: self.mode,
+            all: behind,
+        })
+    }
+
+    /// How many tokens stand before the first that takes any number of bytes.
+    pub fn head_size(&self) -> usize
+        ensures size { result ≡ head_size self.now.tokens }
+        ensures within { result ≤ length self.now.tokens }
+    {
+        head_size(&self.all)
+    }
+
+    /// How many tokens stand up to the last that takes any number of bytes, with a slash that this one may stand for
+    /// nothing with.
+    pub fn wide_size(&self) -> usize
+        ensures size { result ≡ wide_size self.now.mode self.now.tokens }
+        ensures within { result ≤ length self.now.tokens }
+    {
+        let mut size = 0;
+        for place in 0..self.len() {
+            if self.is_wide(place) {
+                size = if self.may_pass_over(place) {
+                    place + 2
+                } else {
+                    place + 1
+                };
+            }
+        }
+        size
+    }
+
+    /// Tests the token at a place on a byte: whether the token takes it, alone or with others.
+    pub fn test(&self, place: usize, byte: u8, case: Case, tests: &mut Tests) -> bool
+        requires place { place < length self.now.tokens }
+        requires room { tests.old.count + 1 < 2 ^ 64 }
+        ensures answer { result ≡ token_takes self.now case place byte }
+        ensures tests { tests.new.count ≡ tests.old.count + 1 }
+    {
+        tests.count += 1;
+        self.takes(place, byte, case)
+    }
+
+    /// The bytes that they want, where each is a byte of the pattern; None where one isn't.
+    ///
+    /// # Errors
+    /// Memory runs out.
+    pub fn bytes(&self, alloc: Global) -> Result<Option<Vec<u8>>, AllocError>
+        ensures { IfOk result (λ found.
+            IfSome found (λ bytes. self.now.tokens ≡ plain_tokens bytes.items)) }
+    {
+        bytes_of(alloc, &self.all)
+    }
+
+    // Out of line, since heads and tails are mostly bytes alone.
+    /// Tests the tokens on the bytes of a text one by one, up to a byte that its token doesn't take, each of which is
+    /// counted as one step: whether they take them all.
+    #[inline(never)]
+    pub fn test_each(&self, text: &[u8], case: Case, steps: &mut Steps) -> bool
+        requires len { length text.now ≡ length self.now.tokens }
+        requires room { steps.old.last + length text.now < 2 ^ 128 }
+        ensures answer { result ≡ takes_each self.now.mode case self.now.tokens text.now }
+        ensures tests { steps.new.last
+            ≡ steps.old.last + tests_each self.now.mode case self.now.tokens text.now }
+        ensures most { steps.new.last ≤ steps.old.last + length text.now }
+        ensures least { IsTrue result → steps.new.last ≡ steps.old.last + length text.now }
+        ensures counted { KeepsCount steps.old steps.new }
+    {
+        for place in 0..text.len() {
+            if !self.takes(place, text[place], case) {
+                steps.raise_by((place + 1) as u128);
+                return false;
+            }
+        }
+        steps.raise_by(text.len() as u128);
+        true
+    }
+
+    /// Tests the first token, which takes any number of bytes, on the bytes of a text up to one that it doesn't take, each
+    /// of which is counted as one step: whether it takes them all.
+    pub fn test_all(&self, text: &[u8], steps: &mut Steps) -> bool
+        requires wide { IsTrue (is_wide_at self.now.tokens) }
+        requires room { steps.old.last + length text.now < 2 ^ 128 }
+        ensures answer { result ≡ wide_takes self.now.tokens text.now }
+        ensures tests { steps.new.last ≡ steps.old.last + wide_tests self.now.tokens text.now }
+        ensures most { steps.new.last ≤ steps.old.last + length text.now }
+        ensures least { IsTrue result → steps.new.last ≡ steps.old.last + length text.now }
+        ensures counted { KeepsCount steps.old steps.new }
+    {
+        let taken = match self.all[0] {
+            Token::Star => count_names(text),
+            Token::Deep => text.len(),
+            Token::One(_) => unreachable!(),
+        };
+        if taken < text.len() {
+            steps.raise_by(taken as u128 + 1);
+            false
+        } else {
+            steps.raise_by(taken as u128);
+            true
+        }
+    }
+}
+
+/// Tests tokens that want these bytes as [`Tokens::test_each`] does.
+#[inline(always)]
+pub fn test_bytes(bytes: &[u8], text: &[u8], case: Case, steps: &mut Steps) -> bool
+    requires len { length text.now ≡ length bytes.now }
+    requires room { steps.old.last + length text.now < 2 ^ 128 }
+    ensures answer { (mode : Mode)
+        → result ≡ takes_each mode case (plain_tokens bytes.now) text.now }
+    ensures tests { (mode : Mode) → steps.new.last
+        ≡ steps.old.last + tests_each mode case (plain_tokens bytes.now) text.now }
+    ensures most { steps.new.last ≤ steps.old.last + length text.now }
+    ensures least { IsTrue result → steps.new.last ≡ steps.old.last + length text.now }
+    ensures counted { KeepsCount steps.old steps.new }
+{
+    for place in 0..text.len() {
+        if !is_same_byte(case, bytes[place], text[place]) {
+            steps.raise_by((place + 1) as u128);
+            return false;
+        }
+    }
+    steps.raise_by(text.len() as u128);
+    true
+}
+
+/// The bytes that the tokens want, where each is a byte of the pattern.
+fn bytes_of(alloc: Global, tokens: &[Token]) -> Result<Option<Vec<u8>>, AllocError>
+    ensures { IfOk result (λ found.
+        IfSome found (λ bytes. tokens_view tokens.now ≡ plain_tokens bytes.items)) }
+{
+    let mut bytes = Vec::new(alloc);
+    for token in tokens {
+        let Some(byte) = token.byte() else {
+            return Ok(None);
+        };
+        bytes.push(byte)?;
+    }
+    Ok(Some(bytes))
+}
+
+/// How many tokens stand before the first that takes any number of bytes.
+fn head_size(tokens: &[Token]) -> usize
+    ensures size { result ≡ prefix_len (λ t. not (is_wide (token_view t))) tokens.now }
+    ensures within { result ≤ length tokens.now }
+{
+    tokens.iter().take_while(|token| !token.is_wide()).count()
+}
+
+/// How many bytes stand before the first slash.
+fn count_names(text: &[u8]) -> usize
+    ensures count { result ≡ prefix_len (λ b. not (b == slash)) text.now }
+    ensures within { result ≤ length text.now }
+{
+    text.iter().take_while(|byte| **byte != b'/').count()
+}
+
+impl Steps {
+    /// No step yet.
+    pub fn none(key: Key) -> Steps
+        ensures { HasNoSteps result }
+    {
+        Steps {
+            last: 0,
+            total: 0,
+            key,
+        }
+    }
+
+    /// Begins the count of a match, and lets that of all matches go on.
+    pub fn begin(&mut self)
+        ensures { BeginsAnew self.old self.new }
+    {
+        self.last = 0;
+    }
+
+    /// How many steps the last match has taken.
+    pub fn last(&self) -> u128
+        ensures { result ≡ self.now.last }
+    {
+        self.last
+    }
+
+    /// How many steps all matches together have taken, modulo 2^128.
+    pub fn total(&self) -> u128
+        ensures { result ≡ self.now.total }
+    {
+        self.total
+    }
+
+    /// Counts so many steps more.
+    fn raise_by(&mut self, steps: u128)
+        requires { self.old.last + steps < 2 ^ 128 }
+        ensures steps { self.new.last ≡ self.old.last + steps }
+        ensures counted { KeepsCount self.old self.new }
+    {
+        self.last += steps;
+        self.total = self.total.wrapping_add(steps);
+    }
+
+    /// Counts the tests at a position, a step each, and says whether there were any.
+    pub fn add(&mut self, tests: Tests) -> bool
+        requires { self.old.last + tests.count < 2 ^ 128 }
+        ensures any { result ≡ nat_lt 0 tests.count }
+        ensures steps { self.new.last ≡ self.old.last + tests.count }
+        ensures counted { KeepsCount self.old self.new }
+    {
+        let Tests { count } = tests;
+        self.raise_by(count as u128);
+        count > 0
+    }
+}
+
+impl Tests {
+    /// No test.
+    pub fn none() -> Tests
+        ensures { result.count ≡ 0 }
+    {
+        Tests { count: 0 }
+    }
+}
+
+/// Whether the first of the tokens may stand for nothing together with the second.
+fn may_pass_over(mode: Mode, tokens: &[Token]) -> bool
+    ensures { result ≡ may_pass_over_at mode (tokens_view tokens.now) }
+{
+    match tokens {
+        [first, next, ..] => first.is_deep() && next.is_passed_over(mode),
+        _ => false,
+    }
+}
+
+impl Token {
+    /// Whether it takes any bytes.
+    fn is_deep(&self) -> bool
+        ensures { result ≡ is_deep_token (token_view self.now) }
+    {
+        matches!(self, Token::Deep)
+    }
+
+    /// Whether it takes any bytes without `/`.
+    fn is_star(&self) -> bool
+        ensures { IsTrue result → token_view self.now ≡ Star }
+    {
+        matches!(self, Token::Star)
+    }
+
+    /// Whether deep before it may stand for nothing with it.
+    fn is_passed_over(&self, mode: Mode) -> bool
+        ensures { result ≡ passes_over mode (token_view self.now) }
+    {
+        mode == Mode::PathAware && matches!(self, Token::One(Single::Byte(b'/')))
+    }
+
+    /// Whether it takes any number of bytes.
+    fn is_wide(&self) -> bool
+        ensures { result ≡ is_wide (token_view self.now) }
+    {
+        !matches!(self, Token::One(_))
+    }
+
+    /// The byte of the pattern that it is.
+    fn byte(&self) -> Option<u8>
+        ensures { IfSome result (λ byte. token_view self.now ≡ One (Byte byte)) }
+    {
+        match self {
+            Token::One(Single::Byte(byte)) => Some(*byte),
+            _ => None,
+        }
+    }
+
+    /// Whether it takes a byte, alone or with others.
+    fn takes(&self, mode: Mode, case: Case, byte: u8) -> bool
+        ensures { result ≡ takes_byte mode case (token_view self.now) byte }
+    {
+        match self {
+            // The same as of other tokens for one byte, and in line.
+            Token::One(Single::Byte(own)) => is_same_byte(case, *own, byte),
+            Token::One(single) => single.takes(mode, case, byte),
+            Token::Star => byte != b'/',
+            Token::Deep => true,
+        }
+    }
+}
+
+impl Single {
+    /// Whether a byte is as this wants it.
+    #[inline(never)]
+    fn takes(&self, mode: Mode, case: Case, byte: u8) -> bool
+        ensures { result ≡ takes mode case (single_view self.now) byte }
+    {
+        match self {
+            Single::Byte(own) | Single::Quoted(own) => is_same_byte(case, *own, byte),
+            Single::Any => !is_barred(mode, byte),
+            Single::Bracket(negated, items) => {
+                !is_barred(mode, byte) && brackets::bracket_holds(items, case, byte) != *negated
+            }
+            Single::Dead => false,
+        }
+    }
+}
+
+/// Whether the bytes are one, up to case where it doesn't count.
+fn is_same_byte(case: Case, own: u8, byte: u8) -> bool
+    ensures { result ≡ is_same_byte case own byte }
+{
+    match case {
+        Case::Sensitive => own == byte,
+        Case::Fold => own.eq_ignore_ascii_case(&byte),
+    }
+}
+
+/// Whether the mode keeps the byte from `?` and from brackets.
+fn is_barred(mode: Mode, byte: u8) -> bool
+    ensures { result ≡ is_barred mode byte }
+{
+    mode == Mode::PathAware && byte == b'/'
+}

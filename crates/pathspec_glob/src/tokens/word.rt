@@ -1,0 +1,79 @@
+//! Tokens as sets of places in one word: a bit for each token that takes one byte, and one for the end.
+ghost use Rattle.std.specs.Prelude.{◌≡◌, ◌<◌, ◌≤◌, length, IfOk, IfSome, IsTrue};
+ghost use Rattle.pathspec_glob.specs.GlobRelation.{matches};
+ghost use Rattle.pathspec_glob.specs.GlobSteps.{TokenList};
+
+mod closure;
+mod states;
+mod step;
+mod table;
+
+use super::Tokens;
+use crate::Case;
+use std::alloc::{AllocError, Global};
+pub use step::Ran;
+use table::Table;
+
+/// Tokens as words. A place stands before each token that takes one byte, and one at the end; a token that takes any
+/// number of bytes lets the place behind it stay.
+#[derive(Debug, Drop)]
+pub struct Word {
+    /// Which tokens don't take a byte.
+    exact: Table,
+    /// The same without case.
+    folded: Table,
+    /// The places that may stay at a byte, and at a slash.
+    loops: u64,
+    deeps: u64,
+    /// The places that may be passed over.
+    overs: u64,
+    /// The last place.
+    last: usize,
+    ghost one_size: { folded.tokens ≡ exact.tokens },
+    ghost last_within: { last < 64 },
+}
+
+impl Word {
+    ghost use Rattle.pathspec_glob.specs.GlobWords.{IsWordOf};
+
+    /// The word of tokens, where 1 to 63 of them take one byte, no two others stand side by side, and no two places that
+    /// may be passed over do.
+    ///
+    /// The cost is linear in the tokens; it tests each of them on each of the 256 bytes, with case and without.
+    ///
+    /// # Errors
+    /// Memory runs out.
+    pub fn of_tokens(alloc: Global, tokens: &Tokens) -> Result<Option<Word>, AllocError>
+        ensures { IfOk result (λ found. IfSome found (λ word. IsWordOf tokens.now word)) }
+    {
+        let last = states::cells(tokens);
+        let overs = states::overs(tokens);
+        if last == 0 || last > 63 || !states::alternate(tokens) || !states::are_apart(overs) {
+            return Ok(None);
+        }
+        Ok(Some(Word {
+            exact: Table::of_tokens(alloc, tokens, Case::Sensitive)?,
+            folded: Table::of_tokens(alloc, tokens, Case::Fold)?,
+            loops: states::kept(tokens, 0),
+            deeps: states::kept(tokens, b'/'),
+            overs,
+            last,
+        }))
+    }
+
+    /// Whether the tokens match the whole text, and what was asked for that: of each byte that is read, which of the tokens
+    /// take it.
+    pub fn run(&self, text: &[u8], case: Case) -> Ran
+        ensures answer { (parts : TokenList) → IsWordOf parts self.now
+            → result.accepted ≡ matches parts.mode case parts.tokens text.now }
+        ensures tokens { result.asked.tokens ≡ self.now.exact.tokens }
+        ensures most { result.asked.bytes ≤ length text.now }
+        ensures least { IsTrue result.accepted → result.asked.bytes ≡ length text.now }
+    {
+        let table = match case {
+            Case::Sensitive => &self.exact,
+            Case::Fold => &self.folded,
+        };
+        step::run(table, self.loops, self.deeps, self.overs, self.last, text)
+    }
+}
