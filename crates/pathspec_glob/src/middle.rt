@@ -67,8 +67,11 @@ impl Middle {
     {
         match &self.word {
             Some(word) => {
-                let Ran { accepted, asked } = word.run(text, case);
-                asked.count(steps);
+                let Ran {
+                    accepted,
+                    questions,
+                } = word.run(text, case);
+                questions.count(steps);
                 accepted
             }
             None if self.tokens.match_as_first() => self.tokens.test_all(text, steps),

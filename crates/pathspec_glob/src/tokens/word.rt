@@ -61,14 +61,14 @@ impl Word {
         }))
     }
 
-    /// Whether the tokens match the whole text, and what was asked for that: of each byte that is read, which of the tokens
+    /// Whether the tokens match the whole text, and the questions for that: of each byte that is read, which of the tokens
     /// take it.
     pub fn run(&self, text: &[u8], case: Case) -> Ran
         ensures answer { (parts : TokenList) → IsWordOf parts self.now
             → result.accepted ≡ matches parts.mode case parts.tokens text.now }
-        ensures tokens { result.asked.tokens ≡ self.now.exact.tokens }
-        ensures most { result.asked.bytes ≤ length text.now }
-        ensures least { IsTrue result.accepted → result.asked.bytes ≡ length text.now }
+        ensures tokens { result.questions.tokens ≡ self.now.exact.tokens }
+        ensures most { result.questions.bytes ≤ length text.now }
+        ensures least { IsTrue result.accepted → result.questions.bytes ≡ length text.now }
     {
         let table = match case {
             Case::Sensitive => &self.exact,

@@ -6,21 +6,21 @@ ghost use Rattle.pathspec_glob.specs.declared.Case.{Case};
 ghost use Rattle.pathspec_glob.specs.GlobCells.{cells_match, has, set_leads, Cell, LeadsToLast, Loop, Masked, Rules};
 
 use super::closure::enter;
-use super::table::{Asked, Table};
+use super::table::{Questions, Table};
 
 /// How a text was run through.
 pub struct Ran {
     /// Whether its end leads to the last place.
     pub accepted: bool,
-    /// What the table was asked, once for each byte that was read.
-    pub asked: Asked,
+    /// One for each byte that was read.
+    pub questions: Questions,
 }
 
 /// Where a text, as far as it was read, leads to.
 struct Reached {
     places: u64,
-    /// What the table was asked, once for each byte that was read.
-    asked: Asked,
+    /// One for each byte that was read.
+    questions: Questions,
 }
 
 /// Runs through a text, up to a byte before which no place is held.
@@ -29,9 +29,9 @@ pub fn run(table: &Table, loops: u64, deeps: u64, overs: u64, last: usize, text:
     ensures answer { (mode : Mode) (case : Case) (cells : List Cell) (end : Loop)
         → Masked mode case cells end table.now.rows.items loops deeps overs → length cells ≡ last
         → result.accepted ≡ cells_match mode case cells end text.now }
-    ensures tokens { result.asked.tokens ≡ table.now.tokens }
-    ensures most { result.asked.bytes ≤ length text.now }
-    ensures least { IsTrue result.accepted → result.asked.bytes ≡ length text.now }
+    ensures tokens { result.questions.tokens ≡ table.now.tokens }
+    ensures most { result.questions.bytes ≤ length text.now }
+    ensures least { IsTrue result.accepted → result.questions.bytes ≡ length text.now }
 {
     let from = enter(1, overs);
     let plain = is_plain(loops, deeps, overs);
@@ -45,7 +45,7 @@ pub fn run(table: &Table, loops: u64, deeps: u64, overs: u64, last: usize, text:
             text,
         );
     }
-    let Reached { places, asked } = if !plain {
+    let Reached { places, questions } = if !plain {
         reach(from, table, loops, deeps, overs, true, text)
     } else if loops == deeps {
         reach(from, table, loops, loops, 0, false, text)
@@ -54,7 +54,7 @@ pub fn run(table: &Table, loops: u64, deeps: u64, overs: u64, last: usize, text:
     };
     Ran {
         accepted: holds(places, last),
-        asked,
+        questions,
     }
 }
 
@@ -96,8 +96,8 @@ fn accepts(
     requires { last < 64 }
     ensures leads { LeadsToLast table.now.rows.items stays stays_at_slash last places text.now
         result.accepted }
-    ensures tokens { result.asked.tokens ≡ table.now.tokens }
-    ensures bytes { result.asked.bytes ≡ length text.now }
+    ensures tokens { result.questions.tokens ≡ table.now.tokens }
+    ensures bytes { result.questions.bytes ≡ length text.now }
 {
     if stays && stays_at_slash {
         leads_to_last(places, table, true, true, last, text)
@@ -123,15 +123,15 @@ fn leads_to_last(
     requires { last < 64 }
     ensures leads { LeadsToLast table.now.rows.items stays stays_at_slash last places text.now
         result.accepted }
-    ensures tokens { result.asked.tokens ≡ table.now.tokens }
-    ensures bytes { result.asked.bytes ≡ length text.now }
+    ensures tokens { result.questions.tokens ≡ table.now.tokens }
+    ensures bytes { result.questions.bytes ≡ length text.now }
 {
-    let mut asked = table.unasked();
+    let mut questions = table.no_questions();
     let mut free = !places;
     let mut end = free;
     for position in 0..text.len() {
         let byte = text[position];
-        free = (free | table.refused(byte, &mut asked)) << 1;
+        free = (free | table.refused(byte, &mut questions)) << 1;
         end = if of_byte(byte, stays, stays_at_slash) {
             end & free
         } else {
@@ -140,7 +140,7 @@ fn leads_to_last(
     }
     Ran {
         accepted: !holds(end, last),
-        asked,
+        questions,
     }
 }
 
@@ -159,27 +159,27 @@ fn reach(
 ) -> Reached
     ensures leads { (mode : Mode) (case : Case) (cells : List Cell) (end : Loop) (all : ℕ)
         → Masked mode case cells end table.now.rows.items loops deeps all → overs / 2 ≡ all / 2
-        → set_leads mode case cells end (has result.places) (drop result.asked.bytes text.now)
+        → set_leads mode case cells end (has result.places) (drop result.questions.bytes text.now)
         ≡ set_leads mode case cells end (has from) text.now }
-    ensures tokens { result.asked.tokens ≡ table.now.tokens }
-    ensures most { result.asked.bytes ≤ length text.now }
-    ensures halted { result.asked.bytes < length text.now → result.places ≡ 0 }
+    ensures tokens { result.questions.tokens ≡ table.now.tokens }
+    ensures most { result.questions.bytes ≤ length text.now }
+    ensures halted { result.questions.bytes < length text.now → result.places ≡ 0 }
 {
-    let mut asked = table.unasked();
+    let mut questions = table.no_questions();
     let mut places = from;
     for position in 0..text.len() {
         if halts && places == 0 {
-            return Reached { places, asked };
+            return Reached { places, questions };
         }
         let byte = text[position];
         places = advance(
             places,
-            !table.refused(byte, &mut asked),
+            !table.refused(byte, &mut questions),
             of_byte(byte, loops, deeps),
             overs,
         );
     }
-    Reached { places, asked }
+    Reached { places, questions }
 }
 
 /// The places that a byte leads to: those behind the ones whose tokens take it, with those that may be passed over to

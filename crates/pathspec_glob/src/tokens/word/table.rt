@@ -17,9 +17,9 @@ pub struct Table {
     ghost rows_all: { vec_len rows ≡ 256 },
 }
 
-/// On how many bytes so many tokens were tested. Only [`Table::refused`] raises it, and it can't be let go but to
-/// [`Asked::count`], which counts a step for each token on each byte.
-pub struct Asked {
+/// About how many bytes a table of so many tokens was asked. Only [`Table::refused`] raises it, and it can't be let go but to
+/// [`Questions::count`], which counts a step for each token on each byte.
+pub struct Questions {
     bytes: usize,
     tokens: usize,
 }
@@ -39,13 +39,13 @@ impl Table {
         })
     }
 
-    /// No byte asked about yet.
+    /// No question yet.
     #[inline(always)]
-    pub fn unasked(&self) -> Asked
+    pub fn no_questions(&self) -> Questions
         ensures bytes { result.bytes ≡ 0 }
         ensures tokens { result.tokens ≡ self.now.tokens }
     {
-        Asked {
+        Questions {
             bytes: 0,
             tokens: self.tokens,
         }
@@ -53,26 +53,26 @@ impl Table {
 
     /// The places whose tokens don't take the byte: each token is tested on it.
     #[inline(always)]
-    pub fn refused(&self, byte: u8, asked: &mut Asked) -> u64
-        requires tokens { asked.old.tokens ≡ self.now.tokens }
-        requires room { asked.old.bytes + 1 < 2 ^ 64 }
+    pub fn refused(&self, byte: u8, questions: &mut Questions) -> u64
+        requires tokens { questions.old.tokens ≡ self.now.tokens }
+        requires room { questions.old.bytes + 1 < 2 ^ 64 }
         ensures answer { result ≡ get_or self.now.rows.items byte 0 }
-        ensures bytes { asked.new.bytes ≡ asked.old.bytes + 1 }
-        ensures tokens { asked.new.tokens ≡ asked.old.tokens }
+        ensures bytes { questions.new.bytes ≡ questions.old.bytes + 1 }
+        ensures tokens { questions.new.tokens ≡ questions.old.tokens }
     {
-        asked.bytes += 1;
+        questions.bytes += 1;
         self.rows[byte as usize]
     }
 }
 
-impl Asked {
+impl Questions {
     /// Counts a step for each token on each byte.
     pub fn count(self, steps: &mut Steps)
         requires { steps.old.last + self.tokens * self.bytes < 2 ^ 128 }
         ensures steps { steps.new.last ≡ steps.old.last + self.tokens * self.bytes }
         ensures counted { KeepsCount steps.old steps.new }
     {
-        let Asked { bytes, tokens } = self;
+        let Questions { bytes, tokens } = self;
         steps.raise_by(tokens as u128 * bytes as u128);
     }
 }

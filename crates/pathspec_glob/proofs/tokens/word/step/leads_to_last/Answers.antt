@@ -10,8 +10,8 @@ use Rattle.pathspec_glob.proofs.tokens.word.step.leads_to_last.Goals as goal
 
 pub loop-position-init : goal.loop-position-init
 loop-position-init c = record {
-  bytes = c.unasked-asked.ensures.bytes;
-  tokens = c.unasked-asked.ensures.tokens;
+  bytes = c.no_questions-questions.ensures.bytes;
+  tokens = c.no_questions-questions.ensures.tokens;
   leads = λ mode case cells end loops deeps overs masked size ends held.
       let places = c.args.places in
       let free = 18446744073709551615 - places in

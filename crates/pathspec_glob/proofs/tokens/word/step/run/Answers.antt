@@ -29,15 +29,15 @@ pub returns-clause-answer : goal.returns-clause-answer
 returns-clause-answer c mode case cells end masked size =
     let text = c.args.text.now in
     let reached = c.if-not-plain.places in
-    let halted : reached.asked.bytes < length text → reached.places ≡ 0 = elim c.if-not-plain.branch [
+    let halted : reached.questions.bytes < length text → reached.places ≡ 0 = elim c.if-not-plain.branch [
       | then-not-plain w ↦ rw w.places-is w.reach.ensures.halted
       | else-not-plain+then-loops-deeps w ↦ rw w.places-is w.reach-then-loops-deeps.ensures.halted
       | else-not-plain+else-loops-deeps w ↦ rw w.places-is w.reach-else-loops-deeps.ensures.halted
     ] in
-    let leads : set_leads mode case cells end (has reached.places) (drop reached.asked.bytes text) ≡ set_leads mode case cells end (has c.enter-from.result) text = elim c.if-not-plain.branch [
+    let leads : set_leads mode case cells end (has reached.places) (drop reached.questions.bytes text) ≡ set_leads mode case cells end (has c.enter-from.result) text = elim c.if-not-plain.branch [
       | then-not-plain w ↦ rw w.places-is (w.reach.ensures.leads mode case cells end c.args.overs masked refl)
       | else-not-plain+then-loops-deeps w ↦ rw w.places-is (w.reach-then-loops-deeps.ensures.leads mode case cells end c.args.overs (rw w.if-loops-deeps.true (rw w.if-loops-deeps.true at masked)) (sym (c.is_plain-plain.ensures.passed w.if-not-plain.false)))
       | else-not-plain+else-loops-deeps w ↦ rw w.places-is (w.reach-else-loops-deeps.ensures.leads mode case cells end c.args.overs masked (sym (c.is_plain-plain.ensures.passed w.if-not-plain.false)))
     ] in
     let begins = set-begins mode case cells end (λ i. not (has (get_or c.args.table.now.rows.items 0 0) i)) c.args.loops c.args.overs (bit_and 1 c.args.overs * 2 % 18446744073709551616) c.enter-from.result 0 text masked.few (masked.rules 0 (omega arith)) masked.apart refl c.enter-from.ensures in
-    c.holds-2.ensures ∙ rw (sym size) (sym (leads-rest mode case cells end reached.places reached.asked.bytes text halted) ∙ leads ∙ begins)
+    c.holds-2.ensures ∙ rw (sym size) (sym (leads-rest mode case cells end reached.places reached.questions.bytes text halted) ∙ leads ∙ begins)
