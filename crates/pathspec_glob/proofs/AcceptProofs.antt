@@ -1,9 +1,8 @@
 -- A set of places leads to the same texts, however it is gone on from.
-use Rattle.std.proofs.Common.{◌≡◌, ℕ, zero, suc, ◌+◌, ◌-◌, ◌<◌, ◌≤◌, Bool, true, false, not, ◌&&◌, ◌||◌, refl, sym, ◌∙◌, ap, add-one, arith, List, [], ◌∷◌, ◌++◌, length, replicate, get_or, set, drop, if◌then◌else◌}
-use Rattle.std.proofs.lemmas.Bool.{and_parts}
-use Rattle.std.proofs.Math.Bool.{or-false, or_assoc, and-true}
-use Rattle.std.proofs.Math.Seq.{drop-length}
-use Rattle.std.proofs.lemmas.List.{length-set, length-drop, drop-set-add, drop-set-lt, get_or-set_same, get_or-set_other}
+use Rattle.std.proofs.Common.{◌≡◌, ℕ, zero, suc, ◌<◌, ◌≤◌, Bool, true, false, not, ◌&&◌, ◌||◌, inl, inr, refl, sym, ◌∙◌, arith, List, [], ◌∷◌, length, get_or, drop, if◌then◌else◌}
+use Rattle.std.specs.Cmp.{both_ways}
+use Rattle.std.proofs.lemmas.Bool.{and_parts, and_from, or_left, or_right, or_cases, cases_Bool, not_from_false}
+use Rattle.std.proofs.Math.Bool.{or-false, and-true}
 use Rattle.pathspec_glob.specs.declared.Mode.{Mode}
 use Rattle.pathspec_glob.specs.declared.Case.{Case}
 use Rattle.pathspec_glob.specs.Bytes.{is_empty}
@@ -11,8 +10,7 @@ use Rattle.pathspec_glob.specs.Tokens.{Token}
 use Rattle.pathspec_glob.specs.Tokens.Token.{One, Star, Deep}
 use Rattle.pathspec_glob.specs.GlobRelation.{matches, some_suffix}
 use Rattle.pathspec_glob.specs.GlobSteps.{is_wide, is_wide_at, may_pass_over_at, takes_at, takes_byte}
-use Rattle.pathspec_glob.specs.GlobPlaces.{matches_within, accepts_at, accepts, accepts_before, either_holds, with_place, rows_closure}
-use Rattle.pathspec_glob.specs.GlobRows.{holds}
+use Rattle.pathspec_glob.specs.GlobPlaces.{matches_within, accepts_at, accepts, Includes, IsClosed, IsLeast}
 
 -- deep alone takes any text
 any_end : (mode : Mode) (case : Case) (text : List ℕ) → some_suffix (λ b. true) (matches mode case []) text ≡ true
@@ -55,25 +53,6 @@ byte-cases : (e s w k p m st mt mo : Bool)
     ≡ (((((e || s) && k) && w) && st) || (((((e || s) && k) && not w) && mt) || ((((e || s) && w) && m) || ((e && p) && mo))))
 byte-cases e s w k p m st mt mo = grind (arith, or-false)
 
--- a place that is come to besides
-here-cases : (e m st l : Bool) → ((m || st) || l) ≡ (m || (((e && m) || st) || l))
-here-cases e m st l = grind (arith, or-false)
-
--- a place more among others
-among : (a b c : Bool) → (b || (a || c)) ≡ (a || (b || c))
-among a b c = grind (arith, or-false)
-
-in-turn : (d a x y z u l : Bool) → ((d || a) || ((x || (y || (z || u))) || l)) ≡ (((d || (a || x)) || y) || (z || (u || l)))
-in-turn d a x y z u l = simp or_assoc refl
-
--- ---- rows
-
--- the first place from one on
-pub first-from : (row : List Bool) (place : ℕ) → holds (drop place row) 0 ≡ holds row place
-first-from row zero = refl
-first-from [] (suc place) = refl
-first-from (x ∷ row) (suc place) = first-from row place
-
 drop-one : {X : Type 0} (xs : List X) (n : ℕ) → drop 1 (drop n xs) ≡ drop (suc n) xs
 drop-one xs zero = refl
 drop-one [] (suc n) = refl
@@ -85,101 +64,131 @@ from-place [] place h = absurd (let no : ⊥ = omega arith in no)
 from-place (t ∷ ts) zero h = refl
 from-place (t ∷ ts) (suc place) h = from-place ts place (omega arith)
 
-drop-with_place : (more : Bool) (n i : ℕ) (row : List Bool) → drop n (with_place more (n + i) row) ≡ with_place more i (drop n row)
-drop-with_place true n i row = drop-set-add n row i true
-drop-with_place false n i row = refl
+-- what leads to what is reached anyhow adds nothing
+absorbed : (a k n x y r : Bool) → (x ≡ true → r ≡ true) → (y ≡ true → r ≡ true) → ((a || k) || (n || r)) ≡ (a || ((k || (n || (x || y))) || r))
+absorbed a k n x y true f g = grind (arith, or-false)
+absorbed a k n true y false f g = cc (f refl)
+absorbed a k n false true false f g = cc (g refl)
+absorbed a k n false false false f g = grind (arith, or-false)
 
-drop-raised_twice : (over wide : Bool) (n p q : ℕ) (row : List Bool) → p ≡ n + 1 → q ≡ n + 0
-    → drop n (with_place over p (with_place wide q row)) ≡ with_place over 1 (with_place wide 0 (drop n row))
-drop-raised_twice over wide n p q row e f = rw (e, f) (drop-with_place over n 1 (with_place wide (n + 0) row) ∙ ap (with_place over 1) (drop-with_place wide n 0 row))
+absorbed-end : (x y r : Bool) → (x ≡ true → r ≡ true) → (y ≡ true → r ≡ true) → ((x || y) || r) ≡ r
+absorbed-end x y true f g = grind (arith, or-false)
+absorbed-end true y false f g = cc (f refl)
+absorbed-end false true false f g = cc (g refl)
+absorbed-end false false false f g = refl
 
--- what may be left out stands before a token
-pub may-pass-next : (mode : Mode) (place : ℕ) (ts : List Token) → may_pass_over_at mode (drop place ts) ≡ true → suc place < length ts
-may-pass-next mode zero [] h = cc
-may-pass-next mode zero (t ∷ []) h = cc
-may-pass-next mode zero (t ∷ next ∷ ts) h = omega arith
-may-pass-next mode (suc place) [] h = cc
-may-pass-next mode (suc place) (t ∷ ts) h = let ih = may-pass-next mode place ts h in omega arith
+-- what may be passed over stands before a token
+over-some : (mode : Mode) (t : Token) (ts : List Token) → may_pass_over_at mode (t ∷ ts) ≡ true → 0 < length ts
+over-some mode t [] h = cc
+over-some mode t (next ∷ ts) h = omega arith
 
-pub length-with_place : (more : Bool) (place : ℕ) (row : List Bool) → length (with_place more place row) ≡ length row
-length-with_place true place row = length-set row place true
-length-with_place false place row = refl
+pub over-next : (mode : Mode) (place : ℕ) (ts : List Token) → may_pass_over_at mode (drop place ts) ≡ true → suc place < length ts
+over-next mode zero [] h = cc
+over-next mode zero (t ∷ ts) h = let some = over-some mode t ts h in omega arith
+over-next mode (suc place) [] h = cc
+over-next mode (suc place) (t ∷ ts) h = let next = over-next mode place ts h in omega arith
 
-pub length-rows_closure : (mode : Mode) (place : ℕ) (ts : List Token) (E S : List Bool) → length (rows_closure mode ts place E S) ≡ length E
-length-rows_closure mode place ts E S =
-    let once = with_place (either_holds E S place && is_wide_at (drop place ts)) (place + 1) E in
-    length-with_place (holds E place && may_pass_over_at mode (drop place ts)) (place + 2) once ∙ length-with_place (either_holds E S place && is_wide_at (drop place ts)) (place + 1) E
-
-pub holds-with_place : (more : Bool) (place other : ℕ) (row : List Bool) → other < place → holds (with_place more place row) other ≡ holds row other
-holds-with_place true place other row below = get_or-set_other row place other true false (λ e. omega arith)
-holds-with_place false place other row below = refl
+-- what follows without a byte is closed behind the first place too
+closed-behind : (mode : Mode) (t : Token) (ts : List Token) (e s : ℕ → Bool) → IsClosed mode (t ∷ ts) e s → IsClosed mode ts (λ i. e (suc i)) (λ i. s (suc i))
+closed-behind mode t ts e s closed = record {
+  next = λ i h. closed.next (suc i) (omega arith);
+  over = λ i h. closed.over (suc i) (omega arith);
+}
 
 module _ (mode : Mode) (case : Case) where
-  -- the first places alone lead to the same where the rows hold the same of them
-  pub accepts_before-same : (n : ℕ) (ts : List Token) (E F S T : List Bool) (text : List ℕ)
-      → ((i : ℕ) → i < n → holds F i ≡ holds E i) → ((i : ℕ) → i < n → holds T i ≡ holds S i)
-      → accepts_before mode case n ts F T text ≡ accepts_before mode case n ts E S text
-  accepts_before-same zero ts E F S T text e s = refl
-  accepts_before-same (suc n) ts E F S T text e s =
-      let ih = accepts_before-same n ts E F S T text (λ i h. e i (omega arith)) (λ i h. s i (omega arith)) in
-      rw (ih, e n (omega arith), s n (omega arith)) refl
+  -- A token that takes any number of bytes leads on without one.
+  within-next : (t : Token) (ts : List Token) (text : List ℕ) → is_wide t ≡ true → matches mode case ts text ≡ true → matches_within mode case (t ∷ ts) text ≡ true
+  within-next t ts [] wide match = matches_within-end mode case t ts ∙ and_from _ _ wide match
+  within-next t ts (b ∷ bs) wide match = matches_within-byte mode case t ts b bs ∙ or_left _ _ (and_from _ _ wide match)
 
-  -- the places from one on lead to what that one leads to, and those after
-  pub accepts-from : (n : ℕ) (ts : List Token) (E S : List Bool) (text : List ℕ) → n < length ts
-      → accepts mode case (drop n ts) (drop n E) (drop n S) text
-      ≡ (accepts_at mode case (drop n ts) (holds E n) (holds S n) text || accepts mode case (drop (suc n) ts) (drop (suc n) E) (drop (suc n) S) text)
-  accepts-from n ts E S text h = rw (from-place ts n h, sym (first-from E n), sym (first-from S n), sym (drop-one E n), sym (drop-one S n)) refl
-
-  -- all places lead to what the first of them lead to, and those after
-  pub accepts-split : (n : ℕ) (ts : List Token) (E S : List Bool) (text : List ℕ) → n ≤ length ts
-      → accepts mode case ts E S text ≡ (accepts_before mode case n ts E S text || accepts mode case (drop n ts) (drop n E) (drop n S) text)
-  accepts-split zero ts E S text h = refl
-  accepts-split (suc n) ts E S text h =
-      accepts-split n ts E S text (omega arith)
-      ∙ ap (λ x. accepts_before mode case n ts E S text || x) (accepts-from n ts E S text (omega arith))
-      ∙ sym (or_assoc (accepts_before mode case n ts E S text) (accepts_at mode case (drop n ts) (holds E n) (holds S n) text) (accepts mode case (drop (suc n) ts) (drop (suc n) E) (drop (suc n) S) text))
-
-  -- the first place more
-  accepts-first_raised : (more : Bool) (ts : List Token) (E S : List Bool) (text : List ℕ) → 0 < length E
-      → accepts mode case ts (with_place more 0 E) S text ≡ ((more && matches mode case ts text) || accepts mode case ts E S text)
+  -- What is come to leads to what the tokens from there match.
+  pub there : (i : ℕ) (ts : List Token) (e s : ℕ → Bool) (text : List ℕ) → i ≤ length ts → e i ≡ true → matches mode case (drop i ts) text ≡ true
+      → accepts mode case ts e s text ≡ true
   unfolding matches
-  accepts-first_raised more ts [] S text h = absurd (let no : ⊥ = omega arith in no)
-  accepts-first_raised false ts (e ∷ E) S text h = refl
-  accepts-first_raised true [] (e ∷ E) S text h = grind (arith, or-false)
-  accepts-first_raised true (t ∷ ts) (e ∷ E) S text h = here-cases e (matches mode case (t ∷ ts) text) (holds S 0 && matches_within mode case (t ∷ ts) text) (accepts mode case ts E (drop 1 S) text)
+  there zero [] e s text h on match = and_from (e 0) (is_empty text) on match
+  there zero (t ∷ ts) e s text h on match = rw (on, match) refl
+  there (suc i) [] e s text h on match = absurd (let no : ⊥ = omega arith in no)
+  there (suc i) (t ∷ ts) e s text h on match =
+      or_right (accepts_at mode case (t ∷ ts) (e 0) (s 0) text) _ (there i ts (λ j. e (suc j)) (λ j. s (suc j)) text (omega arith) on match)
 
-  -- the second place more
-  accepts-second_raised : (more : Bool) (ts : List Token) (E S : List Bool) (text : List ℕ) → (more ≡ true → 1 < length E) → (more ≡ true → 0 < length ts)
-      → accepts mode case ts (with_place more 1 E) S text ≡ ((more && matches mode case (drop 1 ts) text) || accepts mode case ts E S text)
-  accepts-second_raised false ts E S text h g = refl
-  accepts-second_raised true ts [] S text h g = absurd (let no : 1 < 0 = h refl in omega arith)
-  accepts-second_raised true [] (e ∷ E) S text h g = absurd (let no : 0 < 0 = g refl in omega arith)
-  accepts-second_raised true (t ∷ ts) (e ∷ E) S text h g =
-      let long : 1 < suc (length E) = h refl in
-      let next = accepts-first_raised true ts E (drop 1 S) text (omega arith) in
-      rw next (among (matches mode case ts text) (accepts_at mode case (t ∷ ts) e (holds S 0) text) (accepts mode case ts E (drop 1 S) text))
+  -- what stays leads to what the tokens match from within there
+  pub there-within : (i : ℕ) (ts : List Token) (e s : ℕ → Bool) (text : List ℕ) → i < length ts → s i ≡ true → matches_within mode case (drop i ts) text ≡ true
+      → accepts mode case ts e s text ≡ true
+  there-within i [] e s text h on match = absurd (let no : ⊥ = omega arith in no)
+  there-within zero (t ∷ ts) e s text h on match =
+      or_left _ (accepts mode case ts (λ i. e (suc i)) (λ i. s (suc i)) text) (or_right (e 0 && matches mode case (t ∷ ts) text) _ (and_from (s 0) _ on match))
+  there-within (suc i) (t ∷ ts) e s text h on match =
+      or_right (accepts_at mode case (t ∷ ts) (e 0) (s 0) text) _ (there-within i ts (λ j. e (suc j)) (λ j. s (suc j)) text (omega arith) on match)
 
-  -- what the places after one lead to once that one is closed
-  accepts-rows_closure : (n : ℕ) (ts : List Token) (E S : List Bool) (text : List ℕ) → n < length ts → length ts < length E
-      → accepts mode case (drop (suc n) ts) (drop (suc n) (rows_closure mode ts n E S)) (drop (suc n) S) text
-      ≡ (((either_holds E S n && is_wide_at (drop n ts)) && matches mode case (drop (suc n) ts) text)
-      || (((holds E n && may_pass_over_at mode (drop n ts)) && matches mode case (drop (suc (suc n)) ts) text)
-      || accepts mode case (drop (suc n) ts) (drop (suc n) E) (drop (suc n) S) text))
-  accepts-rows_closure n ts E S text h g =
-      let wide = either_holds E S n && is_wide_at (drop n ts) in
-      let over = holds E n && may_pass_over_at mode (drop n ts) in
-      let rest = drop (suc n) E in
-      let row = drop-raised_twice over wide (suc n) (n + 2) (n + 1) E (omega arith) (omega arith) in
-      let long : length rest ≡ length E - suc n = length-drop (suc n) E in
-      let next : over ≡ true → suc n < length ts = λ o. may-pass-next mode n ts (and_parts (holds E n) (may_pass_over_at mode (drop n ts)) o).1 in
-      let longer : over ≡ true → 1 < length (with_place wide 0 rest) = λ o. let k = next o in rw (length-with_place wide 0 rest) (omega arith) in
-      let after : over ≡ true → 0 < length (drop (suc n) ts) = λ o. let k = next o in omega (arith, length-drop (suc n) ts) in
-      let second = accepts-second_raised over (drop (suc n) ts) (with_place wide 0 rest) (drop (suc n) S) text longer after in
-      let first = accepts-first_raised wide (drop (suc n) ts) rest (drop (suc n) S) text (omega arith) in
-      let wide_leads = wide && matches mode case (drop (suc n) ts) text in
-      let over_leads = over && matches mode case (drop (suc (suc n)) ts) text in
-      let others = accepts mode case (drop (suc n) ts) rest (drop (suc n) S) text in
-      rw row (second ∙ rw (first, drop-one ts (suc n)) (among wide_leads over_leads others))
+  -- what follows from each place that leads to a text follows where one does
+  pub led : (ts : List Token) (e s : ℕ → Bool) (text : List ℕ) (q : Bool)
+      → ((i : ℕ) → i ≤ length ts → e i ≡ true → matches mode case (drop i ts) text ≡ true → q ≡ true)
+      → ((i : ℕ) → i < length ts → s i ≡ true → matches_within mode case (drop i ts) text ≡ true → q ≡ true)
+      → accepts mode case ts e s text ≡ true → q ≡ true
+  unfolding matches
+  led [] e s text q come stay leads = let parts = and_parts (e 0) (is_empty text) leads in come 0 (omega arith) parts.0 parts.1
+  led (t ∷ ts) e s text q come stay leads = elim (or_cases (accepts_at mode case (t ∷ ts) (e 0) (s 0) text) _ leads) [
+    | inl here ↦ elim (or_cases (e 0 && matches mode case (t ∷ ts) text) _ here) [
+      | inl on ↦ let parts = and_parts (e 0) _ on in come 0 (omega arith) parts.0 parts.1
+      | inr on ↦ let parts = and_parts (s 0) _ on in stay 0 (omega arith) parts.0 parts.1
+    ]
+    | inr rest ↦ led ts (λ i. e (suc i)) (λ i. s (suc i)) text q (λ i h. come (suc i) (omega arith)) (λ i h. stay (suc i) (omega arith)) rest
+  ]
+
+  -- what a place leads to without a byte leads on from it
+  next-within : (ts : List Token) (text : List ℕ) (i : ℕ) → i < length ts → is_wide_at (drop i ts) ≡ true → matches mode case (drop (suc i) ts) text ≡ true → matches_within mode case (drop i ts) text ≡ true
+  next-within ts text i h wide match =
+      let here = from-place ts i h in
+      let is : is_wide (get_or ts i Star) ≡ true = rw here at wide in
+      rw here (within-next (get_or ts i Star) (drop (suc i) ts) text is match)
+
+  next-match : (ts : List Token) (text : List ℕ) (i : ℕ) → i < length ts → is_wide_at (drop i ts) ≡ true → matches mode case (drop (suc i) ts) text ≡ true → matches mode case (drop i ts) text ≡ true
+  next-match ts text i h wide match =
+      let within = next-within ts text i h wide match in
+      let here = from-place ts i h in
+      let inside : matches_within mode case (get_or ts i Star ∷ drop (suc i) ts) text ≡ true = rw here at within in
+      rw here (comes mode case (get_or ts i Star) (drop (suc i) ts) text ∙ or_left _ _ inside)
+
+  over-match : (ts : List Token) (text : List ℕ) (i : ℕ) → i < length ts → may_pass_over_at mode (drop i ts) ≡ true → matches mode case (drop (suc (suc i)) ts) text ≡ true → matches mode case (drop i ts) text ≡ true
+  over-match ts text i h over match =
+      let here = from-place ts i h in
+      let may : may_pass_over_at mode (get_or ts i Star ∷ drop (suc i) ts) ≡ true = rw here at over in
+      rw here (comes mode case (get_or ts i Star) (drop (suc i) ts) text ∙ or_right _ _ (and_from _ _ may (rw (drop-one ts (suc i)) match)))
+
+  -- A set with what follows without a byte, and nothing else, leads to the same.
+  pub closure-accepts : (ts : List Token) (e s f : ℕ → Bool) (text : List ℕ) → Includes (length ts) f e → IsLeast mode ts e s f
+      → accepts mode case ts f s text ≡ accepts mode case ts e s text
+  closure-accepts ts e s f text includes least = both_ways (accepts mode case ts f s text) q
+      (λ leads. led ts f s text q (λ i h on match. taken i on match (least all held closed i h on)) (λ i h on match. there-within i ts e s text h on match) leads)
+      (λ leads. led ts e s text (accepts mode case ts f s text) (λ i h on match. there i ts f s text h (includes i h on) match) (λ i h on match. there-within i ts f s text h on match) leads)
+    where
+      q : Bool
+      q = accepts mode case ts e s text
+
+      -- the places that lead to no more than the set does
+      all : ℕ → Bool
+      all i = not (matches mode case (drop i ts) text) || q
+
+      taken : (i : ℕ) → f i ≡ true → matches mode case (drop i ts) text ≡ true → all i ≡ true → q ≡ true
+      taken i on match only = rw match at only
+
+      from : (i : ℕ) → (matches mode case (drop i ts) text ≡ true → q ≡ true) → all i ≡ true
+      from i leads = elim (cases_Bool (matches mode case (drop i ts) text)) [
+        | inl leading ↦ or_right (not (matches mode case (drop i ts) text)) q (leads leading)
+        | inr off ↦ or_left (not (matches mode case (drop i ts) text)) q (not_from_false _ off)
+      ]
+
+      held : Includes (length ts) all e
+      held i h on = from i (λ match. there i ts e s text h on match)
+
+      closed : IsClosed mode ts all s
+      closed = record {
+        next = λ i h on wide. from (suc i) (λ match. elim (or_cases (all i) (s i) on) [
+          | inl only ↦ rw (next-match ts text i h wide match) at only
+          | inr stays ↦ there-within i ts e s text h stays (next-within ts text i h wide match)
+        ]);
+        over = λ i h on over. from (suc (suc i)) (λ match. rw (over-match ts text i h over match) at on);
+      }
 
   -- what a place leads to at the end
   here-end : (t : Token) (ts : List Token) (e s : Bool)
@@ -198,118 +207,52 @@ module _ (mode : Mode) (case : Case) where
       rw (comes mode case t ts (b ∷ bs), matches_within-byte mode case t ts b bs)
       (byte-cases e s (is_wide t) (takes_byte mode case t b) (may_pass_over_at mode (t ∷ ts)) (matches mode case ts (b ∷ bs)) (matches_within mode case (t ∷ ts) bs) (matches mode case ts bs) (matches mode case (drop 1 ts) (b ∷ bs)))
 
-  -- Closed at one place after another, the places lead to the end where the next do.
-  pub end-step : (n : ℕ) (ts : List Token) (E S : List Bool) → n < length ts → length ts < length E
-      → accepts mode case (drop n ts) (drop n E) (drop n S) [] ≡ accepts mode case (drop (suc n) ts) (drop (suc n) (rows_closure mode ts n E S)) (drop (suc n) S) []
-  end-step n ts E S h g =
-      let here : accepts_at mode case (drop n ts) (holds E n) (holds S n) [] ≡
-      (((either_holds E S n && is_wide_at (drop n ts)) && matches mode case (drop (suc n) ts) [])
-      || ((holds E n && may_pass_over_at mode (drop n ts)) && matches mode case (drop (suc (suc n)) ts) [])) =
-      rw (from-place ts n h, sym (drop-one ts (suc n))) (here-end (get_or ts n Star) (drop (suc n) ts) (holds E n) (holds S n)) in
-      accepts-from n ts E S [] h ∙ rw here (or_assoc ((either_holds E S n && is_wide_at (drop n ts)) && matches mode case (drop (suc n) ts) [])
-      ((holds E n && may_pass_over_at mode (drop n ts)) && matches mode case (drop (suc (suc n)) ts) [])
-      (accepts mode case (drop (suc n) ts) (drop (suc n) E) (drop (suc n) S) [])) ∙ sym (accepts-rows_closure n ts E S [] h g)
-
-  -- What places lead to when a byte has been taken at the first of them: those have gone on, one place may be come to, and the others are still before the byte.
-  abbrev pub goes_on : (n : ℕ) → List Token → List Bool → List Bool → Bool → (b : ℕ) → (bs : List ℕ) → Bool
-  goes_on n ts E S arrives b bs =
-      (accepts_before mode case n ts E S bs || (arrives && matches mode case (drop n ts) bs)) || accepts mode case (drop n ts) (drop n E) (drop n S) (b ∷ bs)
-
-  module _ (n : ℕ) (ts : List Token) (E S : List Bool) (arrives stay : Bool) (h : n < length ts) (g : length ts < length E) (f : length ts ≤ length S) where
-    abbrev come : List Bool
-    come = set (rows_closure mode ts n E S) n arrives
-
-    comes-there : holds come n ≡ arrives
-    comes-there = get_or-set_same (rows_closure mode ts n E S) n arrives false (let k = length-rows_closure mode n ts E S in omega arith)
-
-    matches_within-there : holds (set S n stay) n ≡ stay
-    matches_within-there = get_or-set_same S n stay false (omega arith)
-
-    before : (text : List ℕ) → accepts_before mode case n ts come (set S n stay) text ≡ accepts_before mode case n ts E S text
-    before text = accepts_before-same n ts E come S (set S n stay) text
-        (λ i k. get_or-set_other (rows_closure mode ts n E S) n i arrives false (λ e. omega arith)
-        ∙ holds-with_place (holds E n && may_pass_over_at mode (drop n ts)) (n + 2) i _ (omega arith)
-        ∙ holds-with_place (either_holds E S n && is_wide_at (drop n ts)) (n + 1) i E (omega arith))
-        (λ i k. get_or-set_other S n i stay false (λ e. omega arith))
-
-    -- the first places and this one
-    before-there : (text : List ℕ) → accepts_before mode case (suc n) ts come (set S n stay) text
-        ≡ (accepts_before mode case n ts E S text || accepts_at mode case (drop n ts) arrives stay text)
-    before-there text = rw (before text, comes-there, matches_within-there) refl
-
-    after-come : drop (suc n) come ≡ drop (suc n) (rows_closure mode ts n E S)
-    after-come = drop-set-lt (suc n) (rows_closure mode ts n E S) n arrives (omega arith)
-
-    after-staying : drop (suc n) (set S n stay) ≡ drop (suc n) S
-    after-staying = drop-set-lt (suc n) S n stay (omega arith)
-
-  -- Visited at one place after another, the places lead to the same.
-  pub byte-step : (n : ℕ) (ts : List Token) (E S : List Bool) (arrives : Bool) (b : ℕ) (bs : List ℕ) → n < length ts → length ts < length E → length ts ≤ length S
-      → goes_on n ts E S arrives b bs
-      ≡ goes_on (suc n) ts (set (rows_closure mode ts n E S) n arrives) (set S n ((either_holds E S n && takes_at mode case (drop n ts) b) && is_wide_at (drop n ts)))
-      ((either_holds E S n && takes_at mode case (drop n ts) b) && not (is_wide_at (drop n ts))) b bs
-  byte-step n ts E S arrives b bs h g f =
-      let inside = either_holds E S n in
-      let taken = takes_at mode case (drop n ts) b in
-      let wide = is_wide_at (drop n ts) in
-      let over = holds E n && may_pass_over_at mode (drop n ts) in
-      let stay = (inside && taken) && wide in
-      let arriving = arrives && matches mode case (drop n ts) bs in
-      let kept = stay && matches_within mode case (drop n ts) bs in
-      let next = ((inside && taken) && not wide) && matches mode case (drop (suc n) ts) bs in
-      let widely = (inside && wide) && matches mode case (drop (suc n) ts) (b ∷ bs) in
-      let passing = over && matches mode case (drop (suc (suc n)) ts) (b ∷ bs) in
-      let others = accepts mode case (drop (suc n) ts) (drop (suc n) E) (drop (suc n) S) (b ∷ bs) in
-      let here : accepts_at mode case (drop n ts) (holds E n) (holds S n) (b ∷ bs) ≡ (kept || (next || (widely || passing))) =
-      rw (from-place ts n h, sym (drop-one ts (suc n))) (here-byte (get_or ts n Star) (drop (suc n) ts) (holds E n) (holds S n) b bs) in
-      rw (
-        accepts-from n ts E S (b ∷ bs) h,
-        here,
-        before-there n ts E S arrives stay h g f bs,
-        after-come n ts E S arrives stay h g f,
-        after-staying n ts E S arrives stay h g f,
-        accepts-rows_closure n ts E S (b ∷ bs) h g,
-      )
-      (in-turn (accepts_before mode case n ts E S bs) arriving kept next widely passing others)
-
-  -- Where a place is not held, it leads to nothing.
-  pub none-step : (n : ℕ) (ts : List Token) (E S : List Bool) (stay : Bool) (text : List ℕ) → n < length ts → length ts < length E → length ts ≤ length S
-      → stay ≡ false → accepts_before mode case n ts E S text ≡ false
-      → accepts_before mode case (suc n) ts (set (rows_closure mode ts n E S) n false) (set S n stay) text ≡ false
-  none-step n ts E S stay text h g f e none = before-there n ts E S false stay h g f text ∙ rw (none, e) refl
-
-  -- after all tokens only the end is led to
-  pub accepts-after : (ts : List Token) (E S : List Bool) (text : List ℕ) → accepts mode case (drop (length ts) ts) E S text ≡ (holds E 0 && is_empty text)
-  accepts-after ts E S text = rw (drop-length ts) refl
-
-  pub matches-after : (ts : List Token) (text : List ℕ) → matches mode case (drop (length ts) ts) text ≡ is_empty text
+  -- Where what follows without a byte is come to, the places that a byte leads to lead to what the old ones lead to before it.
+  pub step-accepts : (ts : List Token) (e s f g : ℕ → Bool) (b : ℕ) (bs : List ℕ) → IsClosed mode ts e s
+      → ((i : ℕ) → i < length ts → f (suc i) ≡ (((e i || s i) && takes_at mode case (drop i ts) b) && not (is_wide_at (drop i ts))))
+      → ((i : ℕ) → i < length ts → g i ≡ (((e i || s i) && takes_at mode case (drop i ts) b) && is_wide_at (drop i ts)))
+      → accepts mode case ts f g bs ≡ ((f 0 && matches mode case ts bs) || accepts mode case ts e s (b ∷ bs))
   unfolding matches
-  matches-after ts text = rw (drop-length ts) refl
+  step-accepts [] e s f g b bs closed moves stays = grind (arith, or-false)
+  step-accepts (t ∷ ts) e s f g b bs closed moves stays =
+      let rest = step-accepts ts (λ i. e (suc i)) (λ i. s (suc i)) (λ i. f (suc i)) (λ i. g (suc i)) b bs (closed-behind mode t ts e s closed)
+      (λ i h. moves (suc i) (omega arith)) (λ i h. stays (suc i) (omega arith)) in
+      rw (rest, moves 0 (omega arith), stays 0 (omega arith), here-byte t ts (e 0) (s 0) b bs)
+      (absorbed (f 0 && matches mode case (t ∷ ts) bs) _ _ _ _ (accepts mode case ts (λ i. e (suc i)) (λ i. s (suc i)) (b ∷ bs))
+      (λ on. let parts = and_parts ((e 0 || s 0) && is_wide t) (matches mode case ts (b ∷ bs)) on in
+      let held = and_parts (e 0 || s 0) (is_wide t) parts.0 in
+      there 0 ts (λ i. e (suc i)) (λ i. s (suc i)) (b ∷ bs) (omega arith) (closed.next 0 (omega arith) held.0 held.1) parts.1)
+      (λ on. let parts = and_parts (e 0 && may_pass_over_at mode (t ∷ ts)) (matches mode case (drop 1 ts) (b ∷ bs)) on in
+      let held = and_parts (e 0) (may_pass_over_at mode (t ∷ ts)) parts.0 in
+      there 1 ts (λ i. e (suc i)) (λ i. s (suc i)) (b ∷ bs) (let some = over-some mode t ts held.1 in omega arith) (closed.over 0 (omega arith) held.0 held.1) parts.1))
 
-  pub accepts-end_come : (ts : List Token) (E S : List Bool) (arrives : Bool) (text : List ℕ) → length ts < length E
-      → accepts mode case ts (set E (length ts) arrives) S text ≡ (accepts_before mode case (length ts) ts E S text || (arrives && is_empty text))
-  accepts-end_come ts E S arrives text g =
-      let n = length ts in
-      let come = set E n arrives in
-      let same : accepts_before mode case n ts come S text ≡ accepts_before mode case n ts E S text =
-      accepts_before-same n ts E come S S text (λ i k. get_or-set_other E n i arrives false (λ e. omega arith)) (λ i k. refl) in
-      let there : holds (drop n come) 0 ≡ arrives = first-from come n ∙ get_or-set_same E n arrives false g in
-      accepts-split n ts come S text (omega arith) ∙ rw (same, accepts-after ts (drop n come) (drop n S) text, there) refl
+  -- Where what follows without a byte is come to, places lead to the end where the last is come to.
+  pub end-accepts : (ts : List Token) (e s : ℕ → Bool) → IsClosed mode ts e s → accepts mode case ts e s [] ≡ e (length ts)
+  end-accepts [] e s closed = and-true (e 0)
+  end-accepts (t ∷ ts) e s closed =
+      let rest = end-accepts ts (λ i. e (suc i)) (λ i. s (suc i)) (closed-behind mode t ts e s closed) in
+      rw (here-end t ts (e 0) (s 0))
+      (absorbed-end _ _ (accepts mode case ts (λ i. e (suc i)) (λ i. s (suc i)) [])
+      (λ on. let parts = and_parts ((e 0 || s 0) && is_wide t) (matches mode case ts []) on in
+      let held = and_parts (e 0 || s 0) (is_wide t) parts.0 in
+      there 0 ts (λ i. e (suc i)) (λ i. s (suc i)) [] (omega arith) (closed.next 0 (omega arith) held.0 held.1) parts.1)
+      (λ on. let parts = and_parts (e 0 && may_pass_over_at mode (t ∷ ts)) (matches mode case (drop 1 ts) []) on in
+      let held = and_parts (e 0) (may_pass_over_at mode (t ∷ ts)) parts.0 in
+      there 1 ts (λ i. e (suc i)) (λ i. s (suc i)) [] (let some = over-some mode t ts held.1 in omega arith) (closed.over 0 (omega arith) held.0 held.1) parts.1)
+      ∙ rest)
 
-  -- Once all places are closed, they lead to the end where the last is come to.
-  pub end-end : (ts : List Token) (E S : List Bool) → accepts mode case (drop (length ts) ts) (drop (length ts) E) (drop (length ts) S) [] ≡ holds E (length ts)
-  end-end ts E S = accepts-after ts (drop (length ts) E) (drop (length ts) S) [] ∙ rw (first-from E (length ts)) (and-true (holds E (length ts)))
-
-  -- rows that hold no place lead to nothing
-  accepts-none : (ts : List Token) (R Q : List Bool) (text : List ℕ)
-      → accepts mode case ts (replicate (suc (length ts)) false ++ R) (replicate (length ts) false ++ Q) text ≡ false
-  accepts-none [] R Q text = refl
-  accepts-none (t ∷ ts) R Q text = accepts-none ts R Q text
+  -- where no place is held, none leads to a text
+  pub none-accepts : (ts : List Token) (e s : ℕ → Bool) (text : List ℕ) → ((i : ℕ) → i ≤ length ts → e i ≡ false) → ((i : ℕ) → i < length ts → s i ≡ false)
+      → accepts mode case ts e s text ≡ false
+  none-accepts [] e s text none stays = rw (none 0 (omega arith)) refl
+  none-accepts (t ∷ ts) e s text none stays =
+      rw (none 0 (omega arith), stays 0 (omega arith), none-accepts ts (λ i. e (suc i)) (λ i. s (suc i)) text (λ i h. none (suc i) (omega arith)) (λ i h. stays (suc i) (omega arith))) refl
 
   -- Where the first place alone is come to, it leads to what the tokens match.
-  pub begin-accepts : (ts : List Token) (R Q : List Bool) (text : List ℕ)
-      → accepts mode case ts (set (replicate (length ts + 1) false ++ R) 0 true) (replicate (length ts) false ++ Q) text ≡ matches mode case ts text
+  pub begin-accepts : (ts : List Token) (e s : ℕ → Bool) (text : List ℕ) → e 0 ≡ true → ((i : ℕ) → 0 < i → i ≤ length ts → e i ≡ false)
+      → ((i : ℕ) → i < length ts → s i ≡ false) → accepts mode case ts e s text ≡ matches mode case ts text
   unfolding matches
-  begin-accepts [] R Q text = refl
-  begin-accepts (t ∷ ts) R Q text =
-      rw (add-one (suc (length ts)), accepts-none ts R Q text, or-false (matches mode case (t ∷ ts) text), or-false (matches mode case (t ∷ ts) text)) refl
+  begin-accepts [] e s text on none stays = rw on refl
+  begin-accepts (t ∷ ts) e s text on none stays =
+      rw (on, stays 0 (omega arith), none-accepts ts (λ i. e (suc i)) (λ i. s (suc i)) text (λ i h. none (suc i) (omega arith) (omega arith)) (λ i h. stays (suc i) (omega arith)))
+      (or-false _ ∙ or-false (matches mode case (t ∷ ts) text))

@@ -1,9 +1,9 @@
 -- The places that a number holds.
 use Rattle.std.proofs.Common.{◌≡◌, ℕ, zero, suc, ◌+◌, ◌-◌, ◌*◌, ◌/◌, ◌%◌, ◌^◌, ◌<◌, true, false, not, ◌&&◌, ◌||◌, refl, sym, ◌∙◌, ap, arith, ◌==◌, min, max, inl, inr, w64}
-use Rattle.std.proofs.Math.Bool.{or-false}
+use Rattle.std.proofs.Math.Bool.{or-false, and-true, and_self}
 use Rattle.std.proofs.Math.Nat.{div-div-eq-div-mul}
 use Rattle.std.proofs.lemmas.Nat.{pow-add}
-use Rattle.std.proofs.lemmas.Bool.{cases_eq}
+use Rattle.std.proofs.lemmas.Bool.{cases_eq, eq-eqb, ne_eqb}
 use Rattle.std.specs.Int.Count.{count_trailing_zeros}
 use Rattle.std.specs.Int.{bit_at, bit_not}
 use Rattle.std.specs.Int.Bits.{bit_and}
@@ -92,3 +92,38 @@ below-lowest n i fits h = elim (cases_eq n 0) [
   | inl e ↦ rw e (has-zero i)
   | inr d ↦ ap (λ x. x == 1) ((bit_at-trailing_zeros w64 n (omega arith) fits).2 i h)
 ]
+
+same-sucs : (i k : ℕ) → (suc i == suc k) ≡ (i == k)
+same-sucs i k = elim (cases_eq i k) [
+  | inl e ↦ rw (eq-eqb (suc i) (suc k) (ap suc e), eq-eqb i k e) refl
+  | inr d ↦ rw (ne_eqb (suc i) (suc k) (λ e. d (omega (arith, e))), ne_eqb i k d) refl
+]
+
+-- a number without its lowest bit
+without-bit : (n k i : ℕ) → bit_at n k ≡ 1 → ((j : ℕ) → j < k → bit_at n j ≡ 0) → (has n i && has (n - 1) i) ≡ (has n i && not (i == k))
+without-bit n zero zero at below =
+    let odd : n % 2 ≡ 1 = sym (bit_at_lowest n) ∙ at in
+    let low : bit_at (n - 1) 0 ≡ 0 = bit_at_lowest (n - 1) ∙ omega (arith, odd) in
+    rw (at, low) refl
+without-bit n zero (suc i) at below =
+    let odd : n % 2 ≡ 1 = sym (bit_at_lowest n) ∙ at in
+    let half : (n - 1) / 2 ≡ n / 2 = omega (arith, odd) in
+    let off : suc i ≡ 0 → ⊥ = λ e. (let no : ⊥ = omega (arith, e) in no) in
+    rw (bit_at-suc n i, bit_at-suc (n - 1) i, half, ne_eqb (suc i) 0 off) (and_self (has (n / 2) i) ∙ sym (and-true (has (n / 2) i)))
+without-bit n (suc k) zero at below = rw (below 0 (omega arith)) refl
+without-bit n (suc k) (suc i) at below =
+    let even : n % 2 ≡ 0 = sym (bit_at_lowest n) ∙ below 0 (omega arith) in
+    let half : (n - 1) / 2 ≡ n / 2 - 1 = omega (arith, even) in
+    rw (bit_at-suc n i, bit_at-suc (n - 1) i, half, same-sucs i k)
+    (without-bit (n / 2) k i (sym (bit_at-suc n k) ∙ at) (λ j h. sym (bit_at-suc n j) ∙ below (suc j) (omega arith)))
+
+pub without-lowest : (n i : ℕ) → 0 < n → n < 2 ^ 64 → has (bit_and n (n - 1)) i ≡ (has n i && not (i == count_trailing_zeros 64 n))
+without-lowest n i some fits =
+    let lowest = bit_at-trailing_zeros w64 n some fits in
+    has-and n (n - 1) i ∙ without-bit n (count_trailing_zeros 64 n) i lowest.1 lowest.2
+
+-- the lowest bit stands
+pub lowest-stands : (n : ℕ) → 0 < n → n < 2 ^ 64 → (count_trailing_zeros 64 n < 64) × (has n (count_trailing_zeros 64 n) ≡ true)
+lowest-stands n some fits =
+    let lowest = bit_at-trailing_zeros w64 n some fits in
+    (lowest.0, ap (λ x. x == 1) lowest.1)

@@ -7,9 +7,10 @@ pub mod PartProofs
 pub mod EndProofs
 pub mod PlaceProofs
 pub mod AcceptProofs
-pub mod WindowProofs
 pub mod BitProofs
 pub mod RowProofs
+pub mod ClosureProofs
+pub mod StepProofs
 pub mod CellProofs
 pub mod TokenCells
 pub mod WordProofs

@@ -1,15 +1,14 @@
 -- Rows of words.
-use Rattle.std.proofs.Common.{◌≡◌, ℕ, ◌+◌, ◌-◌, ◌*◌, ◌/◌, ◌%◌, ◌^◌, ◌<◌, ◌≤◌, Bool, true, false, refl, sym, ◌∙◌, ap, arith, List, length, get_or, set, take, drop, replicate, ◌++◌, ◌==◌, ◌||◌, min, inl, inr, if◌then◌else◌, bit_and, bit_or}
+use Rattle.std.proofs.Common.{◌≡◌, ℕ, ◌+◌, ◌-◌, ◌*◌, ◌/◌, ◌%◌, ◌^◌, ◌<◌, ◌≤◌, Bool, true, false, refl, sym, ◌∙◌, ap, arith, List, length, get_or, set, take, drop, replicate, ◌++◌, ◌==◌, inl, inr, if◌then◌else◌, bit_and, bit_or}
 use Rattle.std.proofs.Common.{w64}
-use Rattle.std.proofs.lemmas.Bool.{cases_eq, cases_lt, eq-eqb, ne_eqb, or_parts, or_from}
+use Rattle.std.proofs.lemmas.Bool.{cases_eq, cases_lt, eq-eqb, ne_eqb}
 use Rattle.std.proofs.lemmas.List.{same_lists, length-set, get_or-set_same, get_or-set_other, get_or-take, length-take-le, get_or_append_left, get_or-replicate, length-replicate, get_or_past}
 use Rattle.std.proofs.lemmas.List.FromFn.{length-map-range_with_len, get_or-map-range_with_len}
-use Rattle.std.proofs.lemmas.Nat.{div-add-mod', mod_below, div_below, or_lt}
-use Rattle.std.specs.Int.Count.{count_trailing_zeros}
+use Rattle.std.proofs.lemmas.Nat.{div-add-mod', mod_below, div_below}
 use Rattle.std.proofs.lemmas.Nat.Bits.{bit_at_set_same, bit_at_set_other, bit_at_clear_same, bit_at_clear_other}
 use Rattle.pathspec_glob.specs.GlobCells.{has}
 use Rattle.pathspec_glob.specs.GlobRows.{holds, words_hold, row_of}
-use Rattle.pathspec_glob.proofs.BitProofs.{has-zero, has-or, has-shr, below-lowest}
+use Rattle.pathspec_glob.proofs.BitProofs.{has-zero}
 
 pub put-true : (n k i : ℕ) → k < 64 → i < 64 → has (bit_or n (1 * 2 ^ k % 18446744073709551616)) i ≡ (if i == k then true else has n i)
 put-true n k i h g = elim (cases_eq i k) [
@@ -102,29 +101,29 @@ row_of-none places =
     ∙ none-held words k (get_or-replicate (places / 64 + 1) (k / 64) 0 0 at)
     ∙ sym (get_or-replicate places k false d low))
 
--- the values of a row from a place on
-pub row_of-from : (words : List ℕ) (places place i word : ℕ) → word ≡ get_or words (place / 64) 0 → place % 64 + i < 64 → place + i < places
-    → has (word / 2 ^ (place % 64)) i ≡ holds (row_of words places) (place + i)
-row_of-from words places place i word is low within =
-    let whole : (place + i) / 64 ≡ place / 64 = omega arith in
-    let part : (place + i) % 64 ≡ place % 64 + i = omega arith in
-    has-shr word (place % 64) i ∙ sym (row_of-holds words places (place + i) within ∙ rw (whole, part, is) refl)
+-- A word where a row may end is one of its words.
+pub word-within : (words : List ℕ) (places : ℕ) (row : List Bool) (index : ℕ) → row_of words places ≡ row → index * 64 ≤ length row → index < places / 64 + 1
+word-within words places row index is within =
+    let low : index * 64 ≤ places = omega (arith, within, ap length is, length-row_of words places) in
+    omega (arith, low)
 
--- no value before the lowest bit of two rows' words is true
-pub none-before : (E S : List Bool) (place entered staying from : ℕ) → entered < 2 ^ 64 → staying < 2 ^ 64
-    → ((i : ℕ) → place % 64 + i < 64 → place + i < length E → has entered i ≡ holds E (place + i)) → ((i : ℕ) → place % 64 + i < 64 → place + i < length S → has staying i ≡ holds S (place + i))
-    → from ≡ min (count_trailing_zeros 64 (bit_or entered staying)) (64 - place % 64)
-    → (i : ℕ) → place ≤ i → i < place + from → (holds E i || holds S i) ≡ false
-none-before E S place entered staying from e s es ss is i least most =
-    let j = i - place in
-    let there : place + j ≡ i = omega arith in
-    let low : j < count_trailing_zeros 64 (bit_or entered staying) = omega arith in
-    let word : place % 64 + j < 64 = omega arith in
-    let off = or_parts (has entered j) (has staying j) (sym (has-or entered staying j) ∙ below-lowest (bit_or entered staying) j (or_lt 64 entered staying e s) low) in
-    or_from (holds E i) (holds S i) (off-there E j entered there (es j word) off.0) (off-there S j staying there (ss j word) off.1)
-  where
-    off-there : (row : List Bool) (j word : ℕ) → place + j ≡ i → (place + j < length row → has word j ≡ holds row (place + j)) → has word j ≡ false → holds row i ≡ false
-    off-there row j word there holds_are off = elim (cases_lt i (length row)) [
-      | inl l ↦ rw (sym there) (sym (holds_are (omega arith)) ∙ off)
-      | inr g ↦ get_or_past row i false g
-    ]
+-- a row with one word put anew holds that word's places there
+pub put-word-there : (words : List ℕ) (places index i word : ℕ) → index < length words → i < 64 → index * 64 + i < places
+    → holds (row_of (set words index word) places) (index * 64 + i) ≡ has word i
+put-word-there words places index i word at low within =
+    let whole : (index * 64 + i) / 64 ≡ index = omega (arith, low) in
+    let part : (index * 64 + i) % 64 ≡ i = omega (arith, low) in
+    row_of-holds (set words index word) places (index * 64 + i) within
+    ∙ rw (whole, part, get_or-set_same words index word 0 at) refl
+
+-- and its other places as before
+pub put-word-other : (words : List ℕ) (places index i word : ℕ) → (i / 64 ≡ index → ⊥)
+    → holds (row_of (set words index word) places) i ≡ holds (row_of words places) i
+put-word-other words places index i word other = elim (cases_lt i places) [
+  | inl l ↦
+      row_of-holds (set words index word) places i l
+      ∙ rw (get_or-set_other words index (i / 64) word 0 other) (sym (row_of-holds words places i l))
+  | inr g ↦
+      get_or_past (row_of (set words index word) places) i false (omega (arith, g, length-row_of (set words index word) places))
+      ∙ sym (get_or_past (row_of words places) i false (omega (arith, g, length-row_of words places)))
+]

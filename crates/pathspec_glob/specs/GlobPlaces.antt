@@ -1,12 +1,14 @@
 -- Places in the tokens of a glob: a place is before a token that has just been come to, or within one that has taken bytes and may take more.
-use Rattle.std.specs.Prelude.{◌≡◌, ◌<◌, ◌≤◌, nat_lt, ℕ, zero, suc, ◌+◌, ◌^◌, Bool, true, false, not, ◌&&◌, ◌||◌, List, [], ◌∷◌, set, drop, ◌==◌, if◌then◌else◌, length}
+use Rattle.std.specs.Prelude.{◌≡◌, ◌<◌, ◌≤◌, nat_lt, ℕ, zero, suc, ◌+◌, ◌-◌, ◌*◌, ◌^◌, Bool, true, false, not, ◌&&◌, ◌||◌, List, [], ◌∷◌, drop, ◌==◌, length}
 use Rattle.pathspec_glob.specs.declared.Mode.{Mode}
 use Rattle.pathspec_glob.specs.declared.Case.{Case}
 use Rattle.pathspec_glob.specs.declared.places.Places.{Places}
+use Rattle.pathspec_glob.specs.declared.places.moves.EmptyMoves.{EmptyMoves}
 use Rattle.pathspec_glob.specs.Bytes.{slash, is_empty}
 use Rattle.pathspec_glob.specs.Tokens.{Token}
 use Rattle.pathspec_glob.specs.Tokens.Token.{One, Star, Deep}
 use Rattle.pathspec_glob.specs.GlobRelation.{matches, takes_first, some_suffix, takes}
+use Rattle.pathspec_glob.specs.GlobCells.{has}
 use Rattle.pathspec_glob.specs.GlobRows.{holds}
 use Rattle.pathspec_glob.specs.GlobSteps.{TokenList, is_wide_at, may_pass_over_at, token_takes}
 
@@ -17,46 +19,55 @@ matches_within mode case (One single ∷ ts) text = takes_first (takes mode case
 matches_within mode case (Star ∷ ts) text = some_suffix (λ b. not (b == slash)) (matches mode case ts) text
 matches_within mode case (Deep ∷ ts) text = some_suffix (λ b. true) (matches mode case ts) text
 
--- one of two rows holds the first place, and from there the tokens match the text
+-- one of two sets holds the first place, and from there the tokens match the text
 abbrev pub accepts_at : Mode → Case → List Token → Bool → Bool → List ℕ → Bool
 accepts_at mode case ts entered staying text = (entered && matches mode case ts text) || (staying && matches_within mode case ts text)
 
--- From some place of the two rows, the tokens match the text.
-abbrev pub accepts : Mode → Case → List Token → List Bool → List Bool → List ℕ → Bool
-accepts mode case [] entered staying text = holds entered 0 && is_empty text
+-- From some place that is come to, or whose token stays, the tokens match the text.
+abbrev pub accepts : Mode → Case → List Token → (ℕ → Bool) → (ℕ → Bool) → List ℕ → Bool
+accepts mode case [] entered staying text = entered 0 && is_empty text
 accepts mode case (t ∷ ts) entered staying text =
-    accepts_at mode case (t ∷ ts) (holds entered 0) (holds staying 0) text || accepts mode case ts (drop 1 entered) (drop 1 staying) text
+    accepts_at mode case (t ∷ ts) (entered 0) (staying 0) text || accepts mode case ts (λ i. entered (suc i)) (λ i. staying (suc i)) text
 
--- the same of the first places alone
-abbrev pub accepts_before : Mode → Case → ℕ → List Token → List Bool → List Bool → List ℕ → Bool
-accepts_before mode case zero ts entered staying text = false
-accepts_before mode case (suc n) ts entered staying text =
-    accepts_before mode case n ts entered staying text || accepts_at mode case (drop n ts) (holds entered n) (holds staying n) text
+-- ---- what follows without a byte
 
--- the place is come to, or within its token
-abbrev pub either_holds : List Bool → List Bool → ℕ → Bool
-either_holds entered staying place = holds entered place || holds staying place
+-- what each place before this one leads to without a byte is come to
+pub record IsClosedBefore (end : ℕ) (mode : Mode) (ts : List Token) (entered staying : ℕ → Bool) : Type 0 where
+  pub next : (i : ℕ) → i < end → (entered i || staying i) ≡ true → is_wide_at (drop i ts) ≡ true → entered (suc i) ≡ true
+  pub over : (i : ℕ) → i < end → entered i ≡ true → may_pass_over_at mode (drop i ts) ≡ true → entered (suc (suc i)) ≡ true
 
--- the row with a place more
-abbrev pub with_place : Bool → ℕ → List Bool → List Bool
-with_place more place row = if more then set row place true else row
+-- what places lead to without a byte is come to
+abbrev pub IsClosed : Mode → List Token → (ℕ → Bool) → (ℕ → Bool) → Type 0
+IsClosed mode ts entered staying = IsClosedBefore (length ts) mode ts entered staying
 
--- the places that are come to once those that the token at this place leads to without a byte are too
-abbrev pub rows_closure : Mode → List Token → ℕ → List Bool → List Bool → List Bool
-rows_closure mode ts place entered staying =
-    with_place (holds entered place && may_pass_over_at mode (drop place ts)) (place + 2) (with_place (either_holds entered staying place && is_wide_at (drop place ts)) (place + 1) entered)
+-- the places of so many tokens that one set holds are held by the other
+abbrev pub Includes : ℕ → (ℕ → Bool) → (ℕ → Bool) → Type 0
+Includes tokens more set = (i : ℕ) → i ≤ tokens → set i ≡ true → more i ≡ true
 
--- no place before the first or from the end on is held, in rows for so many tokens
+-- The places are come to in whatever includes the others and what places lead to without a byte.
+abbrev pub IsLeast : Mode → List Token → (ℕ → Bool) → (ℕ → Bool) → (ℕ → Bool) → Type 0
+IsLeast mode ts entered staying closure =
+    (all : ℕ → Bool) → Includes (length ts) all entered → IsClosed mode ts all staying → Includes (length ts) all closure
+
+-- places of a word lead to others of it without a byte, where it says which lead to the next and which to the one behind that
+pub record IsClosedWord (staying wide overs : ℕ) (places : ℕ → Bool) : Type 0 where
+  pub next : (i : ℕ) → suc i < 64 → (places i || has staying i) ≡ true → has wide i ≡ true → places (suc i) ≡ true
+  pub over : (i : ℕ) → suc (suc i) < 64 → places i ≡ true → has overs i ≡ true → places (suc (suc i)) ≡ true
+
+-- ---- sets of places in rows
+
+-- no place before the first word or from the last on is held, in rows for so many tokens
 pub record HoldsWithin (tokens first end : ℕ) (entered staying : List Bool) : Type 0 where
-  pub within : first ≤ tokens
-  pub before_entered : (i : ℕ) → i < first → holds entered i ≡ false
-  pub before_staying : (i : ℕ) → i < first → holds staying i ≡ false
-  pub after_entered : (i : ℕ) → end ≤ i → i ≤ tokens → holds entered i ≡ false
-  pub after_staying : (i : ℕ) → end ≤ i → i < tokens → holds staying i ≡ false
+  pub order : first ≤ end
+  pub within : end * 64 ≤ tokens + 64
+  pub before_entered : (i : ℕ) → i < first * 64 → holds entered i ≡ false
+  pub before_staying : (i : ℕ) → i < first * 64 → holds staying i ≡ false
+  pub after_entered : (i : ℕ) → end * 64 ≤ i → i ≤ tokens → holds entered i ≡ false
+  pub after_staying : (i : ℕ) → end * 64 ≤ i → i < tokens → holds staying i ≡ false
 
--- the end of the places that are held, once those are come to that one leads on to without a byte, if any
-abbrev pub closure_end : Bool → ℕ → ℕ → ℕ
-closure_end leads place end = if leads && nat_lt end (place + 3) then place + 3 else end
+-- a row, with places of a carry besides, the first of which stands where this word begins
+abbrev pub with_carry : ℕ → ℕ → List Bool → ℕ → Bool
+with_carry index carry row i = holds row i || (not (nat_lt i (index * 64)) && has carry (i - index * 64))
 
 -- ---- the same of a set of places
 
@@ -82,25 +93,21 @@ pub record KeepsRoom (old new : Places) : Type 0 where
   pub entered : length new.entered ≡ length old.entered
   pub staying : length new.staying ≡ length old.staying
 
--- the set holds no place before its first or from its end on
+-- the set holds no place before its first word or from its end on
 abbrev pub IsBounded : ℕ → Places → Type 0
 IsBounded tokens places = HoldsWithin tokens places.first places.end places.entered places.staying
 
 -- the set holds the place
 abbrev pub is_held : Places → ℕ → Bool
-is_held places place = either_holds places.entered places.staying place
+is_held places place = holds places.entered place || holds places.staying place
 
--- the place is held, and leads to the next without a byte
-abbrev pub leads_on : TokenList → Places → ℕ → Bool
-leads_on parts places place = is_held places place && is_wide_at (drop place parts.tokens)
-
--- no place from one up to another is held
-abbrev pub IsUnheld : Places → ℕ → ℕ → Type 0
-IsUnheld places from end = (i : ℕ) → from ≤ i → i < end → is_held places i ≡ false
+-- the set holds none of the places of these many tokens
+abbrev pub HoldsNone : ℕ → Places → Type 0
+HoldsNone tokens places = (i : ℕ) → i < tokens → is_held places i ≡ false
 
 -- from some place of the set, the tokens match the text
 abbrev pub places_accept : TokenList → Case → Places → List ℕ → Bool
-places_accept parts case places text = accepts parts.mode case parts.tokens places.entered places.staying text
+places_accept parts case places text = accepts parts.mode case parts.tokens (holds places.entered) (holds places.staying) text
 
 -- the places lead to just what the tokens match
 abbrev pub AcceptsFromStart : TokenList → Places → Type 0
@@ -116,28 +123,60 @@ abbrev pub AcceptsAfterByte : TokenList → Case → Places → Places → ℕ �
 AcceptsAfterByte parts case old new b =
     (bs : List ℕ) → places_accept parts case new bs ≡ places_accept parts case old (b ∷ bs)
 
--- the places that are come to once those that the token at this place leads to without a byte are too
-abbrev pub closure_at : TokenList → ℕ → Places → List Bool
-closure_at parts place places = rows_closure parts.mode parts.tokens place places.entered places.staying
+-- the moves are those of the tokens: which take any number of bytes, and which may be passed over with the next
+pub record IsMovesOf (parts : TokenList) (moves : EmptyMoves) : Type 0 where
+  pub len : length moves.wide ≡ length parts.tokens
+  pub wide : (i : ℕ) → i < length parts.tokens → holds moves.wide i ≡ is_wide_at (drop i parts.tokens)
+  pub overs : (i : ℕ) → i < length parts.tokens → holds moves.overs i ≡ may_pass_over_at parts.mode (drop i parts.tokens)
 
--- the byte leads from this place to the next
-abbrev pub moves_on : TokenList → Case → Places → ℕ → ℕ → Bool
-moves_on parts case places place b =
-    is_held places place && token_takes parts case place b && not (is_wide_at (drop place parts.tokens))
+-- The new set has what the old one has, what places lead to without a byte, and nothing else.
+pub record IsClosureOf (parts : TokenList) (old new : Places) : Type 0 where
+  pub includes : Includes (length parts.tokens) (holds new.entered) (holds old.entered)
+  pub closed : IsClosed parts.mode parts.tokens (holds new.entered) (holds old.staying)
+  pub least : IsLeast parts.mode parts.tokens (holds old.entered) (holds old.staying) (holds new.entered)
+  pub staying : new.staying ≡ old.staying
+
+-- the same of one word of it, where what other words were led to by those before and after is carried
+pub record ClosesWord (parts : TokenList) (index before after : ℕ) (old new : Places) : Type 0 where
+  pub includes : Includes (length parts.tokens) (with_carry (suc index) after new.entered) (with_carry index before old.entered)
+  pub closed : IsClosedBefore (index * 64) parts.mode parts.tokens (with_carry index before old.entered) (holds old.staying)
+      → IsClosedBefore (suc index * 64) parts.mode parts.tokens (with_carry (suc index) after new.entered) (holds old.staying)
+  pub least : IsLeast parts.mode parts.tokens (with_carry index before old.entered) (holds old.staying) (with_carry (suc index) after new.entered)
+
+-- the set is the other, but for which places of one word are come to
+pub record IsSameBut (index : ℕ) (old new : Places) : Type 0 where
+  pub before : (i : ℕ) → i < index * 64 → holds new.entered i ≡ holds old.entered i
+  pub behind : (i : ℕ) → suc index * 64 ≤ i → holds new.entered i ≡ holds old.entered i
+  pub entered : length new.entered ≡ length old.entered
+  pub staying : new.staying ≡ old.staying
+  pub first : new.first ≡ old.first
+  pub end : new.end ≡ old.end
+
+-- the byte leads to this place from the one before
+abbrev pub arrives : TokenList → Case → Places → ℕ → ℕ → Bool
+arrives parts case places b zero = false
+arrives parts case places b (suc i) = (is_held places i && token_takes parts case i b) && not (is_wide_at (drop i parts.tokens))
 
 -- after the byte, the token at this place may take more
-abbrev pub moves_within : TokenList → Case → Places → ℕ → ℕ → Bool
-moves_within parts case places place b =
-    is_held places place && token_takes parts case place b && is_wide_at (drop place parts.tokens)
+abbrev pub stays : TokenList → Case → Places → ℕ → ℕ → Bool
+stays parts case places b i = (is_held places i && token_takes parts case i b) && is_wide_at (drop i parts.tokens)
 
--- the places that are come to, and those whose tokens stay, once this place has taken a byte
-abbrev pub entered_after : TokenList → ℕ → Bool → Places → List Bool
-entered_after parts place arrives places = set (closure_at parts place places) place arrives
+-- the new set has what the byte leads to from the places of the old one
+pub record TakesByte (parts : TokenList) (case : Case) (old new : Places) (b : ℕ) : Type 0 where
+  pub entered : (i : ℕ) → i ≤ length parts.tokens → holds new.entered i ≡ arrives parts case old b i
+  pub staying : (i : ℕ) → i < length parts.tokens → holds new.staying i ≡ stays parts case old b i
 
-abbrev pub staying_after : TokenList → Case → ℕ → ℕ → Places → List Bool
-staying_after parts case place b places =
-    set places.staying place (moves_within parts case places place b)
-
--- the steps that a place takes on one byte
-abbrev pub steps_at : Places → ℕ → ℕ
-steps_at places place = if is_held places place then 1 else 0
+-- a word of the set has what was taken in it, and what arrives from the word before
+pub record PutsTaken (index taken wide carry : ℕ) (old new : Places) : Type 0 where
+  pub first : index * 64 < length old.entered → holds new.entered (index * 64) ≡ has carry 0
+  pub entered : (i : ℕ) → suc i < 64 → index * 64 + suc i < length old.entered
+      → holds new.entered (index * 64 + suc i) ≡ (has taken i && not (has wide i))
+  pub staying : (i : ℕ) → i < 64 → index * 64 + i < length old.staying
+      → holds new.staying (index * 64 + i) ≡ (has taken i && has wide i)
+  pub before_entered : (i : ℕ) → i < index * 64 → holds new.entered i ≡ holds old.entered i
+  pub before_staying : (i : ℕ) → i < index * 64 → holds new.staying i ≡ holds old.staying i
+  pub behind_entered : (i : ℕ) → suc index * 64 ≤ i → holds new.entered i ≡ holds old.entered i
+  pub behind_staying : (i : ℕ) → suc index * 64 ≤ i → holds new.staying i ≡ holds old.staying i
+  pub room : KeepsRoom old new
+  pub from : new.first ≡ old.first
+  pub end : new.end ≡ old.end

@@ -8,5 +8,6 @@ pub mod GlobCells
 pub mod GlobWords
 pub mod GlobRows
 pub mod GlobPlaces
+pub mod GlobWays
 pub mod Globs
 pub mod Counts

@@ -6,7 +6,8 @@ ghost use Rattle.pathspec_glob.specs.GlobPlaces.{HasRoom, KeepsRoom};
 
 use crate::Case;
 use crate::places::Places;
-use crate::tokens::word::{Ran, Word};
+use crate::places::moves::EmptyMoves;
+use crate::tokens::word::{Answer, Word};
 use crate::tokens::{Steps, Tokens};
 use std::alloc::{AllocError, Global};
 use std::marker::Model;
@@ -15,20 +16,29 @@ use std::marker::Model;
 #[derive(Debug, Drop)]
 pub struct Middle {
     tokens: Tokens,
-    /// The same as words, where their places fit one and the first token alone doesn't take the same texts.
-    word: Option<Word>,
+    way: Way,
+}
+
+/// What they are matched by.
+#[derive(Debug, Drop)]
+enum Way {
+    /// The first token alone, which takes the same texts.
+    First,
+    /// Sets of places in one word.
+    Word(Word),
+    /// Sets of places in rows.
+    Rows(EmptyMoves),
 }
 
 impl Model for Middle {
-    ghost use Rattle.std.specs.Option.{ForSome};
     ghost use Rattle.pathspec_glob.specs.GlobSteps.{TokenList};
-    ghost use Rattle.pathspec_glob.specs.GlobWords.{IsWordOf};
+    ghost use Rattle.pathspec_glob.specs.GlobWays.{IsWayOf};
 
     ghost Value = { TokenList };
 
     ghost view = { λ m. m.tokens };
 
-    ghost invariant = { λ m. ForSome m.word (λ word. IsWordOf m.tokens word) };
+    ghost invariant = { λ m. IsWayOf m.tokens m.way };
 }
 
 impl Middle {
@@ -39,12 +49,8 @@ impl Middle {
     pub fn of_tokens(alloc: Global, tokens: Tokens) -> Result<Middle, AllocError>
         ensures { IfOk result (λ middle. middle ≡ tokens) }
     {
-        let word = if tokens.match_as_first() {
-            None
-        } else {
-            Word::of_tokens(alloc, &tokens)?
-        };
-        Ok(Middle { tokens, word })
+        let way = Way::of_tokens(alloc, &tokens)?;
+        Ok(Middle { tokens, way })
     }
 
     /// How many tokens they are.
@@ -65,17 +71,37 @@ impl Middle {
         ensures counted { KeepsCount steps.old steps.new }
         ensures room { KeepsRoom places.old places.new }
     {
-        match &self.word {
-            Some(word) => {
-                let Ran {
+        match &self.way {
+            Way::First => self.tokens.test_all(text, steps),
+            Way::Word(word) => {
+                let Answer {
                     accepted,
                     questions,
                 } = word.run(text, case);
                 questions.count(steps);
                 accepted
             }
-            None if self.tokens.match_as_first() => self.tokens.test_all(text, steps),
-            None => places.run(&self.tokens, text, case, steps),
+            Way::Rows(moves) => places.run(&self.tokens, moves, text, case, steps),
         }
+    }
+}
+
+impl Way {
+    ghost use Rattle.pathspec_glob.specs.GlobWays.{IsWayOf};
+
+    /// The first way that the tokens can go: by the first token alone, in one word, or in rows.
+    ///
+    /// # Errors
+    /// Memory runs out.
+    fn of_tokens(alloc: Global, tokens: &Tokens) -> Result<Way, AllocError>
+        ensures { IfOk result (λ way. IsWayOf tokens.now way) }
+    {
+        if tokens.match_as_first() {
+            return Ok(Way::First);
+        }
+        Ok(match Word::of_tokens(alloc, tokens)? {
+            Some(word) => Way::Word(word),
+            None => Way::Rows(EmptyMoves::of_tokens(alloc, tokens)?),
+        })
     }
 }

@@ -1,15 +1,17 @@
 //! Sets of places in rows: the places in a glob that the front of a text leads to.
 ghost use Rattle.std.specs.Prelude.{IsTrue, ◌≡◌, ◌≤◌, ◌<◌, ◌+◌, ◌*◌, ◌^◌, IfOk, length};
 ghost use Rattle.pathspec_glob.specs.Counts.{KeepsCount};
-ghost use Rattle.pathspec_glob.specs.GlobPlaces.{HasRoom, is_held, IsBounded, IsMadeFor, KeepsRoom, AcceptsFromStart};
+ghost use Rattle.pathspec_glob.specs.GlobPlaces.{HasRoom, IsBounded, IsMadeFor, IsMovesOf, KeepsRoom, AcceptsFromStart};
 ghost use Rattle.pathspec_glob.specs.GlobRelation.{matches};
 
 mod closure;
+pub mod moves;
 mod step;
 
 use crate::Case;
 use crate::rows::Row;
 use crate::tokens::{Steps, Tokens};
+use moves::EmptyMoves;
 use std::alloc::{AllocError, Global};
 
 /// A set of places in a glob's tokens. A place is held where it is come to, or where its token stays.
@@ -19,9 +21,9 @@ pub struct Places {
     entered: Row,
     /// Whether a token that takes any number of bytes has taken some, and may take more.
     staying: Row,
-    /// No place before this one is held.
+    /// No place before this word is held.
     first: usize,
-    /// No place from this one on is held.
+    /// No place from this word on is held.
     end: usize,
 }
 
@@ -54,7 +56,15 @@ impl Places {
     ///
     /// It tests each token at most once on a byte, and takes no memory.
     #[inline(never)]
-    pub fn run(&mut self, tokens: &Tokens, text: &[u8], case: Case, steps: &mut Steps) -> bool
+    pub fn run(
+        &mut self,
+        tokens: &Tokens,
+        moves: &EmptyMoves,
+        text: &[u8],
+        case: Case,
+        steps: &mut Steps,
+    ) -> bool
+        requires moves { IsMovesOf tokens.now moves.now }
         requires room { HasRoom (length tokens.now.tokens) self.old }
         requires steps { steps.old.last + length tokens.now.tokens * length text.now < 2 ^ 128 }
         ensures answer { result ≡ matches tokens.now.mode case tokens.now.tokens text.now }
@@ -66,11 +76,11 @@ impl Places {
     {
         self.begin(tokens);
         for position in 0..text.len() {
-            if !self.advance(tokens, text[position], case, steps) {
+            if !self.advance(tokens, moves, text[position], case, steps) {
                 return false;
             }
         }
-        self.reach_end(tokens)
+        self.reach_end(tokens, moves)
     }
 
     /// Comes to the first place alone.
@@ -85,14 +95,5 @@ impl Places {
         self.entered.put(0, true);
         self.first = 0;
         self.end = 1;
-    }
-
-    /// Whether the place is come to, or its token stays.
-    fn holds(&self, place: usize) -> bool
-        requires entered { place < length self.now.entered }
-        requires staying { place < length self.now.staying }
-        ensures { result ≡ is_held self.now place }
-    {
-        self.entered.holds(place) || self.staying.holds(place)
     }
 }

@@ -1,5 +1,5 @@
 //! Rows of truth values, one bit each.
-ghost use Rattle.std.specs.Prelude.{◌≡◌, ℕ, ◌<◌, ◌+◌, ◌%◌, ◌≤◌, ◌==◌, if◌then◌else◌, ◌^◌, IfOk, OnOk, length, take, set, replicate, drop, false, ◌++◌};
+ghost use Rattle.std.specs.Prelude.{◌≡◌, ℕ, suc, ◌<◌, ◌+◌, ◌*◌, ◌≤◌, ◌==◌, if◌then◌else◌, ◌^◌, IfOk, OnOk, length, take, set, replicate, drop, false, ◌++◌};
 ghost use Rattle.pathspec_glob.specs.GlobCells.{has};
 ghost use Rattle.pathspec_glob.specs.GlobRows.{holds};
 
@@ -58,13 +58,25 @@ impl Row {
         (self.words[place / 64] >> (place % 64)) & 1 == 1
     }
 
-    /// The values from a place on, as bits, as far as they stand in one word.
-    pub fn from(&self, place: usize) -> u64
-        requires { place < length self.now }
-        ensures { (i : ℕ) → place % 64 + i < 64 → place + i < length self.now
-            → has result i ≡ holds self.now (place + i) }
+    /// The values of a word, as bits.
+    pub fn word(&self, index: usize) -> u64
+        requires { index * 64 ≤ length self.now }
+        ensures { (i : ℕ) → i < 64 → index * 64 + i < length self.now
+            → has result i ≡ holds self.now (index * 64 + i) }
     {
-        self.words[place / 64] >> (place % 64)
+        self.words[index]
+    }
+
+    /// Sets the values of a word.
+    pub fn put_word(&mut self, index: usize, word: u64)
+        requires { index * 64 ≤ length self.old }
+        ensures there { (i : ℕ) → i < 64 → index * 64 + i < length self.old
+            → holds self.new (index * 64 + i) ≡ has word i }
+        ensures before { (i : ℕ) → i < index * 64 → holds self.new i ≡ holds self.old i }
+        ensures behind { (i : ℕ) → suc index * 64 ≤ i → holds self.new i ≡ holds self.old i }
+        ensures len { length self.new ≡ length self.old }
+    {
+        self.words[index] = word;
     }
 
     /// Sets the value at a place.

@@ -1,124 +1,30 @@
 //! The step by one byte.
-ghost use Rattle.std.specs.Prelude.{IsTrue, IsFalse, ◌≡◌, ◌≤◌, ◌<◌, ◌+◌, ◌^◌, length};
+ghost use Rattle.std.specs.Prelude.{IsTrue, IsFalse, ◌≡◌, ◌≤◌, ◌<◌, ◌+◌, ◌*◌, ◌^◌, ◌&&◌, ◌||◌, ℕ, false, not, length};
 ghost use Rattle.pathspec_glob.specs.Counts.{KeepsCount};
-ghost use Rattle.pathspec_glob.specs.GlobPlaces.{closure_end, entered_after, HasRoom, is_held, IsBounded, IsUnheld, KeepsRoom, leads_on, AcceptsNothing, AcceptsAfterByte, moves_on, staying_after, steps_at};
+ghost use Rattle.pathspec_glob.specs.GlobCells.{has};
+ghost use Rattle.pathspec_glob.specs.GlobRows.{holds};
+ghost use Rattle.pathspec_glob.specs.GlobPlaces.{AcceptsAfterByte, AcceptsNothing, HasRoom, HoldsNone, IsBounded, IsMovesOf, KeepsRoom, PutsTaken, TakesByte, is_held};
+ghost use Rattle.pathspec_glob.specs.GlobSteps.{token_takes};
 
 use super::Places;
+use super::moves::EmptyMoves;
 use crate::Case;
 use crate::tokens::{Steps, Tests, Tokens};
 
-/// What a byte did at a place.
-#[derive(Clone, Copy)]
-struct Visit {
-    /// Whether it leads to the next place.
-    arrives: bool,
-    /// Whether the place leads to the next without a byte.
-    leads_on: bool,
-}
-
 impl Places {
-    /// Takes a byte at this place, which the place before leads to where `arrives` is true.
-    fn visit(
-        &mut self,
-        tokens: &Tokens,
-        place: usize,
-        byte: u8,
-        case: Case,
-        arrives: bool,
-        tests: &mut Tests,
-    ) -> Visit
-        requires place { place < length tokens.now.tokens }
-        requires room { HasRoom (length tokens.now.tokens) self.old }
-        requires tests { tests.old.count + 1 < 2 ^ 64 }
-        ensures after { result.arrives ≡ moves_on tokens.now case self.old place byte }
-        ensures on { result.leads_on ≡ leads_on tokens.now self.old place }
-        ensures entered { self.new.entered ≡ entered_after tokens.now place arrives self.old }
-        ensures staying { self.new.staying ≡ staying_after tokens.now case place byte self.old }
-        ensures end { self.new.end
-            ≡ closure_end (leads_on tokens.now self.old place) place self.old.end }
-        ensures tests { tests.new.count ≡ tests.old.count + steps_at self.old place }
-    {
-        if !self.holds(place) {
-            self.entered.put(place, arrives);
-            return Visit {
-                arrives: false,
-                leads_on: false,
-            };
-        }
-        let is_taken = tokens.test(place, byte, case, tests);
-        if self.close_held(tokens, place) {
-            self.entered.put(place, arrives);
-            self.staying.put(place, is_taken);
-            return Visit {
-                arrives: false,
-                leads_on: true,
-            };
-        }
-        self.entered.put(place, arrives);
-        self.staying.put(place, false);
-        Visit {
-            arrives: is_taken,
-            leads_on: false,
-        }
-    }
-
-    /// The place to go on to behind one of so many tokens: the next where the visit leads to it, and else the next that may
-    /// be held.
-    fn behind(&self, place: usize, visit: Visit, tokens: usize) -> usize
-        requires place { place < tokens }
-        requires room { HasRoom tokens self.now }
-        ensures from { place + 1 ≤ result }
-        ensures within { result ≤ tokens }
-        ensures next { IsTrue visit.arrives → result ≡ place + 1 }
-        ensures none { IsUnheld self.now (place + 1) result }
-    {
-        if visit.arrives || visit.leads_on {
-            place + 1
-        } else {
-            self.next_held(place + 1, tokens)
-        }
-    }
-
-    // Out of line, since it is rare where many places are held, and the loop over them is shorter without it.
-    /// The first place from this one on that may be held, of those in so many tokens and the end: one that is, or at which a
-    /// word begins.
-    #[inline(never)]
-    fn next_held(&self, place: usize, tokens: usize) -> usize
-        requires place { place ≤ tokens }
-        requires room { HasRoom tokens self.now }
-        ensures from { place ≤ result }
-        ensures within { result ≤ tokens }
-        ensures none { IsUnheld self.now place result }
-    {
-        if place == tokens {
-            return place;
-        }
-        self.held_from(place).min(tokens)
-    }
-
-    /// The first place from this one on that is held, or at which a word begins.
-    fn held_from(&self, place: usize) -> usize
-        requires staying { place < length self.now.staying }
-        requires entered { place < length self.now.entered }
-        requires small { length self.now.entered < 2 ^ 63 }
-        ensures from { place ≤ result }
-        ensures none { IsUnheld self.now place result }
-    {
-        let word = self.entered.from(place) | self.staying.from(place);
-        place + (word.trailing_zeros() as usize).min(64 - place % 64)
-    }
-
     /// Goes on by a byte, and says whether a token was tested. Where none was, no place is held.
     ///
-    /// It tests each token at most once. Of the places that aren't held, it looks only at the first of each word, and at none
-    /// behind the last that was ever held in this match.
+    /// It tests each token at most once. It looks at no word before the first in which a place is held, nor behind the last in
+    /// which one was ever held in this match.
     pub(super) fn advance(
         &mut self,
         tokens: &Tokens,
+        moves: &EmptyMoves,
         byte: u8,
         case: Case,
         steps: &mut Steps,
     ) -> bool
+        requires moves { IsMovesOf tokens.now moves.now }
         requires room { HasRoom (length tokens.now.tokens) self.old }
         requires bounds { IsBounded (length tokens.now.tokens) self.old }
         requires steps { steps.old.last + length tokens.now.tokens < 2 ^ 128 }
@@ -130,18 +36,105 @@ impl Places {
         ensures counted { KeepsCount steps.old steps.new }
         ensures room { KeepsRoom self.old self.new }
     {
-        let mut tests = Tests::none();
-        let first = self.next_held(self.first, tokens.len());
-        let mut arrives = false;
-        let mut place = first;
-        while place < self.end && place < tokens.len() {
-            let visit = self.visit(tokens, place, byte, case, arrives, &mut tests);
-            arrives = visit.arrives;
-            place = self.behind(place, visit, tokens.len());
-        }
-        self.entered.put(place, arrives);
-        self.first = first;
-        self.end = if arrives { place + 1 } else { place };
+        self.close(moves);
+        let tests = self.take(tokens, moves, byte, case);
+        self.skip_words(tokens.len());
         steps.add(tests)
     }
+
+    /// Takes a byte at each place that is held, and gives the tests of that.
+    fn take(&mut self, tokens: &Tokens, moves: &EmptyMoves, byte: u8, case: Case) -> Tests
+        requires moves { IsMovesOf tokens.now moves.now }
+        requires room { HasRoom (length tokens.now.tokens) self.old }
+        requires bounds { IsBounded (length tokens.now.tokens) self.old }
+        ensures takes { TakesByte tokens.now case self.old self.new byte }
+        ensures none { result.count ≡ 0 → HoldsNone (length tokens.now.tokens) self.old }
+        ensures most { result.count ≤ length tokens.now.tokens }
+        ensures bounds { IsBounded (length tokens.now.tokens) self.new }
+        ensures room { KeepsRoom self.old self.new }
+    {
+        let mut tests = Tests::none();
+        let mut index = self.first;
+        let mut carry = 0;
+        while index < self.end {
+            let held = self.held(index);
+            let taken = taken(tokens, index * 64, held, byte, case, &mut tests);
+            carry = self.put_taken(index, taken, moves.wide.word(index), carry);
+            index += 1;
+        }
+        if carry != 0 {
+            self.entered.put(index * 64, true);
+            self.end = index + 1;
+        }
+        tests
+    }
+
+    /// The places of a word that are held.
+    fn held(&self, index: usize) -> u64
+        requires entered { index * 64 ≤ length self.now.entered }
+        requires staying { index * 64 ≤ length self.now.staying }
+        ensures held { (i : ℕ) → i < 64 → index * 64 + i < length self.now.entered
+            → index * 64 + i < length self.now.staying → has result i
+            ≡ (holds self.now.entered (index * 64 + i) || holds self.now.staying (index * 64 + i)) }
+        ensures none { result ≡ 0 → (i : ℕ) → i < 64 → is_held self.now (index * 64 + i) ≡ false }
+    {
+        self.entered.word(index) | self.staying.word(index)
+    }
+
+    /// Leaves in a word what its tokens took: those that take any number of bytes stay, and each other leads to the next
+    /// place. It gives what leads to the next word, as it is given what the word before led to.
+    fn put_taken(&mut self, index: usize, taken: u64, wide: u64, carry: u64) -> u64
+        requires entered { index * 64 ≤ length self.old.entered }
+        requires staying { index * 64 ≤ length self.old.staying }
+        requires carry { carry < 2 }
+        ensures puts { PutsTaken index taken wide carry self.old self.new }
+        ensures next { has result 0 ≡ (has taken 63 && not (has wide 63)) }
+        ensures carry { result < 2 }
+    {
+        let moved = taken & !wide;
+        self.staying.put_word(index, taken & wide);
+        self.entered.put_word(index, (moved << 1) | carry);
+        moved >> 63
+    }
+
+    /// Skips the first words, as far as no place of them is held.
+    fn skip_words(&mut self, tokens: usize)
+        requires room { HasRoom tokens self.old }
+        requires bounds { IsBounded tokens self.old }
+        ensures bounds { IsBounded tokens self.new }
+        ensures entered { self.new.entered ≡ self.old.entered }
+        ensures staying { self.new.staying ≡ self.old.staying }
+    {
+        while self.first < self.end && self.held(self.first) == 0 {
+            self.first += 1;
+        }
+    }
+}
+
+/// Of these places of a word, which begins at a place, those whose tokens take the byte. It tests each token once.
+fn taken(tokens: &Tokens, from: usize, held: u64, byte: u8, case: Case, tests: &mut Tests) -> u64
+    requires from { from ≤ length tokens.now.tokens }
+    requires small { from < 2 ^ 63 }
+    requires tests { tests.old.count ≤ from }
+    ensures taken { (i : ℕ) → i < 64
+        → has result i ≡ (has held i && token_takes tokens.now case (from + i) byte) }
+    ensures none { tests.new.count ≡ tests.old.count → (i : ℕ) → i < 64
+        → from + i < length tokens.now.tokens → has held i ≡ false }
+    ensures rises { tests.old.count ≤ tests.new.count }
+    ensures most { tests.new.count ≤ from + 64 }
+    ensures within { tests.new.count ≤ length tokens.now.tokens }
+{
+    let mut taken = 0;
+    let mut open = held;
+    while open != 0 {
+        let bit = open.trailing_zeros() as usize;
+        if from + bit >= tokens.len() {
+            return taken;
+        }
+        if tokens.test(from + bit, byte, case, tests) {
+            taken |= 1 << bit;
+        }
+        open &= open - 1;
+    }
+    taken
 }

@@ -11,7 +11,7 @@ mod table;
 use super::Tokens;
 use crate::Case;
 use std::alloc::{AllocError, Global};
-pub use step::Ran;
+pub use step::Answer;
 use table::Table;
 
 /// Tokens as words. A place stands before each token that takes one byte, and one at the end; a token that takes any
@@ -63,7 +63,7 @@ impl Word {
 
     /// Whether the tokens match the whole text, and the questions for that: of each byte that is read, which of the tokens
     /// take it.
-    pub fn run(&self, text: &[u8], case: Case) -> Ran
+    pub fn run(&self, text: &[u8], case: Case) -> Answer
         ensures answer { (parts : TokenList) → IsWordOf parts self.now
             → result.accepted ≡ matches parts.mode case parts.tokens text.now }
         ensures tokens { result.questions.tokens ≡ self.now.exact.tokens }

@@ -8,8 +8,8 @@ ghost use Rattle.pathspec_glob.specs.GlobCells.{cells_match, has, set_leads, Cel
 use super::closure::enter;
 use super::table::{Questions, Table};
 
-/// How a text was run through.
-pub struct Ran {
+/// What a text that was run through is answered.
+pub struct Answer {
     /// Whether its end leads to the last place.
     pub accepted: bool,
     /// One for each byte that was read.
@@ -17,14 +17,14 @@ pub struct Ran {
 }
 
 /// Where a text, as far as it was read, leads to.
-struct Reached {
+struct Progress {
     places: u64,
     /// One for each byte that was read.
     questions: Questions,
 }
 
 /// Runs through a text, up to a byte before which no place is held.
-pub fn run(table: &Table, loops: u64, deeps: u64, overs: u64, last: usize, text: &[u8]) -> Ran
+pub fn run(table: &Table, loops: u64, deeps: u64, overs: u64, last: usize, text: &[u8]) -> Answer
     requires { last < 64 }
     ensures answer { (mode : Mode) (case : Case) (cells : List Cell) (end : Loop)
         → Masked mode case cells end table.now.rows.items loops deeps overs → length cells ≡ last
@@ -45,14 +45,14 @@ pub fn run(table: &Table, loops: u64, deeps: u64, overs: u64, last: usize, text:
             text,
         );
     }
-    let Reached { places, questions } = if !plain {
+    let Progress { places, questions } = if !plain {
         reach(from, table, loops, deeps, overs, true, text)
     } else if loops == deeps {
         reach(from, table, loops, loops, 0, false, text)
     } else {
         reach(from, table, loops, deeps, 0, false, text)
     };
-    Ran {
+    Answer {
         accepted: holds(places, last),
         questions,
     }
@@ -92,7 +92,7 @@ fn accepts(
     stays_at_slash: bool,
     last: usize,
     text: &[u8],
-) -> Ran
+) -> Answer
     requires { last < 64 }
     ensures leads { LeadsToLast table.now.rows.items stays stays_at_slash last places text.now
         result.accepted }
@@ -119,7 +119,7 @@ fn leads_to_last(
     stays_at_slash: bool,
     last: usize,
     text: &[u8],
-) -> Ran
+) -> Answer
     requires { last < 64 }
     ensures leads { LeadsToLast table.now.rows.items stays stays_at_slash last places text.now
         result.accepted }
@@ -138,7 +138,7 @@ fn leads_to_last(
             free
         };
     }
-    Ran {
+    Answer {
         accepted: !holds(end, last),
         questions,
     }
@@ -156,7 +156,7 @@ fn reach(
     overs: u64,
     halts: bool,
     text: &[u8],
-) -> Reached
+) -> Progress
     ensures leads { (mode : Mode) (case : Case) (cells : List Cell) (end : Loop) (all : ℕ)
         → Masked mode case cells end table.now.rows.items loops deeps all → overs / 2 ≡ all / 2
         → set_leads mode case cells end (has result.places) (drop result.questions.bytes text.now)
@@ -169,7 +169,7 @@ fn reach(
     let mut places = from;
     for position in 0..text.len() {
         if halts && places == 0 {
-            return Reached { places, questions };
+            return Progress { places, questions };
         }
         let byte = text[position];
         places = advance(
@@ -179,7 +179,7 @@ fn reach(
             overs,
         );
     }
-    Reached { places, questions }
+    Progress { places, questions }
 }
 
 /// The places that a byte leads to: those behind the ones whose tokens take it, with those that may be passed over to

@@ -4,6 +4,7 @@ use Rattle.std.proofs.Math.ListN.{drop_of_length-le}
 use Rattle.std.proofs.Math.Nat.{mul-le-mul_left, mul-suc}
 use Rattle.pathspec_glob.specs.GlobRelation.{matches}
 use Rattle.pathspec_glob.specs.GlobPlaces.{accepts}
+use Rattle.pathspec_glob.specs.GlobRows.{holds}
 use Rattle.pathspec_glob.proofs.places.Places.run.Goals.{Then-not-advance}
 use Rattle.pathspec_glob.proofs.places.Places.run.Goals as goal
 
@@ -30,7 +31,7 @@ loop-position-preserved c =
     let next : drop position text ≡ get_or text position 0 ∷ drop (position + 1) text = drop_more text position 0 c.loop-position-test.true in
     let advance = c.if-not-advance.ensures in
     let invariant = c.loop-position.invariant in
-    let before = accepts c.args.tokens.now.mode c.args.case c.args.tokens.now.tokens c.loop-position.self.entered c.loop-position.self.staying in
+    let before = accepts c.args.tokens.now.mode c.args.case c.args.tokens.now.tokens (holds c.loop-position.self.entered) (holds c.loop-position.self.staying) in
     let tested = advance.tested refl in
     record {
       accepts = advance.accepts (drop (position + 1) text) ∙ ap before (sym next) ∙ invariant.accepts;
@@ -51,7 +52,7 @@ no-match c =
     let text = c.args.text.now in
     let next : drop position text ≡ get_or text position 0 ∷ drop (position + 1) text = drop_more text position 0 c.loop-position-test.true in
     let advance = c.if-not-advance.ensures in
-    let before = accepts c.args.tokens.now.mode c.args.case c.args.tokens.now.tokens c.loop-position.self.entered c.loop-position.self.staying in
+    let before = accepts c.args.tokens.now.mode c.args.case c.args.tokens.now.tokens (holds c.loop-position.self.entered) (holds c.loop-position.self.staying) in
     sym (advance.none refl (drop (position + 1) text)) ∙ advance.accepts (drop (position + 1) text) ∙ ap before (sym next) ∙ c.loop-position.invariant.accepts
 
 pub returns-then-not-advance-clause-answer : goal.returns-then-not-advance-clause-answer

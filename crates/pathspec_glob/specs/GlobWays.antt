@@ -1,0 +1,19 @@
+-- What tokens are matched by.
+use Rattle.std.specs.Prelude.{◌≡◌, true}
+use Rattle.pathspec_glob.specs.declared.middle.Way.{Way}
+use Rattle.pathspec_glob.specs.declared.middle.Way.TheVariants.{First, Word, Rows}
+use Rattle.pathspec_glob.specs.GlobParts.{MatchAsFirst}
+use Rattle.pathspec_glob.specs.GlobPlaces.{IsMovesOf}
+use Rattle.pathspec_glob.specs.GlobSteps.{TokenList, is_wide_at}
+use Rattle.pathspec_glob.specs.GlobWords.{IsWordOf}
+
+-- The first token takes just what all of them match.
+pub record GoesByFirst (parts : TokenList) : Type 0 where
+  pub wide : is_wide_at parts.tokens ≡ true
+  pub same : MatchAsFirst parts
+
+-- the way is one of these tokens
+abbrev pub IsWayOf : TokenList → Way → Type 0
+IsWayOf parts First = GoesByFirst parts
+IsWayOf parts (Word word) = IsWordOf parts word
+IsWayOf parts (Rows moves) = IsMovesOf parts moves
