@@ -600,6 +600,43 @@ fn long_globs_between_stars_take_each_byte(rt: HostRuntime) -> Result<(), Fail> 
     assert_each(&rt, rt.alloc(), ROWS)
 }
 
+/// How many times `**/` stands before `x`, alone and behind `*a/`: each stands for directories or for nothing (gitignore(5), "A
+/// leading `**` followed by a slash").
+#[derive(Clone, Copy)]
+struct Chain(usize);
+
+impl Row for Chain {
+    fn holds(&self, alloc: Global) -> Result<bool, Fail> {
+        let chain = "**/".repeat(alloc, self.0)?;
+        let alone = format!(in alloc; "{chain}x")?;
+        let behind = format!(in alloc; "*a/{chain}x")?;
+        let (here, _) = answer(alloc, PathAware, Sensitive, &alone, b"x")?;
+        let (deep, _) = answer(alloc, PathAware, Sensitive, &alone, b"b/c/x")?;
+        let (name, _) = answer(alloc, PathAware, Sensitive, &alone, b"bx")?;
+        let (here_behind, _) = answer(alloc, PathAware, Sensitive, &behind, b"a/x")?;
+        let (deep_behind, _) = answer(alloc, PathAware, Sensitive, &behind, b"ba/b/c/x")?;
+        let (name_behind, _) = answer(alloc, PathAware, Sensitive, &behind, b"a/bx")?;
+        Ok(here && deep && !name && here_behind && deep_behind && !name_behind)
+    }
+}
+
+#[test]
+fn chains_of_double_stars_stand_for_nothing(rt: HostRuntime) -> Result<(), Fail> {
+    const ROWS: &[Chain] = &[
+        Chain(1),
+        Chain(2),
+        Chain(30),
+        Chain(31),
+        Chain(32),
+        Chain(33),
+        Chain(62),
+        Chain(63),
+        Chain(64),
+        Chain(65),
+    ];
+    assert_each(&rt, rt.alloc(), ROWS)
+}
+
 /// A pattern, a text, and whether they match, where memory doesn't run out.
 #[derive(Clone, Copy)]
 struct IfThereIsMemory(&'static str, &'static str, bool);
