@@ -4,6 +4,8 @@ use Rattle.std.specs.List.{list_all}
 use Rattle.std.specs.Int.{bit_at}
 use Rattle.pathspec_glob.specs.declared.Mode.{Mode}
 use Rattle.pathspec_glob.specs.declared.Case.{Case}
+use Rattle.pathspec_glob.specs.declared.tokens.word.step.Course.{Course}
+use Rattle.pathspec_glob.specs.declared.tokens.word.step.Course.TheVariants.{Ends, Plain, Any}
 use Rattle.pathspec_glob.specs.Bytes.{slash}
 use Rattle.pathspec_glob.specs.Tokens.{Single, Token}
 use Rattle.pathspec_glob.specs.Tokens.Token.{One, Star, Deep}
@@ -69,6 +71,12 @@ pub record StayAtEnds (loops deeps overs last : ℕ) (stays stays_at_slash : Boo
   pub last_stays : stays ≡ has loops last
   pub last_stays_at_slash : stays_at_slash ≡ has deeps last
   pub passed : overs / 2 ≡ 0
+
+-- A word can go this way over any text.
+abbrev pub IsCourse : ℕ → ℕ → ℕ → ℕ → Course → Type 0
+IsCourse loops deeps overs last (Ends stays stays_at_slash) = StayAtEnds loops deeps overs last stays stays_at_slash
+IsCourse loops deeps overs last Plain = overs / 2 ≡ 0
+IsCourse loops deeps overs last Any = Unit {0}
 
 -- The answer is whether the places lead to the last by the text, for cells whose words have these rows and of which only the ends stay.
 abbrev pub LeadsToLast : List ℕ → Bool → Bool → ℕ → ℕ → List ℕ → Bool → Type 0

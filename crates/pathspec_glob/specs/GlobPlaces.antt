@@ -44,19 +44,19 @@ IsClosed mode ts entered staying = IsClosedBefore (length ts) mode ts entered st
 abbrev pub Includes : ℕ → (ℕ → Bool) → (ℕ → Bool) → Type 0
 Includes tokens more set = (i : ℕ) → i ≤ tokens → set i ≡ true → more i ≡ true
 
--- The places are come to in whatever includes the others and what places lead to without a byte.
+-- Each set that has these places, and what its own lead to without a byte, has all of the closure.
 abbrev pub IsLeast : Mode → List Token → (ℕ → Bool) → (ℕ → Bool) → (ℕ → Bool) → Type 0
 IsLeast mode ts entered staying closure =
     (all : ℕ → Bool) → Includes (length ts) all entered → IsClosed mode ts all staying → Includes (length ts) all closure
 
--- places of a word lead to others of it without a byte, where it says which lead to the next and which to the one behind that
+-- what places of a word lead to without a byte is held, as far as it stands in the word: the next place, or the one behind that
 pub record IsClosedWord (staying wide overs : ℕ) (places : ℕ → Bool) : Type 0 where
   pub next : (i : ℕ) → suc i < 64 → (places i || has staying i) ≡ true → has wide i ≡ true → places (suc i) ≡ true
   pub over : (i : ℕ) → suc (suc i) < 64 → places i ≡ true → has overs i ≡ true → places (suc (suc i)) ≡ true
 
 -- ---- sets of places in rows
 
--- no place before the first word or from the last on is held, in rows for so many tokens
+-- no place before the first word or from the end on is held, in rows for so many tokens
 pub record HoldsWithin (tokens first end : ℕ) (entered staying : List Bool) : Type 0 where
   pub order : first ≤ end
   pub within : end * 64 ≤ tokens + 64
@@ -136,7 +136,7 @@ pub record IsClosureOf (parts : TokenList) (old new : Places) : Type 0 where
   pub least : IsLeast parts.mode parts.tokens (holds old.entered) (holds old.staying) (holds new.entered)
   pub staying : new.staying ≡ old.staying
 
--- the same of one word of it, where what other words were led to by those before and after is carried
+-- the same of one word of the set, with what the words before lead to in it, and what it leads to in the next
 pub record ClosesWord (parts : TokenList) (index before after : ℕ) (old new : Places) : Type 0 where
   pub includes : Includes (length parts.tokens) (with_carry (suc index) after new.entered) (with_carry index before old.entered)
   pub closed : IsClosedBefore (index * 64) parts.mode parts.tokens (with_carry index before old.entered) (holds old.staying)

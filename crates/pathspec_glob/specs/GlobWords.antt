@@ -4,9 +4,9 @@ use Rattle.pathspec_glob.specs.declared.Case.TheVariants.{Sensitive, Fold}
 use Rattle.pathspec_glob.specs.declared.tokens.word.Word.{Word}
 use Rattle.pathspec_glob.specs.Bytes.{slash}
 use Rattle.pathspec_glob.specs.GlobSteps.{TokenList}
-use Rattle.pathspec_glob.specs.GlobCells.{has, kept_at, passed_at, cell_count, alternates_behind, IsTable}
+use Rattle.pathspec_glob.specs.GlobCells.{has, kept_at, passed_at, cell_count, alternates_behind, IsCourse, IsTable}
 
--- the word is that of the tokens: what doesn't take each byte, what stays at a byte other than a slash and at a slash, and what may be passed over
+-- the word is that of the tokens: what doesn't take each byte, what stays at a byte other than a slash and at a slash, what may be passed over, and how it goes over a text
 pub record IsWordOf (parts : TokenList) (word : Word) : Type 0 where
   pub last : word.last ≡ cell_count parts.tokens
   pub some : 0 < cell_count parts.tokens
@@ -17,4 +17,5 @@ pub record IsWordOf (parts : TokenList) (word : Word) : Type 0 where
   pub loops : (i : ℕ) → i < 64 → has word.loops i ≡ kept_at parts.tokens 0 i
   pub deeps : (i : ℕ) → i < 64 → has word.deeps i ≡ kept_at parts.tokens slash i
   pub overs : (i : ℕ) → i < 64 → has word.overs i ≡ passed_at parts.mode parts.tokens i
+  pub course : IsCourse word.loops word.deeps word.overs word.last word.course
   pub apart : (i : ℕ) → (has word.overs i && has word.overs (suc i)) ≡ false

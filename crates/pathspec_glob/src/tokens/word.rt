@@ -12,6 +12,7 @@ use super::Tokens;
 use crate::Case;
 use std::alloc::{AllocError, Global};
 pub use step::Answer;
+use step::Course;
 use table::Table;
 
 /// Tokens as words. A place stands before each token that takes one byte, and one at the end; a token that takes any
@@ -29,6 +30,7 @@ pub struct Word {
     overs: u64,
     /// The last place.
     last: usize,
+    course: Course,
     ghost one_size: { folded.tokens ≡ exact.tokens },
     ghost last_within: { last < 64 },
 }
@@ -51,13 +53,16 @@ impl Word {
         if last == 0 || last > 63 || !states::alternate(tokens) || !states::are_apart(overs) {
             return Ok(None);
         }
+        let loops = states::kept(tokens, 0);
+        let deeps = states::kept(tokens, b'/');
         Ok(Some(Word {
             exact: Table::of_tokens(alloc, tokens, Case::Sensitive)?,
             folded: Table::of_tokens(alloc, tokens, Case::Fold)?,
-            loops: states::kept(tokens, 0),
-            deeps: states::kept(tokens, b'/'),
+            loops,
+            deeps,
             overs,
             last,
+            course: Course::of_word(loops, deeps, overs, last),
         }))
     }
 
@@ -74,6 +79,14 @@ impl Word {
             Case::Sensitive => &self.exact,
             Case::Fold => &self.folded,
         };
-        step::run(table, self.loops, self.deeps, self.overs, self.last, text)
+        step::run(
+            table,
+            self.course,
+            self.loops,
+            self.deeps,
+            self.overs,
+            self.last,
+            text,
+        )
     }
 }

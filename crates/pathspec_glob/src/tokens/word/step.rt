@@ -3,10 +3,23 @@ ghost use Rattle.std.specs.Prelude.{◌≡◌, ℕ, suc, List, ◌∷◌, ◌<�
 ghost use Rattle.pathspec_glob.specs.Bytes.{slash};
 ghost use Rattle.pathspec_glob.specs.declared.Mode.{Mode};
 ghost use Rattle.pathspec_glob.specs.declared.Case.{Case};
-ghost use Rattle.pathspec_glob.specs.GlobCells.{cells_match, has, set_leads, Cell, LeadsToLast, Loop, Masked, Rules};
+ghost use Rattle.pathspec_glob.specs.GlobCells.{cells_match, has, set_leads, Cell, IsCourse, LeadsToLast, Loop, Masked, Rules};
 
 use super::closure::enter;
 use super::table::{Questions, Table};
+
+/// How a word goes over a text, which is told once, when the word is made.
+#[derive(Debug, Clone, Copy)]
+pub enum Course {
+    /// By its ends: the first place stays at every byte, and none between it and the last stays at any; the last does at a byte
+    /// other than a slash where the first of these says so, and at a slash where the second does. No place but the first may be
+    /// passed over.
+    Ends(bool, bool),
+    /// By all its places, of which the first stays at every byte, and no other may be passed over.
+    Plain,
+    /// By all its places.
+    Any,
+}
 
 /// What a text that was run through is answered.
 pub struct Answer {
@@ -23,10 +36,35 @@ struct Progress {
     questions: Questions,
 }
 
+impl Course {
+    /// The course of a word.
+    pub fn of_word(loops: u64, deeps: u64, overs: u64, last: usize) -> Course
+        requires { last < 64 }
+        ensures { IsCourse loops deeps overs last result }
+    {
+        if !is_plain(loops, deeps, overs) {
+            Course::Any
+        } else if none_between(loops | deeps, last) {
+            Course::Ends(holds(loops, last), holds(deeps, last))
+        } else {
+            Course::Plain
+        }
+    }
+}
+
 /// Runs through a text, up to a byte before which no place is held.
-pub fn run(table: &Table, loops: u64, deeps: u64, overs: u64, last: usize, text: &[u8]) -> Answer
+pub fn run(
+    table: &Table,
+    course: Course,
+    loops: u64,
+    deeps: u64,
+    overs: u64,
+    last: usize,
+    text: &[u8],
+) -> Answer
     requires { last < 64 }
     ensures answer { (mode : Mode) (case : Case) (cells : List Cell) (end : Loop)
+        → IsCourse loops deeps overs last course
         → Masked mode case cells end table.now.rows.items loops deeps overs → length cells ≡ last
         → result.accepted ≡ cells_match mode case cells end text.now }
     ensures tokens { result.questions.tokens ≡ table.now.tokens }
@@ -34,23 +72,13 @@ pub fn run(table: &Table, loops: u64, deeps: u64, overs: u64, last: usize, text:
     ensures least { IsTrue result.accepted → result.questions.bytes ≡ length text.now }
 {
     let from = enter(1, overs);
-    let plain = is_plain(loops, deeps, overs);
-    if plain && none_between(loops | deeps, last) {
-        return accepts(
-            from,
-            table,
-            holds(loops, last),
-            holds(deeps, last),
-            last,
-            text,
-        );
-    }
-    let Progress { places, questions } = if !plain {
-        reach(from, table, loops, deeps, overs, true, text)
-    } else if loops == deeps {
-        reach(from, table, loops, loops, 0, false, text)
-    } else {
-        reach(from, table, loops, deeps, 0, false, text)
+    let Progress { places, questions } = match course {
+        Course::Ends(stays, stays_at_slash) => {
+            return accepts(from, table, stays, stays_at_slash, last, text);
+        }
+        Course::Plain if loops == deeps => reach(from, table, loops, loops, 0, false, text),
+        Course::Plain => reach(from, table, loops, deeps, 0, false, text),
+        Course::Any => reach(from, table, loops, deeps, overs, true, text),
     };
     Answer {
         accepted: holds(places, last),

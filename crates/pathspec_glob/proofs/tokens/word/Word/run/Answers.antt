@@ -15,7 +15,7 @@ returns-clause-answer c parts is =
       | in-Fold w ↦ rw (w.in-Fold.is, w.table-is) is.folded
     ] in
     let few : cell_count parts.tokens < 64 = omega (arith, is.last, word.last_within) in
-    c.run.ensures.answer parts.mode c.args.case (cells_of parts.mode Nothing parts.tokens) (loop_behind Nothing parts.tokens)
+    c.run.ensures.answer parts.mode c.args.case (cells_of parts.mode Nothing parts.tokens) (loop_behind Nothing parts.tokens) is.course
     (masked parts c.args.case rows word.loops word.deeps word.overs few is.alternate table is.loops is.deeps is.overs is.apart)
     (length-cells_of parts.mode Nothing parts.tokens ∙ sym is.last)
     ∙ sym (cells-match parts.mode c.args.case Nothing parts.tokens (alternates-loop Nothing parts.tokens is.alternate) c.args.text.now)
