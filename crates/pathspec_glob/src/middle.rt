@@ -60,8 +60,10 @@ impl Middle {
         self.tokens.len()
     }
 
+    // Out of line, so that the loops of words have the registers to themselves.
     /// Whether the tokens match the whole of a text: by the first alone where this takes the same texts, and else by sets
     /// of places, in one word where they fit it and else in rows. It takes no memory.
+    #[inline(never)]
     pub fn matches(&self, text: &[u8], case: Case, places: &mut Places, steps: &mut Steps) -> bool
         requires room { HasRoom (length self.now.tokens) places.old }
         requires steps { steps.old.last + length self.now.tokens * length text.now < 2 ^ 128 }
