@@ -1,7 +1,8 @@
 -- An answer that is the function's is the relation's, within the bound.
-use Rattle.std.proofs.Common.{◌≡◌, ℕ, ◌+◌, ◌-◌, ◌*◌, ◌≤◌, ◌<◌, ◌^◌, ◌&&◌, Bool, true, false, inl, inr, refl, sym, ◌∙◌, ap, subst, arith, List, [], ◌∷◌, length, drop, if◌then◌else◌}
+use Rattle.std.proofs.Common.{◌≡◌, ℕ, ◌+◌, ◌-◌, ◌*◌, ◌≤◌, ◌<◌, ◌^◌, ◌&&◌, Bool, true, false, inl, inr, refl, sym, ◌∙◌, ap, subst, arith, List, [], ◌∷◌, length, drop, get_or, if◌then◌else◌}
 use Rattle.std.proofs.lemmas.Bool.{cases_Bool, and_parts, eqb-true, not-true}
 use Rattle.std.proofs.Math.Nat.{mul-le-mul, add-mul}
+use Rattle.std.proofs.lemmas.List.{length-map}
 use Rattle.std.specs.Prelude.{not, ◌==◌}
 use Rattle.std.specs.List.{list_any}
 use Rattle.pathspec_glob.specs.declared.Mode.{Mode}
@@ -13,6 +14,8 @@ use Rattle.pathspec_glob.specs.GlobRelation.{matches}
 use Rattle.pathspec_glob.specs.GlobSteps.{TokenList}
 use Rattle.pathspec_glob.specs.GlobParts.{middle_of, takes_front, takes_end, behind_front, before_end, IsParted}
 use Rattle.pathspec_glob.specs.Globs.{GlobSource, AnswersGlob, AnswersTail, is_tail_pattern}
+use Rattle.pathspec_glob.specs.ByteSets.{listed, listed_tokens}
+use Rattle.pathspec_glob.proofs.ByteSetProofs.{matches-listed, plain-listed}
 use Rattle.pathspec_glob.proofs.GlobProofs.{glob_is_relation}
 use Rattle.pathspec_glob.proofs.TokenProofs.{few_tokens}
 use Rattle.pathspec_glob.proofs.TailProofs.{matches-ends_with, tail-fits, tokens-tail}
@@ -56,10 +59,10 @@ glob-answers-tail mode pattern glob case text given view is =
 
 -- ---- the parts of a glob
 
-module _ (mode : Mode) (case : Case) (pattern : List ℕ) (h m t : TokenList) (parted : IsParted mode pattern h m t) (text : List ℕ) where
+module _ (mode : Mode) (case : Case) (pattern : List ℕ) (h m t : TokenList) (parted : IsParted mode pattern h m t) (text : List ℕ) (fit : (k : ℕ) → get_or text k 0 < 256) where
   -- a glob matches where its parts do
   whole : matches mode case (tokens mode pattern) text ≡ (takes_front h case text && (takes_end t case (behind_front h text) && matches m.mode case m.tokens (before_end t (behind_front h text))))
-  whole = rw (parted.head_is, parted.middle_is, parted.tail_is) (parts-match mode case (tokens mode pattern) text)
+  whole = rw (parted.head_is, parted.middle_is, parted.tail_is) (sym (matches-listed mode case (tokens mode pattern) text fit) ∙ parts-match mode case (listed_tokens mode pattern) text)
 
   -- where the head takes no front, it doesn't match
   pub no-front : false ≡ takes_front h case text → false ≡ matches mode case (tokens mode pattern) text
@@ -78,7 +81,7 @@ module _ (mode : Mode) (case : Case) (pattern : List ℕ) (h m t : TokenList) (p
   -- ---- steps
 
   few-middle : length m.tokens ≤ length pattern
-  few-middle = let few = few_tokens mode pattern in let some = middle-few mode (tokens mode pattern) in rw parted.middle_is (omega arith)
+  few-middle = let few = few_tokens mode pattern in let some = middle-few mode (listed_tokens mode pattern) in let same = length-map (tokens mode pattern) listed in rw parted.middle_is (omega arith)
 
   pub few-steps : (steps : ℕ) → steps ≤ length text → steps ≤ (length pattern + 1) * length text
   few-steps steps few = let more = mul-le-mul {n₁ = 1} {m₁ = length text} {n₂ = length pattern + 1} {m₂ = length text} (omega arith) (omega arith) in omega arith
@@ -98,14 +101,14 @@ module _ (mode : Mode) (case : Case) (pattern : List ℕ) (h m t : TokenList) (p
       omega arith
 
 -- between the star of a tail pattern and its rest stands nothing else
-middle-alone : (mode : Mode) (pattern : List ℕ) → is_tail_pattern pattern ≡ true → length (middle_of mode (tokens mode pattern)) ≡ 1
+middle-alone : (mode : Mode) (pattern : List ℕ) → is_tail_pattern pattern ≡ true → length (middle_of mode (listed_tokens mode pattern)) ≡ 1
 middle-alone mode [] tail = cc
 middle-alone Shell (b ∷ rest) tail =
     let p = and_parts (b == star) (not (list_any is_wildcard rest)) tail in
-    rw (eqb-true b star p.0, tokens-tail Shell rest (not-true (list_any is_wildcard rest) p.1), middle-deep rest) refl
+    rw (eqb-true b star p.0, tokens-tail Shell rest (not-true (list_any is_wildcard rest) p.1), plain-listed rest, middle-deep rest) refl
 middle-alone PathAware (b ∷ rest) tail =
     let p = and_parts (b == star) (not (list_any is_wildcard rest)) tail in
-    rw (eqb-true b star p.0, tokens-tail PathAware rest (not-true (list_any is_wildcard rest) p.1), middle-star rest) refl
+    rw (eqb-true b star p.0, tokens-tail PathAware rest (not-true (list_any is_wildcard rest) p.1), plain-listed rest, middle-star rest) refl
 
 -- a tail pattern takes a step a byte at most
 pub tail-steps : (mode : Mode) (pattern : List ℕ) (h m t : TokenList) → IsParted mode pattern h m t → (glob : GlobSource) → record { mode = mode; pattern = pattern } ≡ glob
@@ -117,7 +120,7 @@ tail-steps mode pattern h m t parted glob view text before between steps parts m
 
 -- the parts have as many tokens as the pattern
 pub parts-count : (mode : Mode) (pattern : List ℕ) (h m t : TokenList) → IsParted mode pattern h m t → length h.tokens + length m.tokens + length t.tokens ≡ length (tokens mode pattern)
-parts-count mode pattern h m t parted = rw (parted.head_is, parted.middle_is, parted.tail_is) (length-parts mode (tokens mode pattern))
+parts-count mode pattern h m t parted = rw (parted.head_is, parted.middle_is, parted.tail_is) (length-parts mode (listed_tokens mode pattern)) ∙ length-map (tokens mode pattern) listed
 
 pub parts-few : (mode : Mode) (pattern : List ℕ) (h m t : TokenList) → IsParted mode pattern h m t → length h.tokens + length m.tokens + length t.tokens ≤ length pattern
 parts-few mode pattern h m t parted = let all = parts-count mode pattern h m t parted in let few = few_tokens mode pattern in omega arith

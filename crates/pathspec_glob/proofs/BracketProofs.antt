@@ -2,38 +2,13 @@
 use Rattle.std.proofs.Common.{◌≡◌, ◌≤◌, ◌<◌, ◌+◌, ◌-◌, ℕ, zero, suc, Bool, true, false, inl, inr, refl, ◌∙◌, sym, ap, List, [], ◌∷◌, ◌++◌, length, drop, Option, Some, None, arith, length-drop, length-take, take, nat_lt, not, if◌then◌else◌, ◌==◌, is_some, ◌&&◌}
 use Rattle.std.proofs.lemmas.Bool.{cases_Bool, lt-ltb, le-ltb, ltb-true}
 use Rattle.std.proofs.lemmas.Bool.Decides.{nat_tests}
-use Rattle.std.specs.Char.{to_ascii_lowercase, to_ascii_uppercase}
 use Rattle.std.specs.List.{list_any, position, position_or_len}
-use Rattle.pathspec_glob.specs.declared.Case.{Case}
-use Rattle.pathspec_glob.specs.declared.Case.TheVariants.{Sensitive, Fold}
 use Rattle.pathspec_glob.specs.declared.brackets.Item.{Item as Kept}
 use Rattle.pathspec_glob.specs.Bytes.{dash, colon, open_bracket, close_bracket, backslash, first_is, is_empty}
 use Rattle.pathspec_glob.specs.Tokens.{Item, Items, Front, item_before, items_from, front_of, single_of, class_of, class_item, escaped_item, range_item, range_from, makes_range}
 use Rattle.pathspec_glob.specs.Tokens.Item.{Literal, Class}
 use Rattle.pathspec_glob.specs.Tokens.Front.{Listed, Closed, Broken}
-use Rattle.pathspec_glob.specs.GlobRelation.{bracket_holds, item_holds, items_hold}
 use Rattle.pathspec_glob.specs.GlobForms.{item_view, items_view}
-
--- items hold a byte where their forms do
-items_hold_forms : (items : List Kept) (b : ℕ) → items_hold (items_view items) b ≡ list_any (λ i. item_holds b (item_view i)) items
-items_hold_forms [] b = refl
-items_hold_forms (x ∷ xs) b = rw (items_hold_forms xs b) refl
-
-pub holds-in_Sensitive : (case : Case) (items : List Kept) (b : ℕ) (r : Bool) → case ≡ Sensitive → r ≡ list_any (λ i. item_holds b (item_view i)) items → r ≡ bracket_holds case (items_view items) b
-holds-in_Sensitive case items b r s e = rw s (e ∙ sym (items_hold_forms items b))
-
--- the answer for the lower form, where that is yes
-pub holds-by_lower : (case : Case) (items : List Kept) (b low : ℕ) (r : Bool) → case ≡ Fold → low ≡ to_ascii_lowercase b → r ≡ list_any (λ i. item_holds low (item_view i)) items → r ≡ true → r ≡ bracket_holds case (items_view items) b
-holds-by_lower case items b low r s l e t =
-    let yes : items_hold (items_view items) (to_ascii_lowercase b) ≡ true = rw (← l) (items_hold_forms items low ∙ (sym e ∙ t)) in
-    rw (s, t, yes) refl
-
--- and the answer for the upper form, where it is no
-pub holds-by_upper : (case : Case) (items : List Kept) (b low up : ℕ) (lost r : Bool) → case ≡ Fold → low ≡ to_ascii_lowercase b → up ≡ to_ascii_uppercase b → lost ≡ list_any (λ i. item_holds low (item_view i)) items → lost ≡ false → r ≡ list_any (λ i. item_holds up (item_view i)) items → r ≡ bracket_holds case (items_view items) b
-holds-by_upper case items b low up lost r s l u n f e =
-    let fails : items_hold (items_view items) (to_ascii_lowercase b) ≡ false = rw (← l) (items_hold_forms items low ∙ (sym n ∙ f)) in
-    let same : r ≡ items_hold (items_view items) (to_ascii_uppercase b) = rw (← u) (e ∙ sym (items_hold_forms items up)) in
-    rw (s, fails) same
 
 -- the first place that passes, after elements that stand before it
 first-drop : {X : Type 0} (p : X → Bool) (xs : List X) (size : ℕ) → size ≤ position_or_len p xs → position_or_len p (drop size xs) ≡ position_or_len p xs - size

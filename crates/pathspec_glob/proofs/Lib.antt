@@ -1,5 +1,7 @@
 pub mod BracketProofs
+pub mod ByteSetProofs
 pub mod TokenProofs
+pub mod RunProofs
 pub mod GlobProofs
 pub mod TailProofs
 pub mod StemProofs

@@ -1,15 +1,19 @@
 -- Patterns as tokens: how many bytes a token takes, what follows it, and that there are few.
-use Rattle.std.proofs.Common.{◌≡◌, ℕ, zero, suc, ◌+◌, ◌-◌, ◌<◌, ◌≤◌, ◌==◌, Bool, true, false, inl, inr, refl, ap, subst, sym, ◌∙◌, List, [], ◌∷◌, ◌++◌, length, get_or, drop, codes, Option, Some, None, if◌then◌else◌, arith, append_assoc, append-nil}
+use Rattle.std.proofs.Common.{◌≡◌, ℕ, zero, suc, ◌+◌, ◌-◌, ◌<◌, ◌≤◌, ◌==◌, Bool, true, false, inl, inr, refl, ap, subst, sym, ◌∙◌, List, [], ◌∷◌, ◌++◌, length, get_or, drop, map, codes, Option, Some, None, if◌then◌else◌, arith, append_assoc, append-nil}
 use Rattle.std.specs.List.{prefix_len}
 use Rattle.std.proofs.lemmas.Bool.{cases_Bool}
 use Rattle.std.proofs.lemmas.List.Sums.{prefix_len-le-length}
 use Rattle.std.proofs.Math.Numerals.{one-add, add-one}
 use Rattle.pathspec_glob.specs.declared.Mode.{Mode}
+use Rattle.pathspec_glob.specs.declared.Mode.TheVariants.{Shell, PathAware}
 use Rattle.pathspec_glob.specs.Bytes.{slash, star, question_mark, open_bracket, backslash, is_one_of, first_is}
-use Rattle.pathspec_glob.specs.Tokens.{Items, Front, Token, Piece, front_of, single_of, bytes_of, items_with, items_from, escaped_piece, bracket_with, bracket_piece, run_token, run_piece, piece_of, token_before, tokens_from, tokens}
+use Rattle.pathspec_glob.specs.Tokens.{Items, Front, Token, Piece, front_of, single_of, bytes_of, items_with, items_from, escaped_piece, bracket_with, bracket_piece, is_deep, run_token, run_piece, piece_of, token_before, tokens_from, tokens}
 use Rattle.pathspec_glob.specs.Tokens.Front.{Listed, Closed, Broken}
 use Rattle.pathspec_glob.specs.Tokens.Single.{Byte, Quoted, Any, Bracket, Dead}
 use Rattle.pathspec_glob.specs.Tokens.Token.{One, Star, Deep}
+use Rattle.pathspec_glob.specs.GlobRelation.{items_hold}
+use Rattle.pathspec_glob.specs.ByteSets.{literals, listed, listed_piece}
+use Rattle.pathspec_glob.proofs.ByteSetProofs.{literals-same}
 
 -- a bracket's items end before the bytes do
 items_with-shorter : (front : Front) (bs : List ℕ) (others : Option Items) (read : Items) → ((o : Items) → others ≡ Some o → length o.rest < length bs) → items_with front bs others ≡ Some read → length read.rest < suc (length bs)
@@ -61,12 +65,12 @@ listed-within false rest read e =
     let less : length read.rest < length rest = items-shorter 0 true None rest read e in
     omega arith
 
-bracket-within : (rest : List ℕ) → Within (bracket_piece rest) (length rest)
+pub bracket-within : (rest : List ℕ) → Within (bracket_piece rest) (length rest)
 bracket-within rest =
     let negated : Bool = first_is (is_one_of (codes "!^")) rest in
     bracket_with-within negated (length rest) (items_from 0 true None (if negated then drop 1 rest else rest)) (listed-within negated rest)
 
-run-within : (mode : Mode) (after_slash : Bool) (b : ℕ) (rest : List ℕ) → b == star ≡ true → Within (run_piece mode after_slash (prefix_len (λ c. c == star) (b ∷ rest)) (b ∷ rest)) (length rest)
+pub run-within : (mode : Mode) (after_slash : Bool) (b : ℕ) (rest : List ℕ) → b == star ≡ true → Within (run_piece mode after_slash (prefix_len (λ c. c == star) (b ∷ rest)) (b ∷ rest)) (length rest)
 run-within mode after_slash b rest is =
     let stars : ℕ → Bool = λ c. c == star in
     let least : prefix_len stars rest ≤ length rest = prefix_len-le-length stars rest in
@@ -93,6 +97,21 @@ pub run-read : (mode : Mode) (after_slash : Bool) (rest : List ℕ) (more : ℕ)
     → record { token = token; size = more + 1 } ≡ run_piece mode after_slash (prefix_len (λ c. c == star) (star ∷ rest)) (star ∷ rest)
 run-read mode after_slash rest more token count is = rw (← count, one-add, is, add-one) refl
 
+-- a bracket whose items are a set's
+pub bracket-listed : (rest listed : List ℕ) (negated : Bool) (read : Items) (set : ℕ → Bool) → negated ≡ first_is (is_one_of (codes "!^")) rest → listed ≡ (if negated then drop 1 rest else rest)
+    → Some read ≡ items_from 0 true None listed → ((b : ℕ) → b < 256 → set b ≡ items_hold read.items b)
+    → record { token = One (Bracket negated (literals set)); size = length rest + 1 - length read.rest } ≡ listed_piece (bracket_piece rest)
+bracket-listed rest listed negated read set is from found same =
+    let items : items_from 0 true None (if negated then drop 1 rest else rest) ≡ Some read = sym (found ∙ ap (items_from 0 true None) from) in
+    let whole : bracket_piece rest ≡ record { token = One (Bracket negated read.items); size = length rest + 1 - length read.rest } =
+    ap (λ n. bracket_with n (length rest) (items_from 0 true None (if n then drop 1 rest else rest))) (sym is) ∙ ap (bracket_with negated (length rest)) items in
+    rw (literals-same 256 set (items_hold read.items) same) (ap listed_piece (sym whole))
+
+-- a run lists nothing
+pub run-listed : (mode : Mode) (after_slash : Bool) (run : ℕ) (text : List ℕ) → run_piece mode after_slash run text ≡ listed_piece (run_piece mode after_slash run text)
+run-listed Shell after_slash run text = refl
+run-listed PathAware after_slash run text = elim (cases_Bool (is_deep after_slash run (drop run text))) [ inl e ↦ rw e refl | inr e ↦ rw e refl ]
+
 -- what follows bytes that belong to a token
 skipped : (mode : Mode) (k b : ℕ) (bs : List ℕ) → tokens_from mode k (b == slash) bs ≡ tokens_from mode 0 (get_or (b ∷ bs) k 0 == slash) (drop k bs)
 unfolding tokens_from
@@ -118,21 +137,39 @@ pub tokens-read : (mode : Mode) (after_slash : Bool) (text : List ℕ) (size : �
 tokens-read mode after_slash [] size token some is = absurd (omega arith)
 tokens-read mode after_slash (b ∷ bs) size token some is = tokens-next mode after_slash b bs size token is
 
+-- brackets that list each byte end a pattern where theirs do
+before-listed : (token : Token) (others : List Token) → map listed (token_before token others) ≡ token_before (listed token) (map listed others)
+before-listed (One Dead) others = refl
+before-listed (One (Byte b)) others = refl
+before-listed (One (Quoted b)) others = refl
+before-listed (One Any) others = refl
+before-listed (One (Bracket negated items)) others = refl
+before-listed Star others = refl
+before-listed Deep others = refl
+
+-- the same of tokens whose brackets list each byte
+listed-read : (mode : Mode) (after_slash : Bool) (text : List ℕ) (size : ℕ) (token : Token) → 1 ≤ length text → record { token = token; size = size } ≡ listed_piece (piece_of mode after_slash (get_or text 0 0) (drop 1 text))
+    → map listed (tokens_from mode 0 after_slash text) ≡ token_before token (map listed (tokens_from mode 0 (get_or text (size - 1) 0 == slash) (drop size text)))
+listed-read mode after_slash text size token some is =
+    let piece : Piece = piece_of mode after_slash (get_or text 0 0) (drop 1 text) in
+    let P : Piece → Type 0 = λ p. map listed (tokens_from mode 0 after_slash text) ≡ token_before p.token (map listed (tokens_from mode 0 (get_or text (p.size - 1) 0 == slash) (drop p.size text))) in
+    subst P (sym is) (ap (map listed) (tokens-read mode after_slash text piece.size piece.token some refl) ∙ before-listed piece.token _)
+
 -- a dead token is the last
-pub tokens-last : (mode : Mode) (after_slash : Bool) (all whole : List Token) (text : List ℕ) (size : ℕ) (token : Token) → all ++ tokens_from mode 0 after_slash text ≡ whole → 1 ≤ length text
-    → record { token = token; size = size } ≡ piece_of mode after_slash (get_or text 0 0) (drop 1 text) → ((others : List Token) → token_before token others ≡ token ∷ []) → all ++ token ∷ [] ≡ whole
+pub tokens-last : (mode : Mode) (after_slash : Bool) (all whole : List Token) (text : List ℕ) (size : ℕ) (token : Token) → all ++ map listed (tokens_from mode 0 after_slash text) ≡ whole → 1 ≤ length text
+    → record { token = token; size = size } ≡ listed_piece (piece_of mode after_slash (get_or text 0 0) (drop 1 text)) → ((others : List Token) → token_before token others ≡ token ∷ []) → all ++ token ∷ [] ≡ whole
 tokens-last mode after_slash all whole text size token so_far some is last =
-    ap (λ ts. all ++ ts) (sym (tokens-read mode after_slash text size token some is ∙ last _)) ∙ so_far
+    ap (λ ts. all ++ ts) (sym (listed-read mode after_slash text size token some is ∙ last _)) ∙ so_far
 
 -- another is not
-pub tokens-more : (mode : Mode) (after_slash : Bool) (all whole : List Token) (text : List ℕ) (size : ℕ) (token : Token) → all ++ tokens_from mode 0 after_slash text ≡ whole → 1 ≤ length text
-    → record { token = token; size = size } ≡ piece_of mode after_slash (get_or text 0 0) (drop 1 text) → ((others : List Token) → token_before token others ≡ token ∷ others)
-    → (all ++ token ∷ []) ++ tokens_from mode 0 (get_or text (size - 1) 0 == slash) (drop size text) ≡ whole
+pub tokens-more : (mode : Mode) (after_slash : Bool) (all whole : List Token) (text : List ℕ) (size : ℕ) (token : Token) → all ++ map listed (tokens_from mode 0 after_slash text) ≡ whole → 1 ≤ length text
+    → record { token = token; size = size } ≡ listed_piece (piece_of mode after_slash (get_or text 0 0) (drop 1 text)) → ((others : List Token) → token_before token others ≡ token ∷ others)
+    → (all ++ token ∷ []) ++ map listed (tokens_from mode 0 (get_or text (size - 1) 0 == slash) (drop size text)) ≡ whole
 tokens-more mode after_slash all whole text size token so_far some is more =
-    append_assoc all (token ∷ []) _ ∙ ap (λ ts. all ++ ts) (sym (tokens-read mode after_slash text size token some is ∙ more _)) ∙ so_far
+    append_assoc all (token ∷ []) _ ∙ ap (λ ts. all ++ ts) (sym (listed-read mode after_slash text size token some is ∙ more _)) ∙ so_far
 
 -- after the last byte there are none
-pub tokens-all : (mode : Mode) (after_slash : Bool) (all whole : List Token) (text : List ℕ) → all ++ tokens_from mode 0 after_slash text ≡ whole → length text < 1 → all ≡ whole
+pub tokens-all : (mode : Mode) (after_slash : Bool) (all whole : List Token) (text : List ℕ) → all ++ map listed (tokens_from mode 0 after_slash text) ≡ whole → length text < 1 → all ≡ whole
 unfolding tokens_from
 tokens-all mode after_slash all whole [] so_far none = sym (append-nil all) ∙ so_far
 tokens-all mode after_slash all whole (b ∷ bs) so_far none = absurd (omega arith)

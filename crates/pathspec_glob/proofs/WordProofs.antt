@@ -197,11 +197,3 @@ token-at ts place h = rw (add-one place) (from-place ts place h)
 pub cells-from : (ts : List Token) (place : ℕ) (wide : Bool) → place < length ts → wide ≡ is_wide_at (drop place ts)
     → cell_count (drop place ts) ≡ (if wide then cell_count (drop (place + 1) ts) else suc (cell_count (drop (place + 1) ts)))
 cells-from ts place wide h is = rw (is, token-at ts place h) (cell_count-token (get_or ts place Star) (drop (place + 1) ts))
-
--- tokens that alternate from the next place on do so from this one on, unless it is wide behind another
-pub alternates-from : (ts : List Token) (place : ℕ) (behind wide : Bool) → place < length ts → wide ≡ is_wide_at (drop place ts) → (behind && wide) ≡ false
-    → alternates_behind wide (drop (place + 1) ts) ≡ true → alternates_behind behind (drop place ts) ≡ true
-alternates-from ts place behind wide h is apart rest =
-    let t = get_or ts place Star in
-    let same : wide ≡ is_wide t = is ∙ ap is_wide_at (token-at ts place h) in
-    rw (token-at ts place h, sym same, apart) rest

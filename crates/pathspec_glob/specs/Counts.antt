@@ -1,6 +1,6 @@
 -- Counts of steps: those of one match, and those of all matches together.
 use Rattle.std.specs.Prelude.{◌≡◌, ◌≤◌, ℕ, ◌+◌, ◌%◌, ◌^◌}
-use Rattle.pathspec_glob.specs.declared.tokens.Steps.{Steps}
+use Rattle.pathspec_glob.specs.declared.scratch.Steps.{Steps}
 
 -- so many steps were counted between two counts, which go round at 2 ^ 128
 abbrev pub Counts : ℕ → ℕ → ℕ → Type 0

@@ -17,6 +17,8 @@ use Rattle.pathspec_glob.specs.Tokens.Item.{Literal, Range, Class}
 use Rattle.pathspec_glob.specs.Tokens.Front.{Listed, Closed, Broken}
 use Rattle.pathspec_glob.specs.Tokens.Single.{Byte, Quoted, Any, Bracket, Dead}
 use Rattle.pathspec_glob.specs.Tokens.Token.{One, Star, Deep}
+use Rattle.pathspec_glob.specs.GlobRows.{words_hold}
+use Rattle.pathspec_glob.specs.ByteSets.{literals}
 
 -- the name of a class
 abbrev pub class_name : Named → List ℕ
@@ -58,7 +60,7 @@ abbrev pub single_view : Held → Single
 single_view (held.Byte byte) = Byte byte
 single_view (held.Quoted byte) = Quoted byte
 single_view held.Any = Any
-single_view (held.Bracket negated items) = Bracket negated (items_view items.items)
+single_view (held.Bracket negated set) = Bracket negated (literals (words_hold set.words))
 single_view held.Dead = Dead
 
 -- the token that a `Token` is

@@ -1,14 +1,15 @@
 -- The parts of a glob: its head and its tail, whose tokens take one byte each, and what stands between.
-use Rattle.std.specs.Prelude.{◌≡◌, ℕ, suc, ◌-◌, Bool, true, false, not, ◌&&◌, List, [], ◌∷◌, ◌==◌, length, map, nat_lt, take, drop, if◌then◌else◌}
+use Rattle.std.specs.Prelude.{◌≡◌, ◌<◌, ℕ, suc, ◌-◌, ◌^◌, Bool, true, false, not, ◌&&◌, List, [], ◌∷◌, ◌==◌, length, map, nat_lt, take, drop, if◌then◌else◌}
 use Rattle.std.specs.List.{list_all, prefix_len}
 use Rattle.pathspec_glob.specs.declared.Mode.{Mode}
 use Rattle.pathspec_glob.specs.declared.Case.{Case}
 use Rattle.pathspec_glob.specs.Bytes.{slash, is_empty}
-use Rattle.pathspec_glob.specs.Tokens.{Token, tokens}
+use Rattle.pathspec_glob.specs.Tokens.{Token}
 use Rattle.pathspec_glob.specs.Tokens.Single.{Byte}
 use Rattle.pathspec_glob.specs.Tokens.Token.{One, Star, Deep}
 use Rattle.pathspec_glob.specs.GlobRelation.{matches}
 use Rattle.pathspec_glob.specs.GlobSteps.{TokenList, is_wide, may_pass_over_at, takes_byte}
+use Rattle.pathspec_glob.specs.ByteSets.{listed_tokens}
 
 -- how many tokens stand before the first that takes any number of bytes
 abbrev pub head_size : List Token → ℕ
@@ -95,8 +96,9 @@ wide_tests ts text = 0
 abbrev pub MatchAsFirst : TokenList → Type 0
 MatchAsFirst parts = (case : Case) (text : List ℕ) → matches parts.mode case parts.tokens text ≡ wide_takes parts.tokens text
 
--- the tokens of a pattern, in their parts
+-- The tokens of a pattern, in their parts; the pattern has fewer than 2^64 bytes.
 pub record IsParted (mode : Mode) (pattern : List ℕ) (head middle tail : TokenList) : Type 0 where
-  pub head_is : head ≡ record { mode = mode; tokens = head_of (tokens mode pattern) }
-  pub middle_is : middle ≡ record { mode = mode; tokens = middle_of mode (tokens mode pattern) }
-  pub tail_is : tail ≡ record { mode = mode; tokens = tail_of mode (tokens mode pattern) }
+  pub head_is : head ≡ record { mode = mode; tokens = head_of (listed_tokens mode pattern) }
+  pub middle_is : middle ≡ record { mode = mode; tokens = middle_of mode (listed_tokens mode pattern) }
+  pub tail_is : tail ≡ record { mode = mode; tokens = tail_of mode (listed_tokens mode pattern) }
+  pub fits : length pattern < 2 ^ 64

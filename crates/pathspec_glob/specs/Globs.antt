@@ -6,7 +6,7 @@ use Rattle.pathspec_glob.specs.declared.Mode.TheVariants.{Shell}
 use Rattle.pathspec_glob.specs.declared.Case.{Case}
 use Rattle.pathspec_glob.specs.declared.Case.TheVariants.{Sensitive, Fold}
 use Rattle.pathspec_glob.specs.declared.places.Places.{Places}
-use Rattle.pathspec_glob.specs.declared.tokens.Steps.{Steps}
+use Rattle.pathspec_glob.specs.declared.scratch.Steps.{Steps}
 use Rattle.pathspec_glob.specs.Bytes.{slash, star, first_is, begins_with, fold_case, is_wildcard}
 use Rattle.pathspec_glob.specs.Tokens.{Token, tokens}
 use Rattle.pathspec_glob.specs.GlobRelation.{Matches, matches}

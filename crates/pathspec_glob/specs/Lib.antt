@@ -11,3 +11,4 @@ pub mod GlobPlaces
 pub mod GlobWays
 pub mod Globs
 pub mod Counts
+pub mod ByteSets

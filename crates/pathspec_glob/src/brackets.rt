@@ -1,14 +1,13 @@
 //! Brackets of globs: the bytes that `[` .. `]` lists (git's wildmatch).
 ghost use Rattle.std.specs.Prelude.{◌≡◌, ◌≤◌, ◌==◌, ℕ, None, IfOk, true, length, drop, bytes_eq};
 ghost use Rattle.std.specs.Option.{option_map};
-ghost use Rattle.std.specs.List.{list_any, position};
+ghost use Rattle.std.specs.List.{position};
 ghost use Rattle.pathspec_glob.specs.Bytes.{close_bracket, colon, first_is};
 ghost use Rattle.pathspec_glob.specs.Tokens.{before_last_colon, class_item, class_of, escaped_item, front_of, items_from, known_class, makes_range, named_class, range_from, single_of};
 ghost use Rattle.pathspec_glob.specs.Tokens.Front.{Listed};
-ghost use Rattle.pathspec_glob.specs.GlobRelation.{bracket_holds, item_holds, passes};
-ghost use Rattle.pathspec_glob.specs.GlobForms.{class_name, front_view, item_view, items_view, bracket_view};
+ghost use Rattle.pathspec_glob.specs.GlobRelation.{passes};
+ghost use Rattle.pathspec_glob.specs.GlobForms.{class_name, front_view, item_view, bracket_view};
 
-use crate::Case;
 use std::alloc::{AllocError, Global};
 
 /// A class of ASCII bytes that a bracket names, as `[:digit:]`.
@@ -75,7 +74,7 @@ impl Class {
     }
 
     /// Whether it has the byte.
-    fn holds(self, byte: u8) -> bool
+    pub fn holds(self, byte: u8) -> bool
         ensures { result ≡ passes (class_of (class_name self)) byte }
     {
         match self {
@@ -107,17 +106,6 @@ pub enum Item {
 }
 
 impl Item {
-    /// Whether it holds the byte.
-    fn holds(self, byte: u8) -> bool
-        ensures { result ≡ item_holds byte (item_view self) }
-    {
-        match self {
-            Item::Literal(own) => own == byte,
-            Item::Range(first, last) => first <= byte && byte <= last,
-            Item::Class(class) => class.holds(byte),
-        }
-    }
-
     /// The byte that a next `-` may start from.
     fn single(self) -> Option<u8>
         ensures { (size : ℕ) → result ≡ single_of (Listed (item_view self) size) }
@@ -299,24 +287,4 @@ fn closing_after(bytes: &[u8], size: usize, closing: Option<usize>) -> Option<us
     } else {
         Some(place - size)
     }
-}
-
-/// Whether the items hold the byte; without case, its lower or its upper form.
-pub fn bracket_holds(items: &[Item], case: Case, byte: u8) -> bool
-    ensures { result ≡ bracket_holds case (items_view items.now) byte }
-{
-    match case {
-        Case::Sensitive => any_holds(items, byte),
-        Case::Fold => {
-            any_holds(items, byte.to_ascii_lowercase())
-                || any_holds(items, byte.to_ascii_uppercase())
-        }
-    }
-}
-
-/// Whether an item holds the byte.
-fn any_holds(items: &[Item], byte: u8) -> bool
-    ensures { result ≡ list_any (λ i. item_holds byte (item_view i)) items.now }
-{
-    items.iter().any(|item| item.holds(byte))
 }

@@ -1,19 +1,22 @@
 //! The ends of a glob, its head and its tail: each of their tokens takes one byte.
 ghost use Rattle.std.specs.Prelude.{◌≡◌, ◌≤◌, ◌<◌, ◌+◌, ◌^◌, length, is_some, IfOk, IfSome, IsTrue};
 ghost use Rattle.pathspec_glob.specs.Counts.{KeepsCount};
-ghost use Rattle.pathspec_glob.specs.GlobParts.{before_end, behind_front, end_tests, front_tests, takes_each, takes_end, takes_front, tests_each};
+ghost use Rattle.pathspec_glob.specs.declared.Mode.{Mode};
+ghost use Rattle.pathspec_glob.specs.GlobParts.{before_end, behind_front, end_tests, front_tests, plain_tokens, takes_each, takes_end, takes_front, tests_each};
 
 use crate::Case;
-use crate::tokens::{self, Steps, Tokens};
+use crate::counted::{CountedBytes, CountedTokens, Tests};
+use crate::scratch::Steps;
+use crate::tokens::Tokens;
 use std::alloc::{AllocError, Global};
 use std::marker::Model;
 
 /// The tokens of a head or of a tail.
 #[derive(Debug, Drop)]
 pub struct End {
-    tokens: Tokens,
+    tokens: CountedTokens,
     /// The bytes that they want, where each wants a byte of its own.
-    bytes: Option<Vec<u8>>,
+    bytes: Option<CountedBytes>,
 }
 
 impl Model for End {
@@ -27,7 +30,7 @@ impl Model for End {
     ghost view = { λ e. e.tokens };
 
     ghost invariant = { λ e. ForSome e.bytes
-        (λ bytes. e.tokens.tokens ≡ plain_tokens bytes.items) };
+        (λ bytes. e.tokens.tokens ≡ plain_tokens bytes.all.items) };
 }
 
 impl End {
@@ -39,7 +42,10 @@ impl End {
         ensures { IfOk result (λ end. end ≡ tokens) }
     {
         let bytes = tokens.bytes(alloc)?;
-        Ok(End { tokens, bytes })
+        Ok(End {
+            tokens: tokens.counted(),
+            bytes,
+        })
     }
 
     /// How many tokens they are.
@@ -116,8 +122,57 @@ impl End {
         ensures counted { KeepsCount steps.old steps.new }
     {
         match &self.bytes {
-            Some(bytes) => tokens::test_bytes(bytes, text, case, steps),
-            None => self.tokens.test_each(text, case, steps),
+            Some(bytes) => test_bytes(bytes, text, case, steps),
+            None => test_tokens(&self.tokens, text, case, steps),
         }
     }
+}
+
+/// Tests tokens that want these bytes as [`test_tokens`] does.
+#[inline(always)]
+fn test_bytes(bytes: &CountedBytes, text: &[u8], case: Case, steps: &mut Steps) -> bool
+    requires len { length text.now ≡ length bytes.now.all.items }
+    requires room { steps.old.last + length text.now < 2 ^ 128 }
+    ensures answer { (mode : Mode)
+        → result ≡ takes_each mode case (plain_tokens bytes.now.all.items) text.now }
+    ensures tests { (mode : Mode) → steps.new.last
+        ≡ steps.old.last + tests_each mode case (plain_tokens bytes.now.all.items) text.now }
+    ensures most { steps.new.last ≤ steps.old.last + length text.now }
+    ensures least { IsTrue result → steps.new.last ≡ steps.old.last + length text.now }
+    ensures counted { KeepsCount steps.old steps.new }
+{
+    let mut tests = Tests::none(1);
+    for place in 0..text.len() {
+        if !bytes.test(place, text[place], case, &mut tests) {
+            steps.add(tests);
+            return false;
+        }
+    }
+    steps.add(tests);
+    true
+}
+
+// Out of line, since heads and tails are mostly bytes alone.
+/// Tests tokens on the bytes of a text one by one, up to a byte that its token doesn't take, each of which is counted as
+/// one step: whether they take them all.
+#[inline(never)]
+fn test_tokens(tokens: &CountedTokens, text: &[u8], case: Case, steps: &mut Steps) -> bool
+    requires len { length text.now ≡ length tokens.now.tokens }
+    requires room { steps.old.last + length text.now < 2 ^ 128 }
+    ensures answer { result ≡ takes_each tokens.now.mode case tokens.now.tokens text.now }
+    ensures tests { steps.new.last
+        ≡ steps.old.last + tests_each tokens.now.mode case tokens.now.tokens text.now }
+    ensures most { steps.new.last ≤ steps.old.last + length text.now }
+    ensures least { IsTrue result → steps.new.last ≡ steps.old.last + length text.now }
+    ensures counted { KeepsCount steps.old steps.new }
+{
+    let mut tests = Tests::none(1);
+    for place in 0..text.len() {
+        if !tokens.test(place, text[place], case, &mut tests) {
+            steps.add(tests);
+            return false;
+        }
+    }
+    steps.add(tests);
+    true
 }

@@ -7,6 +7,7 @@ ghost use Rattle.pathspec_glob.specs.Bytes.{is_wildcard};
 ghost use Rattle.pathspec_glob.specs.Globs.{MatchBeginsStem};
 
 mod brackets;
+mod counted;
 mod ends;
 mod matcher;
 mod middle;
@@ -14,6 +15,8 @@ mod places;
 mod reading;
 mod rows;
 mod scratch;
+mod sets;
+mod source;
 mod tokens;
 
 pub use matcher::Glob;

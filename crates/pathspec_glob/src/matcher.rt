@@ -6,6 +6,7 @@ ghost use Rattle.pathspec_glob.specs.Counts.{Counts};
 use crate::ends::End;
 use crate::middle::Middle;
 use crate::scratch::Scratch;
+use crate::source::Source;
 use crate::tokens::Tokens;
 use crate::{Case, Mode};
 use std::alloc::{AllocError, Global};
@@ -18,10 +19,10 @@ pub struct Glob {
     parts: Box<Parts>,
 }
 
-/// A pattern and its tokens in three parts.
+/// A pattern, which only clauses see, and its tokens in three parts.
 #[derive(Debug, Drop)]
 struct Parts {
-    pattern: Vec<u8>,
+    source: Source,
     /// The tokens before the first that takes any number of bytes.
     head: End,
     /// Those up to the last that does, with a slash that this one may stand for nothing with.
@@ -39,11 +40,11 @@ impl Model for Glob {
 
     ghost view = { λ g. record {
       mode = (box_value g.parts).head.mode;
-      pattern = (box_value g.parts).pattern.items;
+      pattern = (box_value g.parts).source.pattern;
     } };
 
     ghost invariant = { λ g. IsParted (box_value g.parts).head.mode
-        (box_value g.parts).pattern.items (box_value g.parts).head
+        (box_value g.parts).source.pattern (box_value g.parts).head
         (box_value g.parts).middle (box_value g.parts).tail };
 }
 
@@ -63,7 +64,7 @@ impl Glob {
         let middle_size = middle.wide_size();
         let tail = middle.split_off(middle_size)?;
         let parts = Parts {
-            pattern: Vec::from_slice(alloc, pattern)?,
+            source: Source::of(pattern),
             head: End::of_tokens(alloc, head)?,
             middle: Middle::of_tokens(alloc, middle)?,
             tail: End::of_tokens(alloc, tail)?,

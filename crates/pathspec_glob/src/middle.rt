@@ -1,21 +1,26 @@
 //! What stands between the head and the tail of a glob, and the sets of places that it is matched by.
-ghost use Rattle.std.specs.Prelude.{◌≡◌, ◌≤◌, ◌<◌, ◌+◌, ◌*◌, ◌^◌, length, IfOk, IsTrue};
+ghost use Rattle.std.specs.Prelude.{◌≡◌, ◌≤◌, ◌<◌, ◌+◌, ◌*◌, ◌^◌, false, length, true, IfOk, IsTrue};
 ghost use Rattle.pathspec_glob.specs.Counts.{KeepsCount};
 ghost use Rattle.pathspec_glob.specs.GlobRelation.{matches};
+ghost use Rattle.pathspec_glob.specs.GlobCells.{alternates_behind};
+ghost use Rattle.pathspec_glob.specs.GlobParts.{wide_takes, wide_tests};
 ghost use Rattle.pathspec_glob.specs.GlobPlaces.{HasRoom, KeepsRoom};
+ghost use Rattle.pathspec_glob.specs.GlobSteps.{is_wide_at};
 
 use crate::Case;
+use crate::counted::{CountedTokens, Tests};
 use crate::places::Places;
 use crate::places::moves::EmptyMoves;
+use crate::scratch::Steps;
+use crate::tokens::Tokens;
 use crate::tokens::word::{Answer, Word};
-use crate::tokens::{Steps, Tokens};
 use std::alloc::{AllocError, Global};
 use std::marker::Model;
 
 /// The tokens between the head and the tail of a glob.
 #[derive(Debug, Drop)]
 pub struct Middle {
-    tokens: Tokens,
+    tokens: CountedTokens,
     way: Way,
 }
 
@@ -47,10 +52,14 @@ impl Middle {
     /// # Errors
     /// Memory runs out.
     pub fn of_tokens(alloc: Global, tokens: Tokens) -> Result<Middle, AllocError>
+        requires { alternates_behind false tokens.tokens ≡ true }
         ensures { IfOk result (λ middle. middle ≡ tokens) }
     {
         let way = Way::of_tokens(alloc, &tokens)?;
-        Ok(Middle { tokens, way })
+        Ok(Middle {
+            tokens: tokens.counted(),
+            way,
+        })
     }
 
     /// How many tokens they are.
@@ -74,13 +83,10 @@ impl Middle {
         ensures room { KeepsRoom places.old places.new }
     {
         match &self.way {
-            Way::First => self.tokens.test_all(text, steps),
+            Way::First => test_first(&self.tokens, text, steps),
             Way::Word(word) => {
-                let Answer {
-                    accepted,
-                    questions,
-                } = word.run(text, case);
-                questions.count(steps);
+                let Answer { accepted, tests } = word.run(text, case);
+                steps.add(tests);
                 accepted
             }
             Way::Rows(moves) => places.run(&self.tokens, moves, text, case, steps),
@@ -96,6 +102,7 @@ impl Way {
     /// # Errors
     /// Memory runs out.
     fn of_tokens(alloc: Global, tokens: &Tokens) -> Result<Way, AllocError>
+        requires { alternates_behind false tokens.now.tokens ≡ true }
         ensures { IfOk result (λ way. IsWayOf tokens.now way) }
     {
         if tokens.match_as_first() {
@@ -106,4 +113,26 @@ impl Way {
             None => Way::Rows(EmptyMoves::of_tokens(alloc, tokens)?),
         })
     }
+}
+
+/// Tests the first token, which takes any number of bytes, on the bytes of a text up to one that it doesn't take, each
+/// of which is counted as one step: whether it takes them all.
+fn test_first(tokens: &CountedTokens, text: &[u8], steps: &mut Steps) -> bool
+    requires wide { IsTrue (is_wide_at tokens.now.tokens) }
+    requires room { steps.old.last + length text.now < 2 ^ 128 }
+    ensures answer { result ≡ wide_takes tokens.now.tokens text.now }
+    ensures tests { steps.new.last ≡ steps.old.last + wide_tests tokens.now.tokens text.now }
+    ensures most { steps.new.last ≤ steps.old.last + length text.now }
+    ensures least { IsTrue result → steps.new.last ≡ steps.old.last + length text.now }
+    ensures counted { KeepsCount steps.old steps.new }
+{
+    let mut tests = Tests::none(1);
+    for place in 0..text.len() {
+        if !tokens.test(0, text[place], Case::Sensitive, &mut tests) {
+            steps.add(tests);
+            return false;
+        }
+    }
+    steps.add(tests);
+    true
 }

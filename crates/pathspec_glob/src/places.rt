@@ -9,8 +9,9 @@ pub mod moves;
 mod step;
 
 use crate::Case;
+use crate::counted::CountedTokens;
 use crate::rows::Row;
-use crate::tokens::{Steps, Tokens};
+use crate::scratch::Steps;
 use moves::EmptyMoves;
 use std::alloc::{AllocError, Global};
 
@@ -58,7 +59,7 @@ impl Places {
     #[inline(never)]
     pub fn run(
         &mut self,
-        tokens: &Tokens,
+        tokens: &CountedTokens,
         moves: &EmptyMoves,
         text: &[u8],
         case: Case,
@@ -84,7 +85,7 @@ impl Places {
     }
 
     /// Comes to the first place alone.
-    fn begin(&mut self, tokens: &Tokens)
+    fn begin(&mut self, tokens: &CountedTokens)
         requires { HasRoom (length tokens.now.tokens) self.old }
         ensures accepts { AcceptsFromStart tokens.now self.new }
         ensures bounds { IsBounded (length tokens.now.tokens) self.new }

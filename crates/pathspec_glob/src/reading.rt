@@ -1,11 +1,13 @@
 //! Patterns of globs, read as tokens (git's wildmatch).
-ghost use Rattle.std.specs.Prelude.{◌≡◌, ◌==◌, ◌+◌, ◌≤◌, length, IfOk, IsTrue, IsFalse};
+ghost use Rattle.std.specs.Prelude.{◌≡◌, ◌==◌, ◌+◌, ◌≤◌, codes, length, IfOk, IsTrue, IsFalse};
 ghost use Rattle.std.specs.List.{prefix_len};
-ghost use Rattle.pathspec_glob.specs.Bytes.{star};
-ghost use Rattle.pathspec_glob.specs.Tokens.{escaped_piece, bracket_piece, EndsPattern, is_deep, run_token, stars_piece, piece_of, StandsBefore, tokens};
+ghost use Rattle.pathspec_glob.specs.Bytes.{first_is, is_one_of, star};
+ghost use Rattle.pathspec_glob.specs.Tokens.{escaped_piece, bracket_piece, EndsPattern, is_deep, run_token, stars_piece, piece_of, StandsBefore};
+ghost use Rattle.pathspec_glob.specs.ByteSets.{listed_piece, listed_tokens};
 ghost use Rattle.pathspec_glob.specs.Tokens.Token.{One};
 ghost use Rattle.pathspec_glob.specs.GlobForms.{single_view, token_view, tokens_view, piece_view};
 
+use crate::sets::ByteSet;
 use crate::tokens::{Single, Token};
 use crate::{Mode, brackets};
 use std::alloc::{AllocError, Global};
@@ -25,7 +27,7 @@ struct Piece {
 /// # Errors
 /// Memory runs out.
 pub fn tokens(alloc: Global, pattern: &[u8], mode: Mode) -> Result<Vec<Token>, AllocError>
-    ensures { IfOk result (λ read. tokens_view read.items ≡ tokens mode pattern.now) }
+    ensures { IfOk result (λ read. tokens_view read.items ≡ listed_tokens mode pattern.now) }
 {
     let mut all = Vec::new(alloc);
     let mut after_slash = true;
@@ -61,7 +63,8 @@ fn first_piece(
     rest: &[u8],
 ) -> Result<Piece, AllocError>
     ensures read { IfOk result
-        (λ piece. piece_view piece ≡ piece_of mode after_slash byte rest.now) }
+        (λ piece. piece_view piece
+        ≡ listed_piece (piece_of mode after_slash byte rest.now)) }
     ensures within { IfOk result (λ piece. (1 ≤ piece.size) × (piece.size ≤ length rest.now + 1)) }
 {
     Ok(match byte {
@@ -85,7 +88,7 @@ fn single_byte(single: Single) -> Piece
 
 /// The byte that a backslash quotes. A last backslash is dead.
 fn escaped_piece(rest: &[u8]) -> Piece
-    ensures { piece_view result ≡ escaped_piece rest.now }
+    ensures { piece_view result ≡ listed_piece (escaped_piece rest.now) }
 {
     match rest {
         [] => single_byte(Single::Dead),
@@ -98,22 +101,29 @@ fn escaped_piece(rest: &[u8]) -> Piece
 
 /// The bracket whose `[` stands before this rest: one `!` or `^` negates it. One that can't be read is dead.
 fn bracket_piece(alloc: Global, rest: &[u8]) -> Result<Piece, AllocError>
-    ensures { IfOk result (λ piece. piece_view piece ≡ bracket_piece rest.now) }
+    ensures { IfOk result (λ piece. piece_view piece ≡ listed_piece (bracket_piece rest.now)) }
 {
-    let negated = matches!(rest, [b'!' | b'^', ..]);
+    let negated = is_negated(rest);
     let listed = if negated { &rest[1..] } else { rest };
     Ok(match brackets::read_items(alloc, listed)? {
         None => single_byte(Single::Dead),
         Some(read) => Piece {
             size: rest.len() + 1 - read.rest.len(),
-            token: Token::One(Single::Bracket(negated, read.items)),
+            token: Token::One(Single::Bracket(negated, ByteSet::of_items(&read.items))),
         },
     })
 }
 
+/// Whether the first byte negates a bracket.
+fn is_negated(bytes: &[u8]) -> bool
+    ensures { result ≡ first_is (is_one_of (codes "!^")) bytes.now }
+{
+    matches!(bytes, [b'!' | b'^', ..])
+}
+
 /// The run of stars whose first stands before this rest. It is taken whole.
 fn stars_piece(mode: Mode, after_slash: bool, rest: &[u8]) -> Piece
-    ensures { piece_view result ≡ stars_piece mode after_slash rest.now }
+    ensures { piece_view result ≡ listed_piece (stars_piece mode after_slash rest.now) }
 {
     let more = count_stars(rest);
     Piece {

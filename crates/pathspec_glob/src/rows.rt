@@ -99,7 +99,7 @@ impl Row {
 }
 
 /// A word with this bit set or not.
-fn with_bit(word: u64, place: usize, value: bool) -> u64
+pub fn with_bit(word: u64, place: usize, value: bool) -> u64
     requires { place < 64 }
     ensures { (i : ℕ) → i < 64 → has result i ≡ (if i == place then value else has word i) }
 {

@@ -1,16 +1,62 @@
 //! The room that matches work in, with the count of their steps, which nothing else has.
-ghost use Rattle.std.specs.Prelude.{◌≡◌, IfOk};
+ghost use Rattle.std.specs.Prelude.{◌≡◌, ◌+◌, ◌*◌, ◌<◌, ◌^◌, nat_lt, IfOk};
+ghost use Rattle.pathspec_glob.specs.Counts.{BeginsAnew, HasNoSteps, KeepsCount};
 ghost use Rattle.pathspec_glob.specs.Globs.{room_for};
 
+use crate::counted::Tests;
 use crate::places::Places;
-use crate::tokens::Steps;
 use std::alloc::{AllocError, Global};
 use std::marker::Model;
 
-/// What a count of steps is made with. Only a scratch has one, so a match has no count but its scratch's.
+/// What tests are given to. Only the count of a scratch has one, so no test goes to another count.
 #[derive(Debug, Drop)]
 pub struct Key {
     own: (),
+}
+
+/// How many steps were taken. A step is one token tested at one position of a text: only such tests raise a count, and
+/// only a scratch has one.
+#[derive(Debug, Drop)]
+pub struct Steps {
+    /// In the last match.
+    last: u128,
+    /// In all matches together, modulo 2^128.
+    total: u128,
+    key: Key,
+}
+
+impl Steps {
+    /// No step yet.
+    fn none() -> Steps
+        ensures { HasNoSteps result }
+    {
+        Steps {
+            last: 0,
+            total: 0,
+            key: Key { own: () },
+        }
+    }
+
+    /// Begins the count of a match, and lets that of all matches go on.
+    pub fn begin(&mut self)
+        ensures { BeginsAnew self.old self.new }
+    {
+        self.last = 0;
+    }
+
+    /// Counts a step for each test, and says whether there were any.
+    #[inline(always)]
+    pub fn add(&mut self, tests: Tests) -> bool
+        requires { self.old.last + tests.tokens * tests.count < 2 ^ 128 }
+        ensures any { result ≡ nat_lt 0 (tests.tokens * tests.count) }
+        ensures steps { self.new.last ≡ self.old.last + tests.tokens * tests.count }
+        ensures counted { KeepsCount self.old self.new }
+    {
+        let steps = tests.spend(&self.key);
+        self.last += steps;
+        self.total = self.total.wrapping_add(steps);
+        steps > 0
+    }
 }
 
 /// The room that a match works in.
@@ -42,7 +88,7 @@ impl Scratch {
     {
         Ok(Scratch {
             places: Places::for_tokens(alloc, tokens)?,
-            steps: Steps::none(Key { own: () }),
+            steps: Steps::none(),
         })
     }
 
@@ -51,13 +97,13 @@ impl Scratch {
     pub fn last_steps(&self) -> u128
         ensures { result ≡ self.now.steps }
     {
-        self.steps.last()
+        self.steps.last
     }
 
     /// How many steps all its matches together took, modulo 2^128.
     pub fn total_steps(&self) -> u128
         ensures { result ≡ self.now.total_steps }
     {
-        self.steps.total()
+        self.steps.total
     }
 }

@@ -1,10 +1,11 @@
-//! The tokens of globs, and the one question that a text is asked with them.
+//! The tokens of globs, as they are read from a pattern.
 ghost use Rattle.std.specs.Prelude.{◌≡◌, ◌+◌, ◌<◌, ◌≤◌, ◌^◌, length, take, drop, map, nat_lt, not, IfOk, IfSome, OnOk, IsTrue, ◌==◌};
 ghost use Rattle.std.specs.List.{prefix_len};
 ghost use Rattle.pathspec_glob.specs.Bytes.{slash};
 ghost use Rattle.pathspec_glob.specs.GlobRelation.{is_same_byte, is_barred, takes, passes_over};
 ghost use Rattle.pathspec_glob.specs.GlobForms.{single_view, token_view, tokens_view};
-ghost use Rattle.pathspec_glob.specs.GlobSteps.{is_deep_token, is_wide, is_wide_at, may_pass_over_at, token_list, takes_byte, token_takes};
+ghost use Rattle.pathspec_glob.specs.GlobSteps.{is_deep_token, is_wide, is_wide_at, may_pass_over_at, takes_byte, token_takes};
+ghost use Rattle.pathspec_glob.specs.ByteSets.{listed_token_list};
 ghost use Rattle.pathspec_glob.specs.GlobParts.{plain_tokens, head_size, takes_each, tests_each, wide_size, wide_takes, wide_tests, MatchAsFirst};
 ghost use Rattle.pathspec_glob.specs.Tokens.Single.{Byte};
 ghost use Rattle.pathspec_glob.specs.Tokens.Token.{One, Star};
@@ -12,8 +13,8 @@ ghost use Rattle.pathspec_glob.specs.Counts.{BeginsAnew, HasNoSteps, KeepsCount}
 
 pub mod word;
 
-use crate::brackets::{self, Item};
-use crate::scratch::Key;
+use crate::counted::{CountedBytes, CountedTokens};
+use crate::sets::ByteSet;
 use crate::{Case, Mode, reading};
 use std::alloc::{AllocError, Global};
 use std::marker::Model;
@@ -27,8 +28,8 @@ pub enum Single {
     Quoted(u8),
     /// Any byte.
     Any,
-    /// A byte that the items hold, or one that they don't.
-    Bracket(bool, Vec<Item>),
+    /// A byte of a set, or, where the bracket is negated, a byte that isn't.
+    Bracket(bool, ByteSet),
     /// No byte.
     Dead,
 }
@@ -51,24 +52,6 @@ pub struct Tokens {
     all: Vec<Token>,
 }
 
-/// How many steps were taken. A step is one token tested at one position of a text: only such tests raise a count, and
-/// only a scratch has one.
-#[derive(Debug, Drop)]
-pub struct Steps {
-    /// In the last match.
-    last: u128,
-    /// In all matches together, modulo 2^128.
-    total: u128,
-    /// Only a scratch has one.
-    key: Key,
-}
-
-/// How many tokens were tested at one position of a text. Only [`Tokens::test`] raises it, and it can't be let go but to
-/// [`Steps::add`], which counts it.
-pub struct Tests {
-    count: usize,
-}
-
 impl Model for Tokens {
     ghost use Rattle.pathspec_glob.specs.GlobForms.{tokens_view};
     ghost use Rattle.pathspec_glob.specs.GlobSteps.{TokenList};
@@ -84,7 +67,7 @@ impl Tokens {
     /// # Errors
     /// Memory runs out.
     pub fn of_pattern(alloc: Global, pattern: &[u8], mode: Mode) -> Result<Tokens, AllocError>
-        ensures { IfOk result (λ read. read ≡ token_list mode pattern.now) }
+        ensures { IfOk result (λ read. read ≡ listed_token_list mode pattern.now) }
     {
         Ok(Tokens {
             mode,
@@ -183,101 +166,26 @@ impl Tokens {
         size
     }
 
-    /// Tests the token at a place on a byte: whether the token takes it, alone or with others.
-    pub fn test(&self, place: usize, byte: u8, case: Case, tests: &mut Tests) -> bool
-        requires place { place < length self.now.tokens }
-        requires room { tests.old.count + 1 < 2 ^ 64 }
-        ensures answer { result ≡ token_takes self.now case place byte }
-        ensures tests { tests.new.count ≡ tests.old.count + 1 }
-    {
-        tests.count += 1;
-        self.takes(place, byte, case)
-    }
-
     /// The bytes that they want, where each is a byte of the pattern; None where one isn't.
     ///
     /// # Errors
     /// Memory runs out.
-    pub fn bytes(&self, alloc: Global) -> Result<Option<Vec<u8>>, AllocError>
+    pub fn bytes(&self, alloc: Global) -> Result<Option<CountedBytes>, AllocError>
         ensures { IfOk result (λ found.
-            IfSome found (λ bytes. self.now.tokens ≡ plain_tokens bytes.items)) }
+            IfSome found (λ bytes. self.now.tokens ≡ plain_tokens bytes.all.items)) }
     {
-        bytes_of(alloc, &self.all)
+        Ok(match bytes_of(alloc, &self.all)? {
+            Some(bytes) => Some(CountedBytes::new(bytes)),
+            None => None,
+        })
     }
 
-    // Out of line, since heads and tails are mostly bytes alone.
-    /// Tests the tokens on the bytes of a text one by one, up to a byte that its token doesn't take, each of which is
-    /// counted as one step: whether they take them all.
-    #[inline(never)]
-    pub fn test_each(&self, text: &[u8], case: Case, steps: &mut Steps) -> bool
-        requires len { length text.now ≡ length self.now.tokens }
-        requires room { steps.old.last + length text.now < 2 ^ 128 }
-        ensures answer { result ≡ takes_each self.now.mode case self.now.tokens text.now }
-        ensures tests { steps.new.last
-            ≡ steps.old.last + tests_each self.now.mode case self.now.tokens text.now }
-        ensures most { steps.new.last ≤ steps.old.last + length text.now }
-        ensures least { IsTrue result → steps.new.last ≡ steps.old.last + length text.now }
-        ensures counted { KeepsCount steps.old steps.new }
+    /// The same tokens, whose only question about a text is the counted one.
+    pub fn counted(self) -> CountedTokens
+        ensures { result ≡ self }
     {
-        for place in 0..text.len() {
-            if !self.takes(place, text[place], case) {
-                steps.raise_by((place + 1) as u128);
-                return false;
-            }
-        }
-        steps.raise_by(text.len() as u128);
-        true
+        CountedTokens::new(self.mode, self.all)
     }
-
-    /// Tests the first token, which takes any number of bytes, on the bytes of a text up to one that it doesn't take, each
-    /// of which is counted as one step: whether it takes them all.
-    pub fn test_all(&self, text: &[u8], steps: &mut Steps) -> bool
-        requires wide { IsTrue (is_wide_at self.now.tokens) }
-        requires room { steps.old.last + length text.now < 2 ^ 128 }
-        ensures answer { result ≡ wide_takes self.now.tokens text.now }
-        ensures tests { steps.new.last ≡ steps.old.last + wide_tests self.now.tokens text.now }
-        ensures most { steps.new.last ≤ steps.old.last + length text.now }
-        ensures least { IsTrue result → steps.new.last ≡ steps.old.last + length text.now }
-        ensures counted { KeepsCount steps.old steps.new }
-    {
-        let taken = match self.all[0] {
-            Token::Star => count_names(text),
-            Token::Deep => text.len(),
-            Token::One(_) => unreachable!(),
-        };
-        if taken < text.len() {
-            steps.raise_by(taken as u128 + 1);
-            false
-        } else {
-            steps.raise_by(taken as u128);
-            true
-        }
-    }
-}
-
-/// Tests tokens that want these bytes as [`Tokens::test_each`] does.
-#[inline(always)]
-pub fn test_bytes(bytes: &[u8], text: &[u8], case: Case, steps: &mut Steps) -> bool
-    requires len { length text.now ≡ length bytes.now }
-    requires room { steps.old.last + length text.now < 2 ^ 128 }
-    ensures answer { (mode : Mode)
-        → result ≡ takes_each mode case (plain_tokens bytes.now) text.now }
-    ensures tests { (mode : Mode) → steps.new.last
-        ≡ steps.old.last + tests_each mode case (plain_tokens bytes.now) text.now }
-    ensures most { steps.new.last ≤ steps.old.last + length text.now }
-    ensures least { IsTrue result → steps.new.last ≡ steps.old.last + length text.now }
-    ensures counted { KeepsCount steps.old steps.new }
-{
-    for place in 0..text.len() {
-        if !is_same_byte(case, bytes[place], text[place]) {
-            steps.raise_by((place + 1) as u128);
-            return false;
-        }
-    }
-    if !text.is_empty() {
-        steps.raise_by(text.len() as u128);
-    }
-    true
 }
 
 /// The bytes that the tokens want, where each is a byte of the pattern.
@@ -301,79 +209,6 @@ fn head_size(tokens: &[Token]) -> usize
     ensures within { result ≤ length tokens.now }
 {
     tokens.iter().take_while(|token| !token.is_wide()).count()
-}
-
-/// How many bytes stand before the first slash.
-fn count_names(text: &[u8]) -> usize
-    ensures count { result ≡ prefix_len (λ b. not (b == slash)) text.now }
-    ensures within { result ≤ length text.now }
-{
-    text.iter().take_while(|byte| **byte != b'/').count()
-}
-
-impl Steps {
-    /// No step yet.
-    pub fn none(key: Key) -> Steps
-        ensures { HasNoSteps result }
-    {
-        Steps {
-            last: 0,
-            total: 0,
-            key,
-        }
-    }
-
-    /// Begins the count of a match, and lets that of all matches go on.
-    pub fn begin(&mut self)
-        ensures { BeginsAnew self.old self.new }
-    {
-        self.last = 0;
-    }
-
-    /// How many steps the last match has taken.
-    pub fn last(&self) -> u128
-        ensures { result ≡ self.now.last }
-    {
-        self.last
-    }
-
-    /// How many steps all matches together have taken, modulo 2^128.
-    pub fn total(&self) -> u128
-        ensures { result ≡ self.now.total }
-    {
-        self.total
-    }
-
-    /// Counts so many steps more.
-    fn raise_by(&mut self, steps: u128)
-        requires { self.old.last + steps < 2 ^ 128 }
-        ensures steps { self.new.last ≡ self.old.last + steps }
-        ensures counted { KeepsCount self.old self.new }
-    {
-        self.last += steps;
-        self.total = self.total.wrapping_add(steps);
-    }
-
-    /// Counts the tests at a position, a step each, and says whether there were any.
-    pub fn add(&mut self, tests: Tests) -> bool
-        requires { self.old.last + tests.count < 2 ^ 128 }
-        ensures any { result ≡ nat_lt 0 tests.count }
-        ensures steps { self.new.last ≡ self.old.last + tests.count }
-        ensures counted { KeepsCount self.old self.new }
-    {
-        let Tests { count } = tests;
-        self.raise_by(count as u128);
-        count > 0
-    }
-}
-
-impl Tests {
-    /// No test.
-    pub fn none() -> Tests
-        ensures { result.count ≡ 0 }
-    {
-        Tests { count: 0 }
-    }
 }
 
 /// Whether the first of the tokens may stand for nothing together with the second.
@@ -426,7 +261,7 @@ impl Token {
     }
 
     /// Whether it takes a byte, alone or with others.
-    fn takes(&self, mode: Mode, case: Case, byte: u8) -> bool
+    pub fn takes(&self, mode: Mode, case: Case, byte: u8) -> bool
         ensures { result ≡ takes_byte mode case (token_view self.now) byte }
     {
         match self {
@@ -448,8 +283,8 @@ impl Single {
         match self {
             Single::Byte(own) | Single::Quoted(own) => is_same_byte(case, *own, byte),
             Single::Any => !is_barred(mode, byte),
-            Single::Bracket(negated, items) => {
-                !is_barred(mode, byte) && brackets::bracket_holds(items, case, byte) != *negated
+            Single::Bracket(negated, set) => {
+                !is_barred(mode, byte) && set.holds(case, byte) != *negated
             }
             Single::Dead => false,
         }
@@ -457,7 +292,7 @@ impl Single {
 }
 
 /// Whether the bytes are one, up to case where it doesn't count.
-fn is_same_byte(case: Case, own: u8, byte: u8) -> bool
+pub fn is_same_byte(case: Case, own: u8, byte: u8) -> bool
     ensures { result ≡ is_same_byte case own byte }
 {
     match case {

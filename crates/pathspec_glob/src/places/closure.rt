@@ -7,7 +7,7 @@ ghost use Rattle.pathspec_glob.specs.declared.Case.{Case};
 
 use super::Places;
 use super::moves::EmptyMoves;
-use crate::tokens::Tokens;
+use crate::counted::CountedTokens;
 
 impl Places {
     /// Comes to each place that others lead to without a byte: word by word, since none leads to one before it.
@@ -47,7 +47,7 @@ impl Places {
     }
 
     /// Whether the end of a text leads after all tokens.
-    pub(super) fn reach_end(&mut self, tokens: &Tokens, moves: &EmptyMoves) -> bool
+    pub(super) fn reach_end(&mut self, tokens: &CountedTokens, moves: &EmptyMoves) -> bool
         requires moves { IsMovesOf tokens.now moves.now }
         requires room { HasRoom (length tokens.now.tokens) self.old }
         requires bounds { IsBounded (length tokens.now.tokens) self.old }

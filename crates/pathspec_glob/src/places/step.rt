@@ -9,7 +9,8 @@ ghost use Rattle.pathspec_glob.specs.GlobSteps.{token_takes};
 use super::Places;
 use super::moves::EmptyMoves;
 use crate::Case;
-use crate::tokens::{Steps, Tests, Tokens};
+use crate::counted::{CountedTokens, Tests};
+use crate::scratch::Steps;
 
 impl Places {
     /// Goes on by a byte, and says whether a token was tested. Where none was, no place is held.
@@ -18,7 +19,7 @@ impl Places {
     /// which one was ever held in this match.
     pub(super) fn advance(
         &mut self,
-        tokens: &Tokens,
+        tokens: &CountedTokens,
         moves: &EmptyMoves,
         byte: u8,
         case: Case,
@@ -43,17 +44,18 @@ impl Places {
     }
 
     /// Takes a byte at each place that is held, and gives the tests of that.
-    fn take(&mut self, tokens: &Tokens, moves: &EmptyMoves, byte: u8, case: Case) -> Tests
+    fn take(&mut self, tokens: &CountedTokens, moves: &EmptyMoves, byte: u8, case: Case) -> Tests
         requires moves { IsMovesOf tokens.now moves.now }
         requires room { HasRoom (length tokens.now.tokens) self.old }
         requires bounds { IsBounded (length tokens.now.tokens) self.old }
         ensures takes { TakesByte tokens.now case self.old self.new byte }
         ensures none { result.count ≡ 0 → HoldsNone (length tokens.now.tokens) self.old }
         ensures most { result.count ≤ length tokens.now.tokens }
+        ensures alone { result.tokens ≡ 1 }
         ensures bounds { IsBounded (length tokens.now.tokens) self.new }
         ensures room { KeepsRoom self.old self.new }
     {
-        let mut tests = Tests::none();
+        let mut tests = Tests::none(1);
         let mut index = self.first;
         let mut carry = 0;
         while index < self.end {
@@ -112,10 +114,18 @@ impl Places {
 }
 
 /// Of these places of a word, which begins at a place, those whose tokens take the byte. It tests each token once.
-fn taken(tokens: &Tokens, from: usize, held: u64, byte: u8, case: Case, tests: &mut Tests) -> u64
+fn taken(
+    tokens: &CountedTokens,
+    from: usize,
+    held: u64,
+    byte: u8,
+    case: Case,
+    tests: &mut Tests,
+) -> u64
     requires from { from ≤ length tokens.now.tokens }
     requires small { from < 2 ^ 63 }
     requires tests { tests.old.count ≤ from }
+    requires alone { tests.old.tokens ≡ 1 }
     ensures taken { (i : ℕ) → i < 64
         → has result i ≡ (has held i && token_takes tokens.now case (from + i) byte) }
     ensures none { tests.new.count ≡ tests.old.count → (i : ℕ) → i < 64
@@ -123,6 +133,7 @@ fn taken(tokens: &Tokens, from: usize, held: u64, byte: u8, case: Case, tests: &
     ensures rises { tests.old.count ≤ tests.new.count }
     ensures most { tests.new.count ≤ from + 64 }
     ensures within { tests.new.count ≤ length tokens.now.tokens }
+    ensures alone { tests.new.tokens ≡ 1 }
 {
     let mut taken = 0;
     let mut open = held;

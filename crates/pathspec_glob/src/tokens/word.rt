@@ -1,19 +1,19 @@
 //! Tokens as sets of places in one word: a bit for each token that takes one byte, and one for the end.
-ghost use Rattle.std.specs.Prelude.{◌≡◌, ◌<◌, ◌≤◌, length, IfOk, IfSome, IsTrue};
+ghost use Rattle.std.specs.Prelude.{◌≡◌, ◌<◌, ◌≤◌, false, length, true, IfOk, IfSome, IsTrue};
+ghost use Rattle.pathspec_glob.specs.GlobCells.{alternates_behind, IsTable};
 ghost use Rattle.pathspec_glob.specs.GlobRelation.{matches};
 ghost use Rattle.pathspec_glob.specs.GlobSteps.{TokenList};
 
 mod closure;
 mod states;
 mod step;
-mod table;
 
 use super::Tokens;
 use crate::Case;
+use crate::counted::{Table, Tests};
 use std::alloc::{AllocError, Global};
 pub use step::Answer;
 use step::Course;
-use table::Table;
 
 /// Tokens as words. A place stands before each token that takes one byte, and one at the end; a token that takes any
 /// number of bytes lets the place behind it stay.
@@ -38,26 +38,27 @@ pub struct Word {
 impl Word {
     ghost use Rattle.pathspec_glob.specs.GlobWords.{IsWordOf};
 
-    /// The word of tokens, where 1 to 63 of them take one byte, no two others stand side by side, and no two places that
-    /// may be passed over do.
+    /// The word of tokens, where 1 to 63 of them take one byte, and no two places that may be passed over stand side by
+    /// side.
     ///
     /// The cost is linear in the tokens; it tests each of them on each of the 256 bytes, with case and without.
     ///
     /// # Errors
     /// Memory runs out.
     pub fn of_tokens(alloc: Global, tokens: &Tokens) -> Result<Option<Word>, AllocError>
+        requires { alternates_behind false tokens.now.tokens ≡ true }
         ensures { IfOk result (λ found. IfSome found (λ word. IsWordOf tokens.now word)) }
     {
         let last = states::cells(tokens);
         let overs = states::overs(tokens);
-        if last == 0 || last > 63 || !states::alternate(tokens) || !states::are_apart(overs) {
+        if last == 0 || last > 63 || !states::are_apart(overs) {
             return Ok(None);
         }
         let loops = states::kept(tokens, 0);
         let deeps = states::kept(tokens, b'/');
         Ok(Some(Word {
-            exact: Table::of_tokens(alloc, tokens, Case::Sensitive)?,
-            folded: Table::of_tokens(alloc, tokens, Case::Fold)?,
+            exact: table_of(alloc, tokens, Case::Sensitive)?,
+            folded: table_of(alloc, tokens, Case::Fold)?,
             loops,
             deeps,
             overs,
@@ -66,14 +67,14 @@ impl Word {
         }))
     }
 
-    /// Whether the tokens match the whole text, and the questions for that: of each byte that is read, which of the tokens
+    /// Whether the tokens match the whole text, and the tests for that: of each byte that is read, which of the tokens
     /// take it.
     pub fn run(&self, text: &[u8], case: Case) -> Answer
         ensures answer { (parts : TokenList) → IsWordOf parts self.now
             → result.accepted ≡ matches parts.mode case parts.tokens text.now }
-        ensures tokens { result.questions.tokens ≡ self.now.exact.tokens }
-        ensures most { result.questions.bytes ≤ length text.now }
-        ensures least { IsTrue result.accepted → result.questions.bytes ≡ length text.now }
+        ensures tokens { result.tests.tokens ≡ self.now.exact.tokens }
+        ensures most { result.tests.count ≤ length text.now }
+        ensures least { IsTrue result.accepted → result.tests.count ≡ length text.now }
     {
         let table = match case {
             Case::Sensitive => &self.exact,
@@ -89,4 +90,15 @@ impl Word {
             text,
         )
     }
+}
+
+/// The table of tokens. The cost is linear in them; each is tested on each of the 256 bytes.
+///
+/// # Errors
+/// Memory runs out.
+fn table_of(alloc: Global, tokens: &Tokens, case: Case) -> Result<Table, AllocError>
+    ensures table { IfOk result (λ table. IsTable tokens.now case table.rows.items) }
+    ensures tokens { IfOk result (λ table. table.tokens ≡ length tokens.now.tokens) }
+{
+    Ok(Table::new(states::rows(alloc, tokens, case)?, tokens.len()))
 }

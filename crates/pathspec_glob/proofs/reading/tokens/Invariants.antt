@@ -1,10 +1,11 @@
-use Rattle.std.proofs.Common.{◌≡◌, ◌++◌, length}
-use Rattle.pathspec_glob.specs.Tokens.{tokens_from, tokens}
+use Rattle.std.proofs.Common.{◌≡◌, ◌++◌, length, map}
+use Rattle.pathspec_glob.specs.Tokens.{tokens_from}
+use Rattle.pathspec_glob.specs.ByteSets.{listed, listed_tokens}
 use Rattle.pathspec_glob.specs.GlobForms.{tokens_view}
 use Rattle.pathspec_glob.proofs.reading.tokens.Given as goal
 
 abbrev pub invariant-loop-rest : goal.invariant-loop-rest
-invariant-loop-rest l = tokens_view l.all.items ++ tokens_from l.mode 0 l.after_slash l.rest ≡ tokens l.mode l.fn.pattern
+invariant-loop-rest l = tokens_view l.all.items ++ map listed (tokens_from l.mode 0 l.after_slash l.rest) ≡ listed_tokens l.mode l.fn.pattern
 
 abbrev pub decreases-loop-rest : goal.decreases-loop-rest
 decreases-loop-rest l = length l.rest

@@ -1,6 +1,6 @@
 //! The places of tokens, which are the states of an automaton, and the words that say what leads on from each.
 ghost use Rattle.std.specs.Prelude.{◌≡◌, ℕ, suc, ◌<◌, ◌≤◌, ◌&&◌, true, false, not, length, vec_len, IfOk, IsTrue};
-ghost use Rattle.pathspec_glob.specs.GlobCells.{alternates_behind, cell_count, further, has, kept_at, passed_at, taken_at, with_first, IsTable};
+ghost use Rattle.pathspec_glob.specs.GlobCells.{cell_count, further, has, kept_at, passed_at, taken_at, with_first, IsTable};
 
 use super::super::Tokens;
 use crate::Case;
@@ -109,19 +109,4 @@ pub fn cells(tokens: &Tokens) -> usize
         }
     }
     count
-}
-
-/// Whether no two tokens that take any number of bytes stand side by side.
-pub fn alternate(tokens: &Tokens) -> bool
-    ensures { IsTrue result → alternates_behind false tokens.now.tokens ≡ true }
-{
-    let mut behind = false;
-    for place in 0..tokens.len() {
-        let wide = tokens.is_wide(place);
-        if behind && wide {
-            return false;
-        }
-        behind = wide;
-    }
-    true
 }

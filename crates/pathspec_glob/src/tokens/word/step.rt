@@ -6,7 +6,7 @@ ghost use Rattle.pathspec_glob.specs.declared.Case.{Case};
 ghost use Rattle.pathspec_glob.specs.GlobCells.{cells_match, has, set_leads, Cell, IsCourse, LeadsToLast, Loop, Masked, Rules};
 
 use super::closure::enter;
-use super::table::{Questions, Table};
+use crate::counted::{Table, Tests};
 
 /// How a word goes over a text, which is told once, when the word is made.
 #[derive(Debug, Clone, Copy)]
@@ -26,14 +26,14 @@ pub struct Answer {
     /// Whether its end leads to the last place.
     pub accepted: bool,
     /// One for each byte that was read.
-    pub questions: Questions,
+    pub tests: Tests,
 }
 
 /// Where a text, as far as it was read, leads to.
 struct Progress {
     places: u64,
     /// One for each byte that was read.
-    questions: Questions,
+    tests: Tests,
 }
 
 impl Course {
@@ -67,12 +67,12 @@ pub fn run(
         → IsCourse loops deeps overs last course
         → Masked mode case cells end table.now.rows.items loops deeps overs → length cells ≡ last
         → result.accepted ≡ cells_match mode case cells end text.now }
-    ensures tokens { result.questions.tokens ≡ table.now.tokens }
-    ensures most { result.questions.bytes ≤ length text.now }
-    ensures least { IsTrue result.accepted → result.questions.bytes ≡ length text.now }
+    ensures tokens { result.tests.tokens ≡ table.now.tokens }
+    ensures most { result.tests.count ≤ length text.now }
+    ensures least { IsTrue result.accepted → result.tests.count ≡ length text.now }
 {
     let from = enter(1, overs);
-    let Progress { places, questions } = match course {
+    let Progress { places, tests } = match course {
         Course::Ends(stays, stays_at_slash) => {
             return accepts(from, table, stays, stays_at_slash, last, text);
         }
@@ -82,7 +82,7 @@ pub fn run(
     };
     Answer {
         accepted: holds(places, last),
-        questions,
+        tests,
     }
 }
 
@@ -124,8 +124,8 @@ fn accepts(
     requires { last < 64 }
     ensures leads { LeadsToLast table.now.rows.items stays stays_at_slash last places text.now
         result.accepted }
-    ensures tokens { result.questions.tokens ≡ table.now.tokens }
-    ensures bytes { result.questions.bytes ≡ length text.now }
+    ensures tokens { result.tests.tokens ≡ table.now.tokens }
+    ensures bytes { result.tests.count ≡ length text.now }
 {
     if stays && stays_at_slash {
         leads_to_last(places, table, true, true, last, text)
@@ -151,15 +151,15 @@ fn leads_to_last(
     requires { last < 64 }
     ensures leads { LeadsToLast table.now.rows.items stays stays_at_slash last places text.now
         result.accepted }
-    ensures tokens { result.questions.tokens ≡ table.now.tokens }
-    ensures bytes { result.questions.bytes ≡ length text.now }
+    ensures tokens { result.tests.tokens ≡ table.now.tokens }
+    ensures bytes { result.tests.count ≡ length text.now }
 {
-    let mut questions = table.no_questions();
+    let mut tests = table.no_tests();
     let mut free = !places;
     let mut end = free;
     for position in 0..text.len() {
         let byte = text[position];
-        free = (free | table.refused(byte, &mut questions)) << 1;
+        free = (free | table.refused(byte, &mut tests)) << 1;
         end = if of_byte(byte, stays, stays_at_slash) {
             end & free
         } else {
@@ -168,7 +168,7 @@ fn leads_to_last(
     }
     Answer {
         accepted: !holds(end, last),
-        questions,
+        tests,
     }
 }
 
@@ -187,27 +187,27 @@ fn reach(
 ) -> Progress
     ensures leads { (mode : Mode) (case : Case) (cells : List Cell) (end : Loop) (all : ℕ)
         → Masked mode case cells end table.now.rows.items loops deeps all → overs / 2 ≡ all / 2
-        → set_leads mode case cells end (has result.places) (drop result.questions.bytes text.now)
+        → set_leads mode case cells end (has result.places) (drop result.tests.count text.now)
         ≡ set_leads mode case cells end (has from) text.now }
-    ensures tokens { result.questions.tokens ≡ table.now.tokens }
-    ensures most { result.questions.bytes ≤ length text.now }
-    ensures halted { result.questions.bytes < length text.now → result.places ≡ 0 }
+    ensures tokens { result.tests.tokens ≡ table.now.tokens }
+    ensures most { result.tests.count ≤ length text.now }
+    ensures halted { result.tests.count < length text.now → result.places ≡ 0 }
 {
-    let mut questions = table.no_questions();
+    let mut tests = table.no_tests();
     let mut places = from;
     for position in 0..text.len() {
         if halts && places == 0 {
-            return Progress { places, questions };
+            return Progress { places, tests };
         }
         let byte = text[position];
         places = advance(
             places,
-            !table.refused(byte, &mut questions),
+            !table.refused(byte, &mut tests),
             of_byte(byte, loops, deeps),
             overs,
         );
     }
-    Progress { places, questions }
+    Progress { places, tests }
 }
 
 /// The places that a byte leads to: those behind the ones whose tokens take it, with those that may be passed over to

@@ -6,7 +6,7 @@ use Rattle.pathspec_glob.specs.GlobCells.{cell_count}
 use Rattle.pathspec_glob.specs.GlobSteps.{TokenList}
 use Rattle.pathspec_glob.specs.GlobWords.{IsWordOf}
 use Rattle.pathspec_glob.specs.Tokens.{Token}
-use Rattle.pathspec_glob.proofs.middle.Middle.matches.Goals.{After-count}
+use Rattle.pathspec_glob.proofs.middle.Middle.matches.Goals.{After-add}
 use Rattle.pathspec_glob.proofs.middle.Middle.matches.Goals as goal
 
 pub returns-in-First-clause-most : goal.returns-in-First-clause-most
@@ -16,7 +16,7 @@ returns-in-First-clause-most c =
     let way : GoesByFirst c.self.inside.tokens = rw c.in-First.is at c.self.invariant in
     let some = some-token c.self.inside.tokens.tokens way.wide in
     let once = mul-le-mul {n₁ = 1} {m₁ = size} {n₂ = length tokens} {m₂ = size} (rw (sym c.self.view_is) some) (omega arith) in
-    omega (arith, c.test_all.ensures.most, once)
+    omega (arith, c.test_first.ensures.most, once)
 
 -- where a token takes one byte there is one
 some-cell : (ts : List Token) → 0 < cell_count ts → 0 < length ts
@@ -24,24 +24,24 @@ some-cell [] h = absurd (let no : ⊥ = omega arith in no)
 some-cell (t ∷ ts) h = omega arith
 
 -- a question is as many steps as there are tokens
-each : (c : After-count) → c.run-accepted.result.questions.tokens ≡ length c.args.self.now.tokens
+each : (c : After-add) → c.run-accepted.result.tests.tokens ≡ length c.args.self.now.tokens
 each c =
     let way : IsWordOf c.self.inside.tokens c.in-Word.word = rw c.in-Word.is at c.self.invariant in
     c.run-accepted.ensures.tokens ∙ way.tokens ∙ ap (λ (t : TokenList). length t.tokens) c.self.view_is
 
 pub returns-in-Word-clause-most : goal.returns-in-Word-clause-most
 returns-in-Word-clause-most c =
-    let asked = c.run-accepted.result.questions in
-    let same = each (goal.at.returns-in-Word-clause-most c).After-count in
-    let most = mul-le-mul {n₁ = asked.tokens} {m₁ = asked.bytes} {n₂ = length c.args.self.now.tokens} {m₂ = length c.args.text.now}
+    let asked = c.run-accepted.result.tests in
+    let same = each (goal.at.returns-in-Word-clause-most c).After-add in
+    let most = mul-le-mul {n₁ = asked.tokens} {m₁ = asked.count} {n₂ = length c.args.self.now.tokens} {m₂ = length c.args.text.now}
     (omega (arith, same)) c.run-accepted.ensures.most in
-    omega (arith, c.count.ensures.steps, most)
+    omega (arith, c.add.ensures.steps, most)
 
 pub returns-in-Word-clause-least : goal.returns-in-Word-clause-least
 returns-in-Word-clause-least c accepted =
-    let asked = c.run-accepted.result.questions in
+    let asked = c.run-accepted.result.tests in
     let way : IsWordOf c.self.inside.tokens c.in-Word.word = rw c.in-Word.is at c.self.invariant in
     let some : 0 < asked.tokens = omega (arith, some-cell c.self.inside.tokens.tokens way.some, c.run-accepted.ensures.tokens, way.tokens) in
-    let least = mul-le-mul {n₁ = 1} {m₁ = length c.args.text.now} {n₂ = asked.tokens} {m₂ = asked.bytes}
+    let least = mul-le-mul {n₁ = 1} {m₁ = length c.args.text.now} {n₂ = asked.tokens} {m₂ = asked.count}
     some (omega (arith, c.run-accepted.ensures.least accepted)) in
-    omega (arith, c.count.ensures.steps, least)
+    omega (arith, c.add.ensures.steps, least)

@@ -1,4 +1,4 @@
-use Rattle.std.proofs.Common.{◌≡◌, suc, ◌∷◌, sym, ◌∙◌, arith}
+use Rattle.std.proofs.Common.{◌≡◌, ◌*◌, suc, ◌∷◌, sym, ◌∙◌, arith}
 use Rattle.std.proofs.lemmas.Bool.{ltb-false}
 use Rattle.pathspec_glob.specs.GlobRows.{holds}
 use Rattle.pathspec_glob.proofs.AcceptProofs.{closure-accepts, step-accepts, none-accepts}
@@ -24,7 +24,8 @@ pub returns-clause-none : goal.returns-clause-none
 returns-clause-none c off text =
     let tokens = c.args.tokens.now in
     let takes = c.take-tests.ensures.takes in
-    let count : c.take-tests.result.count ≡ 0 = omega (arith, ltb-false 0 c.take-tests.result.count (sym c.add.ensures.any ∙ off)) in
+    let zero = rw c.take-tests.ensures.alone at (ltb-false 0 (c.take-tests.result.tokens * c.take-tests.result.count) (sym c.add.ensures.any ∙ off)) in
+    let count : c.take-tests.result.count ≡ 0 = omega (arith, zero) in
     let none = c.take-tests.ensures.none count in
     rw (c.skip_words.ensures.entered, c.skip_words.ensures.staying)
     (none-accepts tokens.mode c.args.case tokens.tokens (holds c.take-tests.new.self.entered) (holds c.take-tests.new.self.staying) text

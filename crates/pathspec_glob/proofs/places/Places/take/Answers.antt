@@ -74,6 +74,7 @@ loop-index-preserved c =
       ];
       most = omega (arith, took.most);
       within = took.within;
+      alone = took.alone;
       behind_entered = λ i h. puts.behind_entered i (omega arith) ∙ invariant.behind_entered i (omega arith);
       behind_staying = λ i h. puts.behind_staying i (omega arith) ∙ invariant.behind_staying i (omega arith);
       before_entered = λ i h. puts.before_entered i (omega (arith, invariant.from)) ∙ invariant.before_entered i h;

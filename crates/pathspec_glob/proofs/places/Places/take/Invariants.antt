@@ -13,6 +13,7 @@ invariant-loop-index l = record {
   none : l.tests.count ≡ 0 → (i : ℕ) → i < l.index * 64 → i < length l.tokens.tokens → is_held l.fn.self i ≡ false;
   most : l.tests.count ≤ l.index * 64;
   within : l.tests.count ≤ length l.tokens.tokens;
+  alone : l.tests.tokens ≡ 1;
   behind_entered : (i : ℕ) → l.index * 64 ≤ i → holds l.self.entered i ≡ holds l.fn.self.entered i;
   behind_staying : (i : ℕ) → l.index * 64 ≤ i → holds l.self.staying i ≡ holds l.fn.self.staying i;
   before_entered : (i : ℕ) → i < l.fn.self.first * 64 → holds l.self.entered i ≡ false;

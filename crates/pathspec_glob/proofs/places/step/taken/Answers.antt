@@ -50,6 +50,7 @@ loop-open-init c =
       rises = omega arith;
       most = omega (arith, c.requires.tests);
       within = omega (arith, c.requires.from, c.requires.tests);
+      alone = c.requires.alone;
       none = λ same i l. below-lowest held i fits l;
     }
 
@@ -72,8 +73,9 @@ loop-open-preserved c =
     record {
       opened = open-lowest held (bit + 1) left fits further next.further;
       taken = taken-lowest held takes (bit + 1) left c.if-test.taken fits further next.further (next-taken held bit rest bit taken c.if-test.taken takes next invariant.taken put);
-      rises = omega (arith, invariant.rises, c.test.ensures.tests);
-      most = omega (arith, invariant.most, further, c.test.ensures.tests);
-      within = omega (arith, invariant.most, next.from, c.if-from-bit.false, c.len.ensures, c.test.ensures.tests);
-      none = λ same. absurd (let no : ⊥ = omega (arith, same, invariant.rises, c.test.ensures.tests) in no);
+      rises = omega (arith, invariant.rises, c.test.ensures.count);
+      most = omega (arith, invariant.most, further, c.test.ensures.count);
+      within = omega (arith, invariant.most, next.from, c.if-from-bit.false, c.len.ensures, c.test.ensures.count);
+      alone = c.test.ensures.tokens;
+      none = λ same. absurd (let no : ⊥ = omega (arith, same, invariant.rises, c.test.ensures.count) in no);
     }

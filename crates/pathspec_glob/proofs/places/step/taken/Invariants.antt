@@ -13,6 +13,7 @@ invariant-loop-open l = record {
   rises : l.fn.tests.count ≤ l.tests.count;
   most : l.tests.count ≤ l.from + count_trailing_zeros 64 l.«open»;
   within : l.tests.count ≤ length l.tokens.tokens;
+  alone : l.tests.tokens ≡ 1;
   none : l.tests.count ≡ l.fn.tests.count → (i : ℕ) → i < count_trailing_zeros 64 l.«open» → has l.held i ≡ false;
 }
 

@@ -10,8 +10,8 @@ use Rattle.pathspec_glob.proofs.tokens.word.step.leads_to_last.Goals as goal
 
 pub loop-position-init : goal.loop-position-init
 loop-position-init c = record {
-  bytes = c.no_questions-questions.ensures.bytes;
-  tokens = c.no_questions-questions.ensures.tokens;
+  bytes = c.no_tests-tests.ensures.count;
+  tokens = c.no_tests-tests.ensures.tokens;
   leads = λ mode case cells end loops deeps overs masked size ends held.
       let places = c.args.places in
       let free = 18446744073709551615 - places in
@@ -24,7 +24,7 @@ loop-position-init c = record {
 
 pub loop-position-preserved : goal.loop-position-preserved
 loop-position-preserved c = record {
-  bytes = omega (arith, c.refused.ensures.bytes, c.loop-position.invariant.bytes);
+  bytes = omega (arith, c.refused.ensures.count, c.loop-position.invariant.bytes);
   tokens = c.refused.ensures.tokens ∙ c.loop-position.invariant.tokens;
   leads = λ mode case cells end loops deeps overs masked size ends held.
       let position = c.loop-position.position in

@@ -6,8 +6,8 @@ use Rattle.pathspec_glob.proofs.tokens.word.step.leads_to_last.Given as goal
 
 abbrev pub invariant-loop-position : goal.invariant-loop-position
 invariant-loop-position l = record {
-  bytes : l.questions.bytes ≡ l.position;
-  tokens : l.questions.tokens ≡ l.table.tokens;
+  bytes : l.tests.count ≡ l.position;
+  tokens : l.tests.tokens ≡ l.table.tokens;
   leads : (mode : Mode) (case : Case) (cells : List Cell) (end : Loop) (loops deeps overs : ℕ)
       → Masked mode case cells end l.table.rows.items loops deeps overs → length cells ≡ l.last
       → StayAtEnds loops deeps overs l.last l.stays l.stays_at_slash → has l.places 0 ≡ true → record {

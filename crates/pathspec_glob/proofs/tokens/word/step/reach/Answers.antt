@@ -8,7 +8,7 @@ use Rattle.pathspec_glob.proofs.tokens.word.step.reach.Goals as goal
 
 pub loop-position-preserved : goal.loop-position-preserved
 loop-position-preserved c = record {
-  bytes = omega (arith, c.refused.ensures.bytes, c.loop-position.invariant.bytes);
+  bytes = omega (arith, c.refused.ensures.count, c.loop-position.invariant.bytes);
   tokens = c.refused.ensures.tokens ∙ c.loop-position.invariant.tokens;
   leads = λ mode case cells end all masked same.
       let position = c.loop-position.position in

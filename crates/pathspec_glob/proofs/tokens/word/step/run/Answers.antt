@@ -18,12 +18,12 @@ pub returns-clause-answer : goal.returns-clause-answer
 returns-clause-answer c mode case cells end course masked size =
     let text = c.args.text.now in
     let reached = c.match-course.places in
-    let halted : reached.questions.bytes < length text → reached.places ≡ 0 = elim c.match-course.branch [
+    let halted : reached.tests.count < length text → reached.places ≡ 0 = elim c.match-course.branch [
       | in-Plain w ↦ rw w.places-is w.reach.ensures.halted
       | in-Plain-2 w ↦ rw w.places-is w.reach-in-Plain-2.ensures.halted
       | in-Any w ↦ rw w.places-is w.reach-in-Any.ensures.halted
     ] in
-    let leads : set_leads mode case cells end (has reached.places) (drop reached.questions.bytes text) ≡ set_leads mode case cells end (has c.enter-from.result) text = elim c.match-course.branch [
+    let leads : set_leads mode case cells end (has reached.places) (drop reached.tests.count text) ≡ set_leads mode case cells end (has c.enter-from.result) text = elim c.match-course.branch [
       | in-Plain w ↦
           let passed : c.args.overs / 2 ≡ 0 = rw w.in-Plain.is at course in
           rw w.places-is (w.reach.ensures.leads mode case cells end c.args.overs (rw w.if-loops-deeps.true (rw w.if-loops-deeps.true at masked)) (sym passed))
@@ -33,4 +33,4 @@ returns-clause-answer c mode case cells end course masked size =
       | in-Any w ↦ rw w.places-is (w.reach-in-Any.ensures.leads mode case cells end c.args.overs masked refl)
     ] in
     let begins = set-begins mode case cells end (λ i. not (has (get_or c.args.table.now.rows.items 0 0) i)) c.args.loops c.args.overs (bit_and 1 c.args.overs * 2 % 18446744073709551616) c.enter-from.result 0 text masked.few (masked.rules 0 (omega arith)) masked.apart refl c.enter-from.ensures in
-    c.holds.ensures ∙ rw (sym size) (sym (leads-rest mode case cells end reached.places reached.questions.bytes text halted) ∙ leads ∙ begins)
+    c.holds.ensures ∙ rw (sym size) (sym (leads-rest mode case cells end reached.places reached.tests.count text halted) ∙ leads ∙ begins)

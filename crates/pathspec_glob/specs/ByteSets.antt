@@ -1,0 +1,43 @@
+-- Brackets as sets of bytes: tokens whose brackets list each byte that they hold.
+use Rattle.std.specs.Prelude.{ℕ, zero, suc, Bool, List, [], ◌∷◌, map, if◌then◌else◌}
+use Rattle.pathspec_glob.specs.declared.Mode.{Mode}
+use Rattle.pathspec_glob.specs.Tokens.{Item, Single, Token, Piece, tokens}
+use Rattle.pathspec_glob.specs.Tokens.Item.{Literal}
+use Rattle.pathspec_glob.specs.Tokens.Single.{Byte, Quoted, Any, Bracket, Dead}
+use Rattle.pathspec_glob.specs.Tokens.Token.{One, Star, Deep}
+use Rattle.pathspec_glob.specs.GlobRelation.{items_hold}
+use Rattle.pathspec_glob.specs.GlobSteps.{TokenList}
+
+-- An item for each number below an end that a set holds.
+unfoldable pub literals_below : ℕ → (ℕ → Bool) → List Item
+literals_below zero holds = []
+literals_below (suc end) holds = if holds end then Literal end ∷ literals_below end holds else literals_below end holds
+
+-- the bytes that a set holds, as items
+abbrev pub literals : (ℕ → Bool) → List Item
+literals holds = literals_below 256 holds
+
+-- what is held to one byte, where a bracket lists each byte that its items hold
+abbrev pub listed_single : Single → Single
+listed_single (Byte b) = Byte b
+listed_single (Quoted b) = Quoted b
+listed_single Any = Any
+listed_single (Bracket negated items) = Bracket negated (literals (items_hold items))
+listed_single Dead = Dead
+
+-- a token, a piece and tokens with such brackets
+abbrev pub listed : Token → Token
+listed (One single) = One (listed_single single)
+listed Star = Star
+listed Deep = Deep
+
+abbrev pub listed_piece : Piece → Piece
+listed_piece piece = record { token = listed piece.token; size = piece.size }
+
+-- The tokens of a pattern, with such brackets.
+abbrev pub listed_tokens : Mode → List ℕ → List Token
+listed_tokens mode pattern = map listed (tokens mode pattern)
+
+-- a pattern in parts, with such brackets
+abbrev pub listed_token_list : Mode → List ℕ → TokenList
+listed_token_list mode pattern = record { mode = mode; tokens = listed_tokens mode pattern }
