@@ -17,7 +17,8 @@ pub struct Comparison {
     pub is_behind: bool,
 }
 
-/// The bytes of heads. They are compared with a text in this module alone, by [`Heads::compare`].
+/// Texts of which only lengths are told: their own, and that of what one of them shares with the next. No question here
+/// compares one of them with another text.
 #[derive(Debug, Drop)]
 pub struct Texts {
     all: Vec<Vec<u8>>,
@@ -127,7 +128,37 @@ pub fn byte_with_slash(path: &[u8], ignore_case: bool, at: usize) -> u8
     }
 }
 
-impl Texts {
+/// Stems, which are compared with a path and a slash. No comparison is counted, and no heads can be had as stems.
+#[derive(Debug, Drop)]
+pub struct StemTexts {
+    texts: Texts,
+}
+
+impl Model for StemTexts {
+    ghost use Rattle.std.specs.Prelude.{List, ℕ};
+
+    ghost Value = { List (List ℕ) };
+
+    ghost view = { λ s. s.texts };
+}
+
+impl StemTexts {
+    /// These stems.
+    pub fn new(all: Vec<Vec<u8>>) -> StemTexts
+        ensures { result ≡ map (λ stem. stem.items) all.items }
+    {
+        StemTexts {
+            texts: Texts::new(all),
+        }
+    }
+
+    /// The stems, of which only lengths are told.
+    pub fn texts(&self) -> &Texts
+        ensures { result.now ≡ self.now }
+    {
+        &self.texts
+    }
+
     /// How one of them compares with a path and a slash, in lower case where case doesn't count.
     pub fn compare_with_slash(&self, place: usize, path: &[u8], ignore_case: bool) -> Comparison
         requires { place < length self.now }
@@ -136,7 +167,7 @@ impl Texts {
         ensures behind { result.is_behind
             ≡ is_behind (head_at self.now place) (with_slash ignore_case path.now) }
     {
-        compared_with_slash(&self.all[place], path, ignore_case)
+        compared_with_slash(&self.texts.all[place], path, ignore_case)
     }
 }
 

@@ -7,14 +7,14 @@ ghost use Rattle.pathspec_heads.specs.Stems.{with_slash, leads_to, lies_below, H
 
 use crate::chains::{front_of, linked};
 use crate::groups::{grouped, sorted};
-use crate::heads::{Texts, byte_with_slash};
+use crate::heads::{StemTexts, byte_with_slash};
 use std::alloc::{AllocError, Global};
 use std::marker::Model;
 
 /// Different stems in byte order, each with a link to the last one before it that begins it.
 #[derive(Debug, Drop)]
 pub struct Stems {
-    texts: Texts,
+    texts: StemTexts,
     links: Vec<Option<usize>>,
 }
 
@@ -46,12 +46,12 @@ struct Found {
 }
 
 /// The place behind the last text that isn't behind the path and a slash.
-fn sought(texts: &Texts, path: &[u8], ignore_case: bool) -> Ended
+fn sought(texts: &StemTexts, path: &[u8], ignore_case: bool) -> Ended
     ensures { Brackets texts.now (with_slash ignore_case path.now)
         result.low result.low result.agreed }
 {
     let mut low = 0;
-    let mut high = texts.len();
+    let mut high = texts.texts().len();
     let mut agreed = 0;
     while low < high {
         let middle = low + (high - low) / 2;
@@ -76,8 +76,8 @@ impl Stems {
     {
         let entries = sorted(alloc, stems)?;
         let groups = grouped(alloc, entries)?;
-        let texts = Texts::new(groups.heads);
-        let links = linked(alloc, &texts)?;
+        let texts = StemTexts::new(groups.heads);
+        let links = linked(alloc, texts.texts())?;
         Ok(Stems { texts, links })
     }
 
@@ -93,7 +93,7 @@ impl Stems {
         if ended.low > 0 && ended.agreed > path.len() {
             return true;
         }
-        ended.low < self.texts.len()
+        ended.low < self.texts.texts().len()
             && self
                 .texts
                 .compare_with_slash(ended.low, path, ignore_case)
@@ -119,7 +119,7 @@ impl Stems {
                 deepest: None,
             };
         }
-        let deepest = front_of(&self.texts, &self.links, ended.low - 1, ended.agreed);
+        let deepest = front_of(self.texts.texts(), &self.links, ended.low - 1, ended.agreed);
         Found { below, deepest }
     }
 
@@ -130,7 +130,7 @@ impl Stems {
         ensures { result ≡ is_boundary (with_slash ignore_case path.now) limit
             (head_at self.now stem) }
     {
-        let len = self.texts.text_len(stem);
+        let len = self.texts.texts().text_len(stem);
         len < limit && byte_with_slash(path, ignore_case, len) == b'/'
     }
 

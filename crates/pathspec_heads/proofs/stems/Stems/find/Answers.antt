@@ -1,5 +1,5 @@
-use Rattle.std.proofs.Common.{◌-◌, length, arith, subst, List, ℕ, None}
-use Rattle.pathspec_heads.specs.Heads.{IsLastFront}
+use Rattle.std.proofs.Common.{◌+◌, ◌-◌, take, length, arith, subst, List, ℕ, None}
+use Rattle.pathspec_heads.specs.Heads.{head_at, IsLastFront}
 use Rattle.pathspec_heads.specs.Stems.{with_slash}
 use Rattle.pathspec_heads.proofs.HeadProofs.{none-found, last-found}
 use Rattle.pathspec_heads.proofs.stems.Stems.find.Goals as goal
@@ -17,4 +17,5 @@ returns-clause-last c =
     let t = with_slash c.args.ignore_case c.args.path.now in
     let r = c.sought-ended.result in
     subst (λ (g : List (List ℕ)). IsLastFront g (length g) t c.front_of-deepest.result) c.self.view_is
-    (last-found h c.self.invariant.rising t r.low r.agreed c.sought-ended.ensures (r.low - 1) c.front_of-deepest.result (omega (arith, c.if-ended-eq0.false)) c.front_of-deepest.ensures)
+    (last-found h c.self.invariant.rising t r.low r.agreed c.sought-ended.ensures (r.low - 1) c.front_of-deepest.result (omega (arith, c.if-ended-eq0.false))
+    (subst (λ (g : List (List ℕ)). IsLastFront g (r.low - 1 + 1) (take r.agreed (head_at g (r.low - 1))) c.front_of-deepest.result) c.texts.ensures c.front_of-deepest.ensures))

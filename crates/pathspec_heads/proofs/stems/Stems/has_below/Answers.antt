@@ -16,7 +16,7 @@ returns-then-ended-len-clause-yes c = λ h.
     let t = with_slash c.args.ignore_case c.args.path.now in
     let same : c.compare_with_slash.result.agreed ≡ agreement (head_at c.args.self.now c.args.ended.low) t = c.compare_with_slash.ensures.agreed ∙ ap (λ (ts : List (List ℕ)). agreement (head_at ts c.args.ended.low) t) c.self.view_is in
     let more : length c.args.path.now < c.compare_with_slash.result.agreed = test-true (length c.args.path.now) c.compare_with_slash.result.agreed h in
-    above-found c.args.self.now t c.args.ended.low c.args.ended.agreed c.requires (omega (arith, c.if-ended-len.true, c.len.ensures, ap length c.self.view_is))
+    above-found c.args.self.now t c.args.ended.low c.args.ended.agreed c.requires (omega (arith, c.if-ended-len.true, c.len.ensures, ap length c.texts.ensures, ap length c.self.view_is))
     (omega (arith, more, same, length-with_slash c.args.ignore_case c.args.path.now))
 
 pub returns-then-ended-len-clause-no : goal.returns-then-ended-len-clause-no
@@ -42,4 +42,4 @@ returns-else-ended-len-clause-no c = λ h.
       | else-ended-gt0-via-then-ended-gt0+else-ended-path w ↦ absurd (omega (arith, w.if-ended-path.false, l, n))
       | else-ended-gt0-via-else-ended-gt0 w ↦ absurd (omega (arith, w.if-ended-gt0.false, p))
     ])
-    (λ i l. absurd (omega (arith, test-false c.args.ended.low c.len.result h, i, c.len.ensures, ap length c.self.view_is)))
+    (λ i l. absurd (omega (arith, test-false c.args.ended.low c.len.result h, i, c.len.ensures, ap length c.texts.ensures, ap length c.self.view_is)))
