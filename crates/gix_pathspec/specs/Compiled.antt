@@ -8,11 +8,9 @@ use Rattle.pathspec_glob.specs.Globs.{GlobSource}
 use Rattle.gix_pathspec.specs.Outcomes.{NamedState, names_of}
 use Rattle.gix_pathspec.specs.Specs.{Spec, has_wildcard}
 use Rattle.gix_pathspec.specs.Patterns.{pattern_spec}
-use Rattle.gix_pathspec.specs.Prefixes.{stem, common_prefix}
+use Rattle.gix_pathspec.specs.Prefixes.{stem}
 use Rattle.gix_pathspec.specs.Reading.{nil_spec}
 use Rattle.gix_pathspec.specs.Search.{Numbered, specs_of, in_search_order}
-use Rattle.pathspec_heads.specs.Groups.{CountedPlaces}
-use Rattle.gix_pathspec.specs.Effort.{ArePlacesOf}
 use Rattle.gix_pathspec.specs.declared.search.reach.Reach.{Reach}
 use Rattle.gix_pathspec.specs.Reach.{IsReachOf}
 use Rattle.gix_pathspec.specs.SelectionLaws.{NoNilPrefix, SpecPathsAreBytes}
@@ -41,12 +39,10 @@ pub record IsCompiled (s : Spec) (stem_length : ℕ) (glob : Option GlobSource) 
   pub is_glob : glob ≡ glob_of s
   pub has_names : names_of outcome ≡ attribute_names s
 
--- A search: its specs stand in search order, no nil spec has a prefix directory, the paths are bytes, and it holds the places by head, what the specs reach, the nil pattern and the common prefix.
-pub record IsSearch (specs : List Numbered) (heads : CountedPlaces) (reach : Reach) (nil : Pattern) (common : List ℕ) : Type 0 where
+-- A search: its specs stand in search order, no nil spec has a prefix directory, the paths are bytes, and it holds what the specs reach and the nil pattern.
+pub record IsSearch (specs : List Numbered) (reach : Reach) (nil : Pattern) : Type 0 where
   pub is_ordered : in_search_order specs ≡ specs
   pub has_no_nil_prefix : NoNilPrefix (specs_of specs)
   pub has_byte_paths : SpecPathsAreBytes (specs_of specs)
-  pub is_grouped : ArePlacesOf specs heads
   pub is_reach : IsReachOf (specs_of specs) reach
   pub is_nil : pattern_spec nil ≡ nil_spec
-  pub is_common : common ≡ common_prefix (specs_of specs)

@@ -1,5 +1,5 @@
 -- How much a search looks at: the specs that it asks about a path, and the heads that it compares with it.
-use Rattle.std.specs.Prelude.{ℕ, ◌+◌, ◌*◌, ◌^◌, ◌<◌, ◌≤◌, Bool, true, false, not, ◌||◌, List, length, map, filter, slice_get, Option, Some, None}
+use Rattle.std.specs.Prelude.{◌≡◌, ℕ, ◌+◌, ◌*◌, ◌^◌, ◌<◌, ◌≤◌, Bool, true, false, not, ◌||◌, List, length, map, filter, slice_get, Option, Some, None}
 use Rattle.std.specs.Option.{option_and_then}
 use Rattle.gix_pathspec.specs.declared.search.MatchKind.{MatchKind}
 use Rattle.gix_pathspec.specs.declared.search.found.MatchPlace.{MatchPlace}
@@ -23,6 +23,24 @@ heads_in_order specs = map (λ n. head n.spec) specs
 -- the places in search order of these specs, in groups by their heads
 abbrev pub ArePlacesOf : List Numbered → CountedPlaces → Type 0
 ArePlacesOf specs places = IsGrouped (heads_in_order specs) places.heads places.starts places.order
+
+-- the places are those of the specs, and this is their common prefix
+pub record IsByHead (specs : List Numbered) (heads : CountedPlaces) (common : List ℕ) : Type 0 where
+  pub is_grouped : ArePlacesOf specs heads
+  pub is_common : common ≡ common_prefix (specs_of specs)
+
+-- Specs, how many of them the last match asked, and how many heads it compared with the path; and how many all matches
+-- asked and compared, modulo 2 ^ 128.
+pub record AskedSpecs : Type 0 where
+  pub specs : List Numbered
+  pub last_tested : ℕ
+  pub last_compared : ℕ
+  pub tested : ℕ
+  pub compared : ℕ
+
+-- specs of which none was asked yet
+abbrev pub unasked : List Numbered → AskedSpecs
+unasked specs = record { specs = specs; last_tested = 0; last_compared = 0; tested = 0; compared = 0 }
 
 -- how the spec at a place matches a path, where there is one
 abbrev pub kind_at : Table → List Numbered → List ℕ → Bool → ℕ → Option MatchKind

@@ -2,6 +2,7 @@
 #![tactic(auto)]
 
 pub mod attributes;
+mod by_head;
 pub mod search;
 
 pub use pathspec_pattern::{Defaults, Error, MagicSignature, Pattern, SearchMode, defaults, parse};

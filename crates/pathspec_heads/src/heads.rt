@@ -6,6 +6,7 @@ ghost use Rattle.pathspec_heads.specs.Agreement.{agreement, is_behind, eight};
 ghost use Rattle.pathspec_heads.specs.Heads.{CountedHeads, head_at};
 ghost use Rattle.pathspec_heads.specs.Stems.{with_slash};
 
+use std::fmt;
 use std::marker::Model;
 
 /// How a head compares with a text.
@@ -18,10 +19,16 @@ pub struct Comparison {
 }
 
 /// Texts of which only lengths are told: their own, and that of what one of them shares with the next. No question here
-/// compares one of them with another text.
-#[derive(Debug, Drop)]
+/// compares one of them with another text, and what is printed of them is their count.
+#[derive(Drop)]
 pub struct Texts {
     all: Vec<Vec<u8>>,
+}
+
+impl fmt::Debug for Texts {
+    fn fmt<W: fmt::Write>(&self, f: &mut fmt::Formatter<W>) -> fmt::Result {
+        f.debug_struct("Texts").field("len", &self.len()).finish()
+    }
 }
 
 impl Model for Texts {

@@ -9,14 +9,24 @@ use crate::search::MatchKind;
 use crate::search::spec::CompiledSpec;
 use bstr::BStr;
 use pathspec_parts::attributes::LookUp;
+use std::fmt;
 use std::marker::Model;
 
 /// Specs in search order. Their only question about a path is whether one of them matches it. Each is counted, and the
-/// count is never set back.
-#[derive(Debug, Drop)]
+/// count is never set back. What is printed of them is counts.
+#[derive(Drop)]
 pub(crate) struct CountedSpecs {
     all: Vec<CompiledSpec>,
     tested: u128,
+}
+
+impl fmt::Debug for CountedSpecs {
+    fn fmt<W: fmt::Write>(&self, f: &mut fmt::Formatter<W>) -> fmt::Result {
+        f.debug_struct("CountedSpecs")
+            .field("len", &self.len())
+            .field("tested", &self.tested)
+            .finish()
+    }
 }
 
 impl Model for CountedSpecs {
@@ -36,7 +46,7 @@ impl CountedSpecs {
     }
 
     /// How many specs there are.
-    pub(super) fn len(&self) -> usize
+    pub(crate) fn len(&self) -> usize
         ensures { result ≡ length self.now.specs }
     {
         self.all.len()
@@ -57,7 +67,7 @@ impl CountedSpecs {
     }
 
     /// How often a spec was asked whether it matches a path, modulo 2^128.
-    pub(super) fn tested(&self) -> u128
+    pub(crate) fn tested(&self) -> u128
         ensures { result ≡ self.now.tested }
     {
         self.tested
@@ -67,7 +77,7 @@ impl CountedSpecs {
     ///
     /// # Errors
     /// The look-up's fault.
-    pub(super) fn matches<L: LookUp>(
+    pub(crate) fn matches<L: LookUp>(
         &mut self,
         place: usize,
         path: BStr<'_>,

@@ -1,22 +1,16 @@
 //! What a search finds for a path.
-ghost use Rattle.std.specs.Prelude.{◌≡◌, ℕ, ◌+◌, ◌^◌, ◌<◌, ◌≤◌, length, IsSome, IsTrue, IfOk, OnOk, OnErr};
+ghost use Rattle.std.specs.Prelude.{◌≡◌, ◌≤◌, IsTrue, IfOk, OnOk, OnErr};
 ghost use Rattle.bstr.specs.BStr.{bstr_bytes};
 ghost use Rattle.pathspec_parts.specs.Attributes.{next_count};
 ghost use Rattle.gix_pathspec.specs.Specs.{is_exclude};
 ghost use Rattle.gix_pathspec.specs.Patterns.{pattern_spec};
 ghost use Rattle.pathspec_glob.specs.Counts.{Counts};
-ghost use Rattle.pathspec_heads.specs.Heads.{IsChainOf};
-ghost use Rattle.pathspec_heads.specs.Groups.{HasSameGroups};
-ghost use Rattle.gix_pathspec.specs.Found.{IsFirstFound};
-ghost use Rattle.gix_pathspec.specs.Effort.{ArePlacesOf, candidate_count, IsFewCompared, IsLittleCompared, is_unasked, is_spec_place};
+ghost use Rattle.gix_pathspec.specs.Effort.{candidate_count, IsFewCompared, IsLittleCompared, is_unasked, is_spec_place};
 ghost use Rattle.gix_pathspec.specs.Search.{KeepsSpecs};
 
 use crate::Pattern;
-use crate::search::counted::CountedSpecs;
-use crate::search::texts::begins_with;
-use crate::search::{Effort, MatchKind, NO_EFFORT, Search};
+use crate::search::{MatchKind, Search};
 use bstr::BStr;
-use pathspec_heads::places::PlacesByHead;
 use pathspec_parts::attributes::LookUp;
 
 /// The spec that settles a path, and how it came to match it.
@@ -117,25 +111,8 @@ impl Search {
         ensures unasked { IsTrue (is_unasked self.old.specs (bstr_bytes path.entry))
             → (self.new.last_tested ≡ 0) × (self.new.last_compared ≡ 0) }
     {
-        self.effort = NO_EFFORT;
-        if path.as_bytes().is_empty() {
-            return Ok(Some(MatchPlace::Nil { number: 0 }));
-        }
-        if !begins_with(path.as_bytes(), &self.common_prefix, false) {
-            return Ok(None);
-        }
-        let is_dir = is_dir.unwrap_or(false);
-        if let Some((place, kind)) = first_match(
-            &mut self.specs,
-            &mut self.heads,
-            &mut self.effort,
-            path,
-            is_dir,
-            look_up,
-        )? {
-            return Ok(Some(MatchPlace::Spec { place, kind }));
-        }
-        Ok(self.default_match())
+        let default = self.default_match();
+        self.specs.find_match(path, is_dir, default, look_up)
     }
 
     /// How many specs the last match asked whether they match the path; a spec at which the look-up failed is one. It is 0
@@ -143,28 +120,28 @@ impl Search {
     pub fn last_tested(&self) -> usize
         ensures { result ≡ self.now.last_tested }
     {
-        self.effort.tested
+        self.specs.last_tested()
     }
 
     /// How many heads of specs the last match compared with the path. It is 0 where [`Search::last_tested`] says so.
     pub fn last_compared(&self) -> u128
         ensures { result ≡ self.now.last_compared }
     {
-        self.effort.compared
+        self.specs.last_compared()
     }
 
     /// How many specs all matches of this search asked, modulo 2^128.
     pub fn total_tested(&self) -> u128
         ensures { result ≡ self.now.tested }
     {
-        self.specs.tested()
+        self.specs.total_tested()
     }
 
     /// How many heads all matches of this search compared, modulo 2^128.
     pub fn total_compared(&self) -> u128
         ensures { result ≡ self.now.compared }
     {
-        self.heads.compared()
+        self.specs.total_compared()
     }
 
     /// What settles a path that no spec matches: the nil pattern, if there are only excludes.
@@ -233,92 +210,4 @@ impl Search {
             None => Ok(None),
         }
     }
-}
-
-/// The place of the first spec that matches a path, and how it does. Only specs are asked whose head begins the path.
-fn first_match<L: LookUp>(
-    specs: &mut CountedSpecs,
-    heads: &mut PlacesByHead,
-    effort: &mut Effort,
-    path: BStr<'_>,
-    is_dir: bool,
-    look_up: &mut L,
-) -> Result<Option<(usize, MatchKind)>, L::Fault>
-    requires grouped { ArePlacesOf specs.old.specs heads.old }
-    requires none { effort.old.tested ≡ 0 }
-    ensures same { specs.new.specs ≡ specs.old.specs }
-    ensures groups { HasSameGroups heads.old heads.new }
-    ensures first { IfOk result (λ found.
-        IsFirstFound (L.table look_up.old) specs.old.specs (bstr_bytes path.entry) is_dir found) }
-    ensures table_stays { L.table look_up.new ≡ L.table look_up.old }
-    ensures ok_leaves_count { OnOk result (L.failures look_up.new ≡ L.failures look_up.old) }
-    ensures err_counts { OnErr result
-        (L.failures look_up.new ≡ next_count (L.failures look_up.old)) }
-    // What was looked at is told.
-    ensures tested { Counts specs.old.tested effort.new.tested specs.new.tested }
-    ensures few_tested { effort.new.tested
-        ≤ candidate_count specs.old.specs (bstr_bytes path.entry) }
-    ensures compared { Counts heads.old.compared effort.new.compared heads.new.compared }
-    ensures few_compared { IsFewCompared specs.old.specs effort.new.compared }
-    ensures looked { IfOk result (λ found. IsSome found
-        → (1 ≤ effort.new.tested) × (1 ≤ effort.new.compared)) }
-{
-    let deepest = heads.deepest(path.as_bytes());
-    effort.compared = deepest.compared;
-    match deepest.head {
-        Some(head) => {
-            first_candidate(
-                specs,
-                heads,
-                head,
-                &mut effort.tested,
-                path,
-                is_dir,
-                look_up,
-            )
-        }
-        None => Ok(None),
-    }
-}
-
-/// The place of the first spec that matches a path, and how it does, of those whose head begins the one with a number.
-/// Each spec that is asked is counted.
-fn first_candidate<L: LookUp>(
-    specs: &mut CountedSpecs,
-    heads: &PlacesByHead,
-    head: usize,
-    tested: &mut usize,
-    path: BStr<'_>,
-    is_dir: bool,
-    look_up: &mut L,
-) -> Result<Option<(usize, MatchKind)>, L::Fault>
-    requires grouped { ArePlacesOf specs.old.specs heads.now }
-    requires head { head < length heads.now.heads }
-    requires chain { IsChainOf heads.now.heads (bstr_bytes path) head }
-    requires none { tested.old ≡ 0 }
-    ensures same { specs.new.specs ≡ specs.old.specs }
-    ensures first { IfOk result (λ found.
-        IsFirstFound (L.table look_up.old) specs.old.specs (bstr_bytes path.entry) is_dir found) }
-    ensures table_stays { L.table look_up.new ≡ L.table look_up.old }
-    ensures ok_leaves_count { OnOk result (L.failures look_up.new ≡ L.failures look_up.old) }
-    ensures err_counts { OnErr result
-        (L.failures look_up.new ≡ next_count (L.failures look_up.old)) }
-    ensures counted { Counts specs.old.tested tested.new specs.new.tested }
-    ensures few { tested.new ≤ candidate_count specs.old.specs (bstr_bytes path.entry) }
-    ensures asked { IfOk result (λ found. IsSome found → 1 ≤ tested.new) }
-{
-    let count = specs.len();
-    let mut from = 0;
-    while from < count {
-        let place = match heads.next_place(head, from) {
-            Some(place) => place,
-            None => return Ok(None),
-        };
-        *tested += 1;
-        if let Some(kind) = specs.matches(place, path, is_dir, look_up)? {
-            return Ok(Some((place, kind)));
-        }
-        from = place + 1;
-    }
-    Ok(None)
 }

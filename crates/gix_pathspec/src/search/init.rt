@@ -10,14 +10,15 @@ ghost use Rattle.gix_pathspec.specs.Errors.{IsMemory};
 ghost use Rattle.gix_pathspec.specs.Patterns.{pattern_spec};
 ghost use Rattle.gix_pathspec.specs.Prefixes.{common_front, common_prefix};
 ghost use Rattle.gix_pathspec.specs.Search.{KeepsSpecs, HasNoEffort, specs_of, numbered_from, default_to_prefix, in_search_order, search_of};
-ghost use Rattle.gix_pathspec.specs.Effort.{ArePlacesOf, heads_in_order};
+ghost use Rattle.gix_pathspec.specs.Effort.{ArePlacesOf, heads_in_order, unasked};
 ghost use Rattle.gix_pathspec.specs.Building.{prefix_bytes, TellsFault, Builds, IsErrorAt, numbered_normal_form};
 ghost use Rattle.gix_pathspec.specs.SelectionLaws.{SpecPathsAreBytes};
 
+use crate::by_head::SpecsByHead;
+use crate::search::Search;
 use crate::search::counted::CountedSpecs;
 use crate::search::reach::Reach;
 use crate::search::spec::CompiledSpec;
-use crate::search::{NO_EFFORT, Search};
 use crate::{Error, MagicSignature, Pattern};
 use bstr::{BStr, BString};
 use pathspec_heads::places::PlacesByHead;
@@ -104,17 +105,13 @@ impl Search {
         ensures effort { IfOk result HasNoEffort }
         ensures err { IfErr result IsMemory }
     {
-        let alloc = *self.common_prefix.allocator();
+        let alloc = *self.nil.attributes.allocator();
         let specs = clone_all(alloc, self.specs.as_slice())?;
         let reach = Reach::of_specs(alloc, &specs)?;
-        let heads = places_by_head(alloc, &specs)?;
         Ok(Search {
-            specs: CountedSpecs::new(specs),
-            heads,
+            specs: by_head(alloc, specs)?,
             reach,
-            effort: NO_EFFORT,
             nil: Pattern::nil(alloc),
-            common_prefix: self.common_prefix.clone()?,
             source: clone_source(&self.source)?,
         })
     }
@@ -155,16 +152,11 @@ fn build(
     let patterns = default_to_prefix(alloc, patterns, prefix)?;
     let compiled = compile_all(alloc, patterns, prefix, root)?;
     let specs = in_search_order(alloc, compiled)?;
-    let common_prefix = common_prefix(alloc, specs.as_slice())?;
-    let heads = places_by_head(alloc, specs.as_slice())?;
     let reach = Reach::of_specs(alloc, specs.as_slice())?;
     Ok(Search {
-        specs: CountedSpecs::new(specs),
-        heads,
+        specs: by_head(alloc, specs)?,
         reach,
-        effort: NO_EFFORT,
         nil: Pattern::nil(alloc),
-        common_prefix,
         source: None,
     })
 }
@@ -252,6 +244,15 @@ fn in_search_order(alloc: Global, specs: Vec<CompiledSpec>) -> Result<Vec<Compil
     }
     ordered.append(&mut includes)?;
     Ok(ordered)
+}
+
+/// Specs by their heads, of which none was asked yet.
+fn by_head(alloc: Global, specs: Vec<CompiledSpec>) -> Result<SpecsByHead, AllocError>
+    ensures { IfOk result (λ held. held ≡ unasked specs.items) }
+{
+    let common = common_prefix(alloc, specs.as_slice())?;
+    let heads = places_by_head(alloc, specs.as_slice())?;
+    Ok(SpecsByHead::new(CountedSpecs::new(specs), heads, common))
 }
 
 /// The places of specs by their heads, with nothing compared yet.

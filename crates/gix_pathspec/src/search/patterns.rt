@@ -9,6 +9,7 @@ ghost use Rattle.gix_pathspec.specs.Patterns.{pattern_spec};
 ghost use Rattle.gix_pathspec.specs.SelectionLaws.{ChosenBeginsCommon, NoNilPrefix, SpecPathsAreBytes};
 
 use crate::Pattern;
+use crate::by_head::SpecsByHead;
 use crate::search::Search;
 use crate::search::spec::CompiledSpec;
 use bstr::BStr;
@@ -31,7 +32,7 @@ impl Search {
         // Whatever specs choose begins with their common prefix.
         ensures chosen { ChosenBeginsCommon }
     {
-        BStr::new(self.common_prefix.as_slice())
+        BStr::new(self.specs.common_prefix())
     }
 
     /// The prefix directory of the first include, and the empty text where there is no include.
@@ -68,7 +69,7 @@ impl Search {
         ensures { result ≡ specs_of self.specs }
     {
         IntoPatterns {
-            rest: self.specs.into_specs().into_iter(),
+            rest: self.specs.into_counted().into_specs().into_iter(),
         }
     }
 
@@ -86,6 +87,15 @@ impl Search {
         ensures { NoNilPrefix (specs_of self.now.specs) }
     {
         let _ = &self.specs;
+    }
+}
+
+impl SpecsByHead {
+    /// The specs, to read. A match stands outside the module `search`, so it can't call this.
+    pub(super) fn as_slice(&self) -> &[CompiledSpec]
+        ensures { result.now ≡ self.now.specs }
+    {
+        self.counted().as_slice()
     }
 }
 

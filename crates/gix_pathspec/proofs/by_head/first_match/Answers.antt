@@ -5,7 +5,7 @@ use Rattle.pathspec_heads.specs.Heads.{IsLastFront}
 use Rattle.pathspec_heads.proofs.CandidateProofs.{no-candidates}
 use Rattle.gix_pathspec.specs.Effort.{heads_in_order}
 use Rattle.gix_pathspec.proofs.EffortProofs.{none-begins, few-specs}
-use Rattle.gix_pathspec.proofs.search.found.first_match.Goals as goal
+use Rattle.gix_pathspec.proofs.by_head.first_match.Goals as goal
 
 pub returns-in-None-clause-first : goal.returns-in-None-clause-first
 returns-in-None-clause-first g c =

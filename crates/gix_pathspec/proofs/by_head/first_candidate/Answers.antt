@@ -3,7 +3,7 @@ use Rattle.std.proofs.Common.{◌∙◌, sym, ap, length, arith}
 use Rattle.bstr.specs.BStr.{bstr_bytes}
 use Rattle.pathspec_heads.proofs.SearchProofs.{counts-more}
 use Rattle.gix_pathspec.proofs.EffortProofs.{next-candidate, none-left, few-more, match-here, match-later, same-kind}
-use Rattle.gix_pathspec.proofs.search.found.first_candidate.Goals as goal
+use Rattle.gix_pathspec.proofs.by_head.first_candidate.Goals as goal
 
 pub returns-in-None-clause-first : goal.returns-in-None-clause-first
 returns-in-None-clause-first g c =

@@ -4,7 +4,7 @@ use Rattle.bstr.specs.BStr.{bstr_bytes}
 use Rattle.pathspec_glob.specs.Counts.{Counts}
 use Rattle.gix_pathspec.specs.Found.{first_match}
 use Rattle.gix_pathspec.specs.Effort.{candidate_count}
-use Rattle.gix_pathspec.proofs.search.found.first_candidate.Given as goal
+use Rattle.gix_pathspec.proofs.by_head.first_candidate.Given as goal
 
 abbrev pub invariant-loop-from : goal.invariant-loop-from
 invariant-loop-from g l =
