@@ -19,7 +19,7 @@ pub struct Comparison {
 }
 
 /// Texts of which only lengths are told: their own, and that of what one of them shares with the next. No question here
-/// compares one of them with another text, and what is printed of them is their count.
+/// compares one of them with a text of the caller's, and what is printed of them is their count.
 #[derive(Drop)]
 pub struct Texts {
     all: Vec<Vec<u8>>,
