@@ -58,7 +58,7 @@ impl Search {
     ghost use Rattle.std.specs.Option.{option_map, ForSome};
     ghost use Rattle.gix_pathspec.specs.Found.{is_directory, IsWithin, default_match, answer_at, match_view};
     ghost use Rattle.gix_pathspec.specs.Search.{answer};
-    ghost use Rattle.gix_pathspec.specs.SelectionLaws.{SelectsChosen, SelectsCommon, OrderIsFree};
+    ghost use Rattle.gix_pathspec.specs.SelectionLaws.{SelectsChosen, SelectsCommon, OrderIsFree, ChosenIsTest};
 
     /// The place of the spec that settles a path: of the first in search order that matches it. [`Search::match_at`]
     /// gives the match at this place, and [`Search::pattern_matching_relative_path`] does both.
@@ -93,6 +93,8 @@ impl Search {
             SelectsCommon self.old.specs (bstr_bytes path.entry) (answer_at self.old.specs found)) }
         // So the order in which the specs were given doesn't change what is selected.
         ensures order { OrderIsFree }
+        // So the list of chosen paths can be written as a filter, by the test `is_chosen`.
+        ensures test { ChosenIsTest }
         ensures table_stays { L.table look_up.new ≡ L.table look_up.old }
         ensures ok_leaves_count { OnOk result (L.failures look_up.new ≡ L.failures look_up.old) }
         ensures err_counts { OnErr result

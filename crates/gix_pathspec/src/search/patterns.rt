@@ -6,7 +6,7 @@ ghost use Rattle.std.specs.Iterator.SizeHint.{IsWithinCount};
 ghost use Rattle.bstr.specs.BStr.{bstr_bytes};
 ghost use Rattle.gix_pathspec.specs.Specs.{is_include};
 ghost use Rattle.gix_pathspec.specs.Patterns.{pattern_spec};
-ghost use Rattle.gix_pathspec.specs.SelectionLaws.{ChosenBeginsCommon, NoNilPrefix, SpecPathsAreBytes};
+ghost use Rattle.gix_pathspec.specs.SelectionLaws.{ChosenBeginsCommon, ChosenIsTest, NoNilPrefix, SpecPathsAreBytes};
 
 use crate::Pattern;
 use crate::by_head::SpecsByHead;
@@ -88,6 +88,12 @@ impl Search {
     {
         let _ = &self.specs;
     }
+
+    /// The test of what is chosen, `is_chosen`, gives just what the statement `IsChosen` says, for all specs. That is a law
+    /// for callers whose contracts speak of the statement, and who may ask no search at all; the call itself does nothing.
+    pub fn chosen_is_test()
+        ensures { ChosenIsTest }
+    {}
 }
 
 impl SpecsByHead {

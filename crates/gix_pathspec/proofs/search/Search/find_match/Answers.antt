@@ -6,7 +6,7 @@ use Rattle.gix_pathspec.specs.Found.{is_directory, answer_at}
 use Rattle.gix_pathspec.specs.Search.{Numbered, SearchContents}
 use Rattle.gix_pathspec.specs.SelectionLaws.{SelectsChosen}
 use Rattle.gix_pathspec.proofs.BuildingProofs.{is_search-kept}
-use Rattle.gix_pathspec.proofs.ChosenProofs.{order_is_free}
+use Rattle.gix_pathspec.proofs.ChosenProofs.{order_is_free, chosen_is_test}
 use Rattle.gix_pathspec.proofs.FoundProofs.{selected-answer}
 use Rattle.gix_pathspec.proofs.search.Search.find_match.Goals as goal
 
@@ -26,3 +26,6 @@ returns-clause-selected g c =
 
 pub returns-clause-order : goal.returns-clause-order
 returns-clause-order g c = order_is_free
+
+pub returns-clause-test : goal.returns-clause-test
+returns-clause-test g c = chosen_is_test
