@@ -5,6 +5,7 @@ mod OptionRows
 mod WordRows
 pub mod RowProofs
 pub mod EnvironmentProofs
+pub mod VariableProofs
 pub mod RequestProofs
 pub mod DeviceProofs
 pub mod OutputProofs

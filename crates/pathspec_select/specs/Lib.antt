@@ -17,6 +17,7 @@ pub mod Options
 pub mod OptionWords
 pub mod Words
 pub mod Environment
+pub mod Variables
 pub mod Rows
 pub mod Requests
 pub mod Refusals

@@ -23,6 +23,11 @@ status_of (refusal.Line number) = 4
 status_of refusal.Write = 5
 status_of refusal.Memory = 6
 
+-- the exit status of a run, which is 0 where it did all
+abbrev pub exit_status : {A : Type 0} → Result A Refusal → ℕ
+exit_status (Ok done) = 0
+exit_status (Err refused) = status_of refused
+
 -- The refusal tells this fault of the words or of the environment, or that memory ran out.
 abbrev pub TellsWordFault : Refusal → (WordFault → Type 0) → Type 0
 TellsWordFault refusal.Usage P = P WordFault.Usage

@@ -1,13 +1,16 @@
 //! What the environment says about pathspecs.
-ghost use Rattle.std.specs.Prelude.{◌≡◌};
-ghost use Rattle.std.specs.Option.{option_copied};
-ghost use Rattle.pathspec_pattern.specs.Environment.{defaults_of};
+ghost use Rattle.std.specs.Prelude.{◌≡◌, IfOk, IfErr, MatchOption, Ok, string_bytes};
+ghost use Rattle.std.specs.Option.{option_copied, option_map};
+ghost use Rattle.pathspec_pattern.specs.Environment.{defaults_of, flag_of, asked_variables};
 ghost use Rattle.pathspec_select.specs.Requests.{environment_result};
 ghost use Rattle.pathspec_select.specs.Refusals.{ComputesWords, RefusesEnvironment};
+ghost use Rattle.pathspec_select.specs.Variables.{IsNoTruth, word_told, word_read, HasTold, HasToldAll, HasRefusedOne};
 
 use crate::Refusal;
 use gix_pathspec::{Defaults, Error};
+use pathspec_parts::truth::parse_truth;
 use std::alloc::Global;
+use std::env::VarError;
 
 /// The words of git's four variables for pathspecs, where they are set (git, "Environment variables").
 #[derive(Debug, Drop)]
@@ -24,6 +27,62 @@ pub struct Environment {
 
 impl Environment {
     ghost use Rattle.pathspec_select.specs.Environment.{words_of, word_of};
+
+    /// The words of the variables that count, each asked for by its name: `GIT_LITERAL_PATHSPECS`, `GIT_ICASE_PATHSPECS`,
+    /// and unless the first is true `GIT_GLOB_PATHSPECS` and `GIT_NOGLOB_PATHSPECS` (git, "Environment variables"). `var`
+    /// answers as [`std::env::var`] does. After a word that is none of truth no more are asked for. A variable that wasn't
+    /// asked for is left out.
+    ///
+    /// It looks at each byte of a word a fixed number of times, and takes no memory beside what `var` takes.
+    ///
+    /// # Errors
+    /// The first answer that is at fault: [`Refusal::Usage`] for a word that isn't UTF-8, [`Refusal::Memory`].
+    pub fn read<F: FnMut(&str) -> Result<String, VarError>>(
+        var: &mut F,
+    ) -> Result<Environment, Refusal>
+        requires { F.IsAlwaysCallable var.old }
+        ensures callable { F.IsAlwaysCallable var.new }
+        // Just the variables that count are asked for, each once and in order, and have their words.
+        ensures asked { IfOk result (λ environment.
+            HasToldAll F.FnMut var.old (asked_variables (words_of environment)) var.new) }
+        ensures refused { IfErr result (λ refused.
+            HasRefusedOne F.FnMut var.old var.new refused) }
+    {
+        let literal = ask(var, "GIT_LITERAL_PATHSPECS")?;
+        let Some(is_literal) = truth_of(&literal) else {
+            return Ok(Environment {
+                literal,
+                icase: None,
+                glob: None,
+                noglob: None,
+            });
+        };
+        let icase = ask(var, "GIT_ICASE_PATHSPECS")?;
+        if is_literal || truth_of(&icase).is_none() {
+            return Ok(Environment {
+                literal,
+                icase,
+                glob: None,
+                noglob: None,
+            });
+        }
+        let glob = ask(var, "GIT_GLOB_PATHSPECS")?;
+        if truth_of(&glob).is_none() {
+            return Ok(Environment {
+                literal,
+                icase,
+                glob,
+                noglob: None,
+            });
+        }
+        let noglob = ask(var, "GIT_NOGLOB_PATHSPECS")?;
+        Ok(Environment {
+            literal,
+            icase,
+            glob,
+            noglob,
+        })
+    }
 
     /// What specs get that say nothing of it.
     ///
@@ -55,6 +114,47 @@ impl Environment {
         } else {
             None
         }
+    }
+}
+
+/// The word of the variable with this name, if it is set.
+///
+/// # Errors
+/// [`Refusal::Usage`] where it isn't UTF-8, [`Refusal::Memory`].
+fn ask<F: FnMut(&str) -> Result<String, VarError>>(
+    var: &mut F,
+    name: &str,
+) -> Result<Option<String>, Refusal>
+    requires { F.IsAlwaysCallable var.old }
+    ensures callable { F.IsAlwaysCallable var.new }
+    ensures told { HasTold F.FnMut var.old name.now (word_read result) var.new }
+{
+    word_told(var(name))
+}
+
+/// The word that an answer tells.
+///
+/// # Errors
+/// [`Refusal::Usage`] where it isn't UTF-8, [`Refusal::Memory`].
+fn word_told(answer: Result<String, VarError>) -> Result<Option<String>, Refusal>
+    ensures { word_read result ≡ word_told answer }
+{
+    match answer {
+        Ok(word) => Ok(Some(word)),
+        Err(VarError::NotPresent) => Ok(None),
+        Err(VarError::NotUnicode) => Err(Refusal::Usage),
+        Err(VarError::OutOfMemory) => Err(Refusal::Memory),
+    }
+}
+
+/// Whether a word says true, or None where it is no word of truth. A variable that isn't set is false.
+fn truth_of(word: &Option<String>) -> Option<bool>
+    ensures { let said = flag_of (option_map string_bytes word.now) in
+        MatchOption result (IsNoTruth said) (λ flag. said ≡ Ok flag) }
+{
+    match word {
+        Some(word) => parse_truth(word.as_bytes()),
+        None => Some(false),
     }
 }
 

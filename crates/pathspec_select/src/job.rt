@@ -1,8 +1,8 @@
 //! What words and the environment ask for.
-ghost use Rattle.std.specs.Prelude.{◌≡◌, Err, map, string_bytes, IfOk, IsTrue};
+ghost use Rattle.std.specs.Prelude.{◌≡◌, None, Err, map, string_bytes, IfOk, IsTrue};
 ghost use Rattle.pathspec_parts.specs.Paths.{is_clean_prefix};
 ghost use Rattle.gix_pathspec.specs.Patterns.{pattern_spec};
-ghost use Rattle.gix_pathspec.specs.Search.{search_of};
+ghost use Rattle.gix_pathspec.specs.Search.{HasNoEffort, search_of};
 ghost use Rattle.pathspec_select.specs.WordFaults.{WordFault};
 ghost use Rattle.pathspec_select.specs.Environment.{words_of};
 ghost use Rattle.pathspec_select.specs.Options.{options_of};
@@ -55,6 +55,9 @@ impl Job {
         ensures request { ComputesWords request_view
             (request_of (map string_bytes words.now) (words_of environment.now)) result }
         ensures fresh { IfOk result (λ pair. pair.1.failures ≡ 0) }
+        // The search has no source, and has been asked nothing.
+        ensures source { IfOk result (λ pair. pair.0.search.source ≡ None) }
+        ensures effort { IfOk result (λ pair. HasNoEffort pair.0.search) }
         // Wrong options are told before any memory is taken; what a list says is no part of them.
         ensures usage { options_of (map string_bytes words.now) ≡ Err WordFault.Usage
             → result ≡ Err Refusal.Usage }
@@ -91,8 +94,10 @@ fn search(
     root: &[u8],
 ) -> Result<Search, Refusal>
     requires { IsTrue (is_clean_prefix prefix.now) }
-    ensures { ComputesWords (λ search. search.specs)
+    ensures specs { ComputesWords (λ search. search.specs)
         (search_result (search_of prefix.now root.now (map pattern_spec patterns.items))) result }
+    ensures source { IfOk result (λ search. search.source ≡ None) }
+    ensures effort { IfOk result HasNoEffort }
 {
     match Search::from_specs(alloc, patterns, Some(BStr::new(prefix)), BStr::new(root)) {
         Ok(search) => Ok(search),

@@ -17,6 +17,6 @@ mod words;
 pub use environment::Environment;
 pub use job::Job;
 pub use program::{run, run_with};
-pub use refusal::Refusal;
+pub use refusal::{Refusal, exit_status};
 pub use rows::Rows;
 pub use walk::{SelectError, select};

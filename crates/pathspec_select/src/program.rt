@@ -11,6 +11,7 @@ ghost use Rattle.pathspec_select.specs.Refusals.{refused_listing, refused_walk};
 use crate::listing::{self, ListingError};
 use crate::walk::{SelectError, select};
 use crate::{Environment, Job, Refusal, devices, output};
+use gix_pathspec::Search;
 use pathspec_parts::attributes::LookUp;
 use pathspec_parts::tree::Cursor;
 use std::alloc::{AllocError, Global};
@@ -27,7 +28,6 @@ use std::io::{Read, Write};
 /// The first fault, in this order: [`Refusal::Usage`]; [`Refusal::Environment`]; [`Refusal::Spec`]; [`Refusal::Read`];
 /// [`Refusal::Line`]; [`Refusal::Write`]. [`Refusal::Memory`] comes at its place among them. Nothing is written before a
 /// fault, but for a write's.
-#[tactic(auto, using(gix_pathspec::proofs::ChosenProofs::chosen_is_test))]
 pub fn run<R: Read, W: Write>(
     alloc: Global,
     words: &[String],
@@ -43,6 +43,8 @@ pub fn run<R: Read, W: Write>(
     // The test by which records are written is the statement of what is chosen.
     ensures test { ChosenIsTest }
 {
+    // The proof reads here that the test is the statement.
+    Search::chosen_is_test();
     let (mut job, mut rows) = Job::from_words(alloc, words, environment)?;
     run_with(alloc, &mut job, reader, writer, &mut rows)
 }

@@ -1,5 +1,6 @@
 //! Why the program ends without having done all.
 ghost use Rattle.std.specs.Prelude.{◌≡◌};
+ghost use Rattle.pathspec_select.specs.Refusals.{exit_status};
 
 use gix_pathspec::Error;
 use std::alloc::AllocError;
@@ -44,6 +45,16 @@ impl Refusal {
             Refusal::Read | Refusal::Write => 5,
             Refusal::Memory => 6,
         }
+    }
+}
+
+/// The exit status of a run: 0 where it did all, else its refusal's.
+pub fn exit_status(ended: &Result<(), Refusal>) -> u8
+    ensures { result ≡ exit_status ended.now }
+{
+    match ended {
+        Ok(()) => 0,
+        Err(refusal) => refusal.status(),
     }
 }
 

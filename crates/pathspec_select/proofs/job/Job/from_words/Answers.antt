@@ -53,7 +53,7 @@ returns-in_err-search-clause-request c =
     let r = sym (rows-words words o.0 o.1) ∙ c.in_ok-rows.ensures.rows in
     let read = ap (parsed_words c.in_ok-defaults.defaults) o.2.texts ∙ c.in_ok-patterns.ensures in
     rw (p.1, p.2)
-    (tells-on c.in_err-search.field-0.0 _ _ (λ fault h. request-search words environment o.0 o.1 c.in_ok-rows.rows.rows r c.in_ok-defaults.defaults c.in_ok-defaults.ensures (map pattern_spec c.in_ok-patterns.patterns.items) read fault (rw (o.2.settings.prefix, o.2.settings.root) h)) c.in_err-search.ensures)
+    (tells-on c.in_err-search.field-0.0 _ _ (λ fault h. request-search words environment o.0 o.1 c.in_ok-rows.rows.rows r c.in_ok-defaults.defaults c.in_ok-defaults.ensures (map pattern_spec c.in_ok-patterns.patterns.items) read fault (rw (o.2.settings.prefix, o.2.settings.root) h)) c.in_err-search.ensures.specs)
 
 pub returns-clause-request : goal.returns-clause-request
 returns-clause-request c =
@@ -62,5 +62,5 @@ returns-clause-request c =
     let o = c.in_ok-options.ensures.options in
     let r = sym (rows-words words o.0 o.1) ∙ c.in_ok-rows.ensures.rows in
     let read = ap (parsed_words c.in_ok-defaults.defaults) o.2.texts ∙ c.in_ok-patterns.ensures in
-    request-done words environment o.0 o.1 c.in_ok-rows.rows.rows r c.in_ok-defaults.defaults c.in_ok-defaults.ensures (map pattern_spec c.in_ok-patterns.patterns.items) read c.in_ok-search.search.specs (rw (o.2.settings.prefix, o.2.settings.root) c.in_ok-search.ensures)
+    request-done words environment o.0 o.1 c.in_ok-rows.rows.rows r c.in_ok-defaults.defaults c.in_ok-defaults.ensures (map pattern_spec c.in_ok-patterns.patterns.items) read c.in_ok-search.search.specs (rw (o.2.settings.prefix, o.2.settings.root) c.in_ok-search.ensures.specs)
     ∙ ap (λ separator. Ok (record { separator = separator; rows = c.in_ok-rows.rows.rows; specs = c.in_ok-search.search.specs })) o.2.settings.separator
