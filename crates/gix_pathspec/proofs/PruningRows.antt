@@ -154,3 +154,13 @@ prefix_case = refl
 prefix_case_unmatched : asked (codes "A") ((codes ":(icase)b") ∷ (codes ":(top)x") ∷ []) (codes "a/b") false ≡ None
 unfolding asked
 prefix_case_unmatched = refl
+
+-- a directory's path has no slash at its end: `src/lib` on directory `src`
+no_slash : can_match_under [] ((codes "src/lib") ∷ []) (codes "src") (Some true) ≡ Some true
+unfolding can_match_under
+no_slash = refl
+
+-- and with one
+last_slash : can_match_under [] ((codes "src/lib") ∷ []) (codes "src/") (Some true) ≡ Some false
+unfolding can_match_under
+last_slash = refl

@@ -24,6 +24,8 @@ impl Search {
     /// Whether a directory can lie in the prefix of the search (gix-pathspec's call of this name): `d` matches `d/`, `d*/`
     /// and `d/*`, but not `d/d/*` or `dir`. With `leading` it matches `d/d` as well.
     ///
+    /// The directory's path has no slash at its end, as for [`Search::can_match_relative_path`].
+    ///
     /// It is so where there are no specs or the path is empty, and not where the path and the common prefix disagree.
     /// Otherwise the first exclude that has a wildcard answers with yes, and the first that takes every path with no,
     /// whichever comes first; without such an exclude, some include must always match or its front must begin the path,

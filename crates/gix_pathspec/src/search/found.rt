@@ -63,6 +63,8 @@ impl Search {
     /// The place of the spec that settles a path: of the first in search order that matches it. [`Search::match_at`]
     /// gives the match at this place, and [`Search::pattern_matching_relative_path`] does both.
     ///
+    /// A directory's path has no slash at its end: `:(glob)s*` matches the directory `src`, but not `src/`.
+    ///
     /// A path is a directory where `is_dir` is `Some(true)`. An empty path is settled by the nil pattern, and so is a
     /// path that no spec matches, if there are only excludes.
     ///
@@ -180,6 +182,8 @@ impl Search {
 
     /// The spec that settles a path: the first in search order that matches it. A path is selected where this match
     /// isn't excluded (gitglossary, "pathspec").
+    ///
+    /// A directory's path has no slash at its end: `:(glob)s*` matches the directory `src`, but not `src/`.
     ///
     /// A path is a directory where `is_dir` is `Some(true)`. An empty path is settled by the nil pattern, and so is a
     /// path that no spec matches, if there are only excludes.

@@ -23,6 +23,9 @@ impl Search {
     /// Whether something at or below this path can match (gix-pathspec's call of this name). A walk that skips what
     /// this denies loses no path that the search selects.
     ///
+    /// A directory's path has no slash at its end: for the spec `src/lib` the answer is yes to `src`, but no to `src/`. So a
+    /// walk takes off the slash with which `git status` prints a directory (`strip_last_slash` of `pathspec_parts::path`).
+    ///
     /// It is so where there are no specs or the path is empty. Otherwise the path and the common prefix agree as far as
     /// both go, no exclude takes every path, and some include's stem and the path lead to one another, or there is no
     /// include. Where the path is that of a file, say so by `is_dir`: a spec that wants a directory is then asked only
