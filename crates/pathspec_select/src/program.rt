@@ -24,6 +24,9 @@ use std::io::{Read, Write};
 /// The words and the environment are read by [`Job::from_words`], and [`run_with`] does the rest, with the attributes that
 /// `--attr` gives.
 ///
+/// It doesn't flush the writer. A caller who hands in a `BufWriter` calls its `flush` afterwards and looks at the answer:
+/// when it is dropped it writes what it holds, too, but then tells of no fault.
+///
 /// # Errors
 /// The first fault, in this order: [`Refusal::Usage`]; [`Refusal::Environment`]; [`Refusal::Spec`]; [`Refusal::Read`];
 /// [`Refusal::Line`]; [`Refusal::Write`]. [`Refusal::Memory`] comes at its place among them. Nothing is written before a
@@ -56,6 +59,8 @@ pub fn run<R: Read, W: Write>(
 /// entry takes 24 bytes and its name in the tree, 8 for the place of its record, and 8 more where it is chosen: in all about
 /// twice the listing's bytes where paths stand in byte order, as git lists them. A directory that comes again is a further
 /// entry, so that other listings take more.
+///
+/// It doesn't flush the writer, as [`run`] doesn't.
 ///
 /// # Errors
 /// The first fault, in this order: [`Refusal::Read`]; [`Refusal::Line`]; [`Refusal::Write`]. [`Refusal::Memory`] comes
