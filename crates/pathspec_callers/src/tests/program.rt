@@ -369,6 +369,145 @@ fn a_writer_may_take_one_byte_a_call(rt: HostRuntime) -> Result<(), Fail> {
     assert_each(&rt, rt.alloc(), ROWS)
 }
 
+/// Answers its calls one after another, and counts them: with bytes, with none, or with a fault after which it goes on.
+#[derive(Drop)]
+struct ScriptedReader {
+    answers: &'static [Result<&'static [u8], ErrorKind>],
+    calls: usize,
+}
+
+impl Read for ScriptedReader {
+    fn read(&mut self, buf: &mut [u8]) -> io::Result<usize> {
+        let answer = self.answers.get(self.calls);
+        self.calls = self.calls.saturating_add(1);
+        match answer {
+            Some(Ok(bytes)) => {
+                let given = bytes.len().min(buf.len());
+                buf[..given].copy_from_slice(&bytes[..given]);
+                Ok(given)
+            }
+            Some(Err(fault)) => Err(io::Error::from(*fault)),
+            None => Ok(0),
+        }
+    }
+}
+
+/// What a reader answers, how often it is read, and what is written, or None where the read is refused.
+#[derive(Clone, Copy)]
+struct Reads(
+    &'static [Result<&'static [u8], ErrorKind>],
+    usize,
+    Option<&'static [u8]>,
+);
+
+impl Row for Reads {
+    fn holds(&self, alloc: Global) -> Result<bool, Fail> {
+        let environment = environment_of(alloc, UNSET)?;
+        let (answers, calls) = (self.0, 0);
+        let mut reader = ScriptedReader { answers, calls };
+        let mut written = Vec::new(alloc);
+        let outcome = run(alloc, &[], &environment, &mut reader, &mut written);
+        let want = match self.2 {
+            Some(_) => Ok(()),
+            None => Err(Refusal::Read),
+        };
+        let is_written = written.as_slice() == self.2.unwrap_or(b"");
+        Ok(outcome == want && is_written && reader.calls == self.1)
+    }
+}
+
+#[test]
+fn no_read_is_made_again_nor_after_the_end(rt: HostRuntime) -> Result<(), Fail> {
+    const ROWS: &[Reads] = &[
+        Reads(&[Err(ErrorKind::BrokenPipe), Ok(b"a\n"), Ok(b"")], 1, None),
+        Reads(
+            &[Ok(b"a\n"), Err(ErrorKind::BrokenPipe), Ok(b"b\n")],
+            2,
+            None,
+        ),
+        Reads(&[Ok(b"a\n"), Err(ErrorKind::Interrupted), Ok(b"")], 2, None),
+        Reads(&[Ok(b"a\n"), Err(ErrorKind::TimedOut), Ok(b"b\n")], 2, None),
+        Reads(&[Ok(b"a\n"), Ok(b""), Ok(b"b\n")], 2, Some(b"a\n")),
+        Reads(
+            &[Ok(b"a\n"), Ok(b""), Err(ErrorKind::BrokenPipe)],
+            2,
+            Some(b"a\n"),
+        ),
+        Reads(&[Ok(b""), Err(ErrorKind::Interrupted)], 1, Some(b"")),
+    ];
+    assert_each(&rt, rt.alloc(), ROWS)
+}
+
+/// Takes some bytes at each call, as many as it is told, or fails at it, and then goes on; at last it takes all bytes.
+#[derive(Drop)]
+struct ScriptedWriter {
+    answers: &'static [Result<usize, ErrorKind>],
+    calls: usize,
+    taken: Vec<u8>,
+    flushes: usize,
+}
+
+impl Write for ScriptedWriter {
+    fn write(&mut self, buf: &[u8]) -> io::Result<usize> {
+        let answer = self.answers.get(self.calls);
+        self.calls = self.calls.saturating_add(1);
+        let most = match answer {
+            Some(Ok(most)) => buf.len().min(*most),
+            Some(Err(fault)) => return Err(io::Error::from(*fault)),
+            None => buf.len(),
+        };
+        self.taken.extend_from_slice(&buf[..most])?;
+        Ok(most)
+    }
+
+    fn flush(&mut self) -> io::Result<()> {
+        self.flushes = self.flushes.saturating_add(1);
+        Ok(())
+    }
+}
+
+/// What a writer answers, how often it is called for `a` and `b`, and what it has taken then, all or a beginning; it is
+/// never flushed.
+#[derive(Clone, Copy)]
+struct Accepted(&'static [Result<usize, ErrorKind>], usize, &'static [u8]);
+
+impl Row for Accepted {
+    fn holds(&self, alloc: Global) -> Result<bool, Fail> {
+        const LISTING: &[u8] = b"a\nb\n";
+        let environment = environment_of(alloc, UNSET)?;
+        let mut reader = LISTING;
+        let mut writer = ScriptedWriter {
+            answers: self.0,
+            calls: 0,
+            taken: Vec::new(alloc),
+            flushes: 0,
+        };
+        let outcome = run(alloc, &[], &environment, &mut reader, &mut writer);
+        let want = if self.2 == LISTING {
+            Ok(())
+        } else {
+            Err(Refusal::Write)
+        };
+        let is_taken = writer.taken.as_slice() == self.2 && writer.calls == self.1;
+        Ok(outcome == want && is_taken && writer.flushes == 0)
+    }
+}
+
+#[test]
+fn no_write_is_made_again_and_none_flushed(rt: HostRuntime) -> Result<(), Fail> {
+    const ROWS: &[Accepted] = &[
+        Accepted(&[], 1, b"a\nb\n"),
+        Accepted(&[Ok(3), Ok(9)], 2, b"a\nb\n"),
+        Accepted(&[Err(ErrorKind::BrokenPipe)], 1, b""),
+        Accepted(&[Err(ErrorKind::Interrupted)], 1, b""),
+        Accepted(&[Ok(2), Err(ErrorKind::BrokenPipe)], 2, b"a\n"),
+        Accepted(&[Ok(3), Err(ErrorKind::Interrupted)], 2, b"a\nb"),
+        Accepted(&[Ok(3), Err(ErrorKind::TimedOut)], 2, b"a\nb"),
+        Accepted(&[Ok(2), Ok(0)], 2, b"a\n"),
+    ];
+    assert_each(&rt, rt.alloc(), ROWS)
+}
+
 /// Does the job of the words of a line with a look-up, and gives what it writes.
 fn written_with<L: LookUp<Fault = AllocError>>(
     alloc: Global,
