@@ -38,6 +38,6 @@ listed_piece piece = record { token = listed piece.token; size = piece.size }
 abbrev pub listed_tokens : Mode → List ℕ → List Token
 listed_tokens mode pattern = map listed (tokens mode pattern)
 
--- a pattern in parts, with such brackets
+-- the same with the mode of the pattern
 abbrev pub listed_token_list : Mode → List ℕ → TokenList
 listed_token_list mode pattern = record { mode = mode; tokens = listed_tokens mode pattern }

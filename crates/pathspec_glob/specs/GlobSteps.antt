@@ -3,7 +3,7 @@ use Rattle.std.specs.Prelude.{ℕ, Bool, true, false, not, ◌&&◌, List, [], �
 use Rattle.pathspec_glob.specs.declared.Mode.{Mode}
 use Rattle.pathspec_glob.specs.declared.Case.{Case}
 use Rattle.pathspec_glob.specs.Bytes.{slash}
-use Rattle.pathspec_glob.specs.Tokens.{Token, tokens}
+use Rattle.pathspec_glob.specs.Tokens.{Token}
 use Rattle.pathspec_glob.specs.Tokens.Token.{One, Star, Deep}
 use Rattle.pathspec_glob.specs.GlobRelation.{takes, passes_over}
 
@@ -11,10 +11,6 @@ use Rattle.pathspec_glob.specs.GlobRelation.{takes, passes_over}
 pub record TokenList : Type 0 where
   pub mode : Mode
   pub tokens : List Token
-
--- a pattern in parts
-abbrev pub token_list : Mode → List ℕ → TokenList
-token_list mode pattern = record { mode = mode; tokens = tokens mode pattern }
 
 -- a token that takes any number of bytes
 abbrev pub is_wide : Token → Bool
