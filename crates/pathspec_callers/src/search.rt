@@ -1,12 +1,14 @@
 //! Callers of the search of `gix_pathspec`.
 ghost use Rattle.std.specs.Prelude.{◌≡◌, ◌≢◌, ◌↔◌, [], IfOk, IsTrue};
 ghost use Rattle.bstr.specs.BStr.{bstr_bytes};
+ghost use Rattle.pathspec_parts.specs.Paths.{without_last_slash};
 ghost use Rattle.gix_pathspec.specs.Search.{KeepsSpecs};
 ghost use Rattle.pathspec_callers.specs.Selections.{IsChosenFile, HoldsNothing};
 
 use bstr::BStr;
 use gix_pathspec::Search;
 use gix_pathspec::attributes::LookUp;
+use pathspec_parts::path::strip_last_slash;
 
 /// Whether a search selects a file.
 ///
@@ -32,4 +34,13 @@ pub fn may_skip(search: &Search, directory: BStr<'_>) -> bool
     ensures { IsTrue result → HoldsNothing search.now (bstr_bytes directory.entry) }
 {
     !search.can_match_relative_path(directory, Some(true))
+}
+
+/// As [`may_skip`], for a directory as `git status` prints it, with a slash at its end.
+pub fn may_skip_printed(search: &Search, directory: BStr<'_>) -> bool
+    ensures { IsTrue result
+        → HoldsNothing search.now (without_last_slash (bstr_bytes directory.entry)) }
+{
+    let (directory, _) = strip_last_slash(directory.as_bytes());
+    may_skip(search, BStr::new(directory))
 }

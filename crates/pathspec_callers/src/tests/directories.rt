@@ -37,6 +37,9 @@ fn stems_and_directories_lead_to_one_another(rt: HostRuntime) -> Result<(), Fail
         CanMatch(&["a", ":(exclude)."], "a", Some(true), false),
         CanMatch(&[":!a"], "b", Some(true), true),
         CanMatch(&[":!a"], "a", Some(true), true),
+        // A directory's path has no slash at its end.
+        CanMatch(&["src/lib"], "src", Some(true), true),
+        CanMatch(&["src/lib"], "src/", Some(true), false),
     ];
     assert_each(&rt, rt.alloc(), ROWS)
 }

@@ -151,6 +151,9 @@ fn specs_match_paths_in_four_ways(rt: HostRuntime) -> Result<(), Fail> {
         Kind(":(icase)./", "a", "a/x", false, Some(MatchKind::Prefix)),
         Kind(":(icase)./", "a", "A/x", false, None),
         Kind(":(icase)./", "a", "ab", false, None),
+        // A directory's path has no slash at its end.
+        Kind(":(glob)s*", "", "src", true, Some(MatchKind::WildcardMatch)),
+        Kind(":(glob)s*", "", "src/", true, None),
     ];
     assert_each(&rt, rt.alloc(), ROWS)
 }
@@ -292,6 +295,33 @@ fn attributes_are_asked_where_the_spec_fits(rt: HostRuntime) -> Result<(), Fail>
     assert_each(&rt, rt.alloc(), ROWS)
 }
 
+/// Texts whose heads begin a file, the file, and the place of the spec that settles it; none that lists attributes fits,
+/// and the look-up would fail.
+#[derive(Clone, Copy)]
+struct Unasked(&'static [&'static str], &'static str, Option<usize>);
+
+impl Row for Unasked {
+    fn holds(&self, alloc: Global) -> Result<bool, Fail> {
+        let mut search = search_of(alloc, self.0, "")?;
+        let mut marks = Marks::failing_after(0);
+        let found = search.find_match(BStr::new(self.1.as_bytes()), None, &mut marks)?;
+        let is_reached = search.last_tested() == self.0.len();
+        Ok(is_reached && found == verbatim(self.2) && marks.asked == 0)
+    }
+}
+
+#[test]
+fn no_attributes_are_asked_where_the_spec_does_not_fit(rt: HostRuntime) -> Result<(), Fail> {
+    const ROWS: &[Unasked] = &[
+        Unasked(&[":(attr:gen)x"], "xa", None),
+        Unasked(&[":(attr:gen)x*y"], "xa", None),
+        Unasked(&[":(attr:gen)x/"], "x", None),
+        Unasked(&[":(attr:gen)x/", "x"], "x", Some(1)),
+        Unasked(&[":(exclude,attr:gen)*y", "x"], "x", Some(1)),
+    ];
+    assert_each(&rt, rt.alloc(), ROWS)
+}
+
 #[test]
 fn each_question_is_asked_on_a_reset_outcome(rt: HostRuntime) -> Result<(), Fail> {
     let mut search = search_of(rt.alloc(), &[":(exclude,attr:gen)."], "")?;
@@ -326,6 +356,59 @@ impl Row for FailsAfter {
 #[test]
 fn a_fault_changes_no_later_answer(rt: HostRuntime) -> Result<(), Fail> {
     assert_each(&rt, rt.alloc(), &[FailsAfter(0), FailsAfter(1)])
+}
+
+/// Whether two searches tell the same of their last match and of all, and come from the same place.
+fn are_left_same(search: &Search, other: &Search) -> bool {
+    search.last_tested() == other.last_tested()
+        && search.last_compared() == other.last_compared()
+        && search.total_tested() == other.total_tested()
+        && search.total_compared() == other.total_compared()
+        && search.source == other.source
+}
+
+/// A search that comes from a list, and has settled a file.
+fn asked_search(alloc: Global) -> Result<Box<Search>, Fail> {
+    let mut search = search_of(alloc, &["a/x", ":(attr:gen)x", ":!a/y"], "")?;
+    search.source = Some(BString::from_slice(alloc, b"list")?);
+    search.find_match(BStr::new(b"x"), None, &mut Marks::new())?;
+    Ok(search)
+}
+
+/// A file, after how many answers the look-up fails, and whether a spec settles the file, or None where the look-up fails:
+/// a match is lent by a search that is left as `find_match` leaves it.
+#[derive(Clone, Copy)]
+struct Left(&'static str, u64, Option<bool>);
+
+impl Row for Left {
+    fn holds(&self, alloc: Global) -> Result<bool, Fail> {
+        let (mut search, mut other) = (asked_search(alloc)?, asked_search(alloc)?);
+        let path = BStr::new(self.0.as_bytes());
+        let (mut marks, mut other_marks) = (
+            Marks::failing_after(self.1),
+            Marks::failing_after(self.1),
+        );
+        let is_found = match search.pattern_matching_relative_path(path, None, &mut marks) {
+            Ok(found) => Some(found.is_some()),
+            Err(_) => None,
+        };
+        let _ = other.find_match(path, None, &mut other_marks);
+        Ok(is_found == self.2 && are_left_same(&search, &other))
+    }
+}
+
+#[test]
+fn lending_a_match_leaves_the_search_as_finding_it_does(rt: HostRuntime) -> Result<(), Fail> {
+    const ROWS: &[Left] = &[
+        Left("a/x", 0, Some(true)),
+        Left("a/y", 0, Some(true)),
+        Left("a/z", 0, Some(false)),
+        Left("q", 0, Some(false)),
+        Left("", 0, Some(true)),
+        Left("x", 1, Some(true)),
+        Left("x", 0, None),
+    ];
+    assert_each(&rt, rt.alloc(), ROWS)
 }
 
 /// A match with these fields.
