@@ -1,4 +1,4 @@
-//! Words of truth: what git takes for true or false (git help config, "Values").
+//! Words of truth, after git's (git help config, "Values"); `docs/DIFFERENCES.md` has the words that git takes otherwise.
 ghost use Rattle.std.specs.Prelude.{◌≡◌, bytes_eq, drop, min, IsTrue, ◌-◌, ◌^◌};
 ghost use Rattle.std.specs.List.{list_all, take_while, prefix_len};
 ghost use Rattle.std.specs.Char.{is_ascii_digit};
