@@ -2,9 +2,7 @@
 use crate::tests::support::{Row, Variables, assert_each, carries, text_of};
 use bitflags::Flags;
 use gix_pathspec::{Defaults, Error, SearchMode};
-use pathspec_select::{Environment, Refusal};
 use std::alloc::Global;
-use std::env::VarError;
 use std::test::Fail;
 
 /// The defaults that variables ask for, and how many of the variables of pathspecs were asked for.
@@ -81,69 +79,4 @@ fn glob_and_no_glob_exclude_one_another(rt: HostRuntime) {
     const BOTH: Variables = &[("GIT_GLOB_PATHSPECS", "1"), ("GIT_NOGLOB_PATHSPECS", "1")];
     let (found, asked) = defaults_of(rt.alloc(), BOTH);
     assert!(rt; found == Err(Error::GlobAndNoGlob) && asked == 4);
-}
-
-/// The word, in a row, of a variable whose word isn't UTF-8.
-const NOT_UTF_8: &str = "(not UTF-8)";
-
-/// What `env::var` answers where these variables are set.
-fn answer_of(alloc: Global, variables: Variables, name: &str) -> Result<String, VarError> {
-    match text_of(variables, name) {
-        None => Err(VarError::NotPresent),
-        Some(text) if text == NOT_UTF_8 => Err(VarError::NotUnicode),
-        Some(text) => Ok(String::from_str(alloc, text)?),
-    }
-}
-
-/// The environment of these variables, and how many of the variables of pathspecs were asked for.
-fn read(alloc: Global, variables: Variables) -> (Result<Environment, Refusal>, usize) {
-    let mut asked: usize = 0;
-    let mut var = |name: &str| -> Result<String, VarError> {
-        asked = asked.saturating_add(1);
-        answer_of(alloc, variables, name)
-    };
-    let found = Environment::read(&mut var);
-    (found, asked)
-}
-
-/// The words of an environment, in the order of its fields.
-fn words_of(environment: &Environment) -> [Option<&str>; 4] {
-    [
-        environment.literal.as_deref(),
-        environment.icase.as_deref(),
-        environment.glob.as_deref(),
-        environment.noglob.as_deref(),
-    ]
-}
-
-/// Variables, the four words that are read of them, and how many were asked for.
-#[derive(Clone, Copy)]
-struct Reads(Variables, [Option<&'static str>; 4], usize);
-
-impl Row for Reads {
-    fn holds(&self, alloc: Global) -> Result<bool, Fail> {
-        let (found, asked) = read(alloc, self.0);
-        Ok(words_of(&found?) == self.1 && asked == self.2)
-    }
-}
-
-#[test]
-#[rattlefmt::skip]
-fn just_the_variables_that_count_are_read(rt: HostRuntime) -> Result<(), Fail> {
-    const ROWS: &[Reads] = &[
-        Reads(&[], [None, None, None, None], 4),
-        Reads(&[("GIT_ICASE_PATHSPECS", "1"), ("GIT_NOGLOB_PATHSPECS", "no")], [None, Some("1"), None, Some("no")], 4),
-        Reads(&[("GIT_LITERAL_PATHSPECS", "0"), ("GIT_GLOB_PATHSPECS", "on")], [Some("0"), None, Some("on"), None], 4),
-        Reads(&[("GIT_LITERAL_PATHSPECS", "1"), ("GIT_GLOB_PATHSPECS", NOT_UTF_8)], [Some("1"), None, None, None], 2),
-        Reads(&[("GIT_LITERAL_PATHSPECS", "x"), ("GIT_ICASE_PATHSPECS", NOT_UTF_8)], [Some("x"), None, None, None], 1),
-        Reads(&[("GIT_GLOB_PATHSPECS", "x"), ("GIT_NOGLOB_PATHSPECS", NOT_UTF_8)], [None, None, Some("x"), None], 3),
-    ];
-    assert_each(&rt, rt.alloc(), ROWS)
-}
-
-#[test]
-fn a_word_that_counts_and_is_not_utf_8_is_a_wrong_use(rt: HostRuntime) {
-    const BAD: Variables = &[("GIT_GLOB_PATHSPECS", NOT_UTF_8)];
-    let (found, asked) = read(rt.alloc(), BAD);
-    assert!(rt; matches!(found, Err(Refusal::Usage)) && asked == 3);
 }
