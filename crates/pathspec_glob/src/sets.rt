@@ -18,7 +18,8 @@ pub struct ByteSet {
 impl ByteSet {
     /// The bytes that items hold. The cost is linear in the items: each adds at most 256 bytes.
     pub fn of_items(items: &[Item]) -> ByteSet
-        ensures { (b : ℕ) → b < 256 → words_hold result.words b ≡ items_hold (items_view items.now) b }
+        ensures { (b : ℕ) → b < 256
+            → words_hold result.words b ≡ items_hold (items_view items.now) b }
     {
         let mut set = ByteSet { words: [0; 4] };
         for item in items {

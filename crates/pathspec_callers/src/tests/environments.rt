@@ -1,8 +1,10 @@
-//! Defaults that the environment asks for.
+//! What is read of the environment, and the defaults that it asks for.
 use crate::tests::support::{Row, Variables, assert_each, carries, text_of};
 use bitflags::Flags;
 use gix_pathspec::{Defaults, Error, SearchMode};
+use pathspec_select::{Environment, Refusal};
 use std::alloc::Global;
+use std::env::VarError;
 use std::test::Fail;
 
 /// The defaults that variables ask for, and how many of the variables of pathspecs were asked for.
@@ -79,4 +81,105 @@ fn glob_and_no_glob_exclude_one_another(rt: HostRuntime) {
     const BOTH: Variables = &[("GIT_GLOB_PATHSPECS", "1"), ("GIT_NOGLOB_PATHSPECS", "1")];
     let (found, asked) = defaults_of(rt.alloc(), BOTH);
     assert!(rt; found == Err(Error::GlobAndNoGlob) && asked == 4);
+}
+
+/// In a table of variables, a word that isn't UTF-8.
+const NOT_UTF8: &str = "not UTF-8";
+
+/// Variables that are told by their names, and how often one was asked for.
+#[derive(Drop)]
+struct SetVariables {
+    alloc: Global,
+    variables: Variables,
+    asked: usize,
+}
+
+impl SetVariables {
+    /// What [`std::env::var`] answers where these variables are set.
+    fn var(&mut self, name: &str) -> Result<String, VarError> {
+        self.asked = self.asked.saturating_add(1);
+        match text_of(self.variables, name) {
+            Some(text) => {
+                if text == NOT_UTF8 {
+                    return Err(VarError::NotUnicode);
+                }
+                String::from_str(self.alloc, text).map_err(|_| VarError::OutOfMemory)
+            }
+            None => Err(VarError::NotPresent),
+        }
+    }
+
+    /// The environment that is read of them.
+    fn read(&mut self) -> Result<Environment, Refusal> {
+        let mut var = |name: &str| -> Result<String, VarError> { self.var(name) };
+        Environment::read(&mut var)
+    }
+}
+
+/// The environment that is read where these variables are set, and how many of them were asked for.
+fn read(alloc: Global, variables: Variables) -> (Result<Environment, Refusal>, usize) {
+    let mut set = SetVariables {
+        alloc,
+        variables,
+        asked: 0,
+    };
+    let found = set.read();
+    (found, set.asked)
+}
+
+/// Variables; the words that are read, by the names of their fields, and how many were asked for.
+#[derive(Clone, Copy)]
+struct Reads(Variables, Variables, usize);
+
+impl Row for Reads {
+    fn holds(&self, alloc: Global) -> Result<bool, Fail> {
+        let (found, asked) = read(alloc, self.0);
+        let environment = found?;
+        Ok(
+            environment.literal.as_deref() == text_of(self.1, "literal")
+                && environment.icase.as_deref() == text_of(self.1, "icase")
+                && environment.glob.as_deref() == text_of(self.1, "glob")
+                && environment.noglob.as_deref() == text_of(self.1, "noglob")
+                && asked == self.2,
+        )
+    }
+}
+
+#[test]
+#[rattlefmt::skip]
+fn only_variables_that_count_are_read(rt: HostRuntime) -> Result<(), Fail> {
+    const ROWS: &[Reads] = &[
+        Reads(&[], &[], 4),
+        Reads(&[("GIT_LITERAL_PATHSPECS", "0"), ("GIT_ICASE_PATHSPECS", "1"), ("GIT_GLOB_PATHSPECS", "on"), ("GIT_NOGLOB_PATHSPECS", "off")],
+            &[("literal", "0"), ("icase", "1"), ("glob", "on"), ("noglob", "off")], 4),
+        Reads(&[("GIT_LITERAL_PATHSPECS", "1"), ("GIT_ICASE_PATHSPECS", "no"), ("GIT_GLOB_PATHSPECS", NOT_UTF8)],
+            &[("literal", "1"), ("icase", "no")], 2),
+        Reads(&[("GIT_LITERAL_PATHSPECS", "maybe"), ("GIT_ICASE_PATHSPECS", NOT_UTF8)], &[("literal", "maybe")], 1),
+        Reads(&[("GIT_ICASE_PATHSPECS", "maybe"), ("GIT_GLOB_PATHSPECS", NOT_UTF8)], &[("icase", "maybe")], 2),
+        Reads(&[("GIT_GLOB_PATHSPECS", "x"), ("GIT_NOGLOB_PATHSPECS", NOT_UTF8)], &[("glob", "x")], 3),
+    ];
+    assert_each(&rt, rt.alloc(), ROWS)
+}
+
+/// Variables, of which one that counts isn't UTF-8, and how many were asked for.
+#[derive(Clone, Copy)]
+struct Unread(Variables, usize);
+
+impl Row for Unread {
+    fn holds(&self, alloc: Global) -> Result<bool, Fail> {
+        let (found, asked) = read(alloc, self.0);
+        Ok(matches!(found, Err(Refusal::Usage)) && asked == self.1)
+    }
+}
+
+#[test]
+#[rattlefmt::skip]
+fn a_variable_that_is_not_utf8_is_refused_where_it_counts(rt: HostRuntime) -> Result<(), Fail> {
+    const ROWS: &[Unread] = &[
+        Unread(&[("GIT_LITERAL_PATHSPECS", NOT_UTF8), ("GIT_ICASE_PATHSPECS", "maybe")], 1),
+        Unread(&[("GIT_LITERAL_PATHSPECS", "1"), ("GIT_ICASE_PATHSPECS", NOT_UTF8)], 2),
+        Unread(&[("GIT_GLOB_PATHSPECS", NOT_UTF8), ("GIT_NOGLOB_PATHSPECS", NOT_UTF8)], 3),
+        Unread(&[("GIT_NOGLOB_PATHSPECS", NOT_UTF8)], 4),
+    ];
+    assert_each(&rt, rt.alloc(), ROWS)
 }
