@@ -7,6 +7,7 @@ pub mod HeadProofs
 pub mod SelectedProofs
 pub mod FoundProofs
 pub mod SearchProofs
+pub mod HeldProofs
 pub mod PruningSafeProofs
 pub mod NotChosenProofs
 pub mod PruningNearProofs
@@ -14,6 +15,7 @@ pub mod SharpPruningProofs
 pub mod DirectoryProofs
 mod Asking
 mod MatchingRows
+mod PrefixRows
 pub mod TextProofs
 pub mod SpecListProofs
 pub mod PruningCalls

@@ -1,44 +1,21 @@
 -- The specs of a search: a nil one has no prefix directory, and they stand in search order.
-use Rattle.std.proofs.Common.{◌≡◌, ℕ, ◌+◌, Bool, true, false, not, cond, inl, inr, refl, sym, ◌∙◌, ap, List, [], ◌∷◌, ◌++◌, subst, Option, Some, None, Result, Ok, Err, codes, arith}
+use Rattle.std.proofs.Common.{◌≡◌, ℕ, ◌+◌, Bool, true, false, not, inl, inr, refl, sym, ◌∙◌, ap, List, [], ◌∷◌, ◌++◌, subst, Result, Ok, Err, arith}
 use Rattle.std.proofs.lemmas.Bool.{cases_Bool}
 use Rattle.std.proofs.lemmas.List.{map-append, append-nil}
 use Rattle.std.proofs.lemmas.List.Elements.{filter-append, Contains-push, Contains-append_left, Contains-append_right, Contains-append_cases}
 use Rattle.std.specs.Prelude.{Contains, IsTrue, filter}
 use Rattle.gix_pathspec.specs.Faults.{Fault}
-use Rattle.gix_pathspec.specs.Faults.Fault.{LeavesRepository}
 use Rattle.gix_pathspec.specs.Specs.{Spec, is_exclude, is_include}
-use Rattle.gix_pathspec.specs.NormalForm.{Base, base, own_components, components_to_resolve, is_inside, resolve, resolved, stays_empty, survivors, normal_form}
+use Rattle.gix_pathspec.specs.NormalForm.{normal_form}
 use Rattle.gix_pathspec.specs.Search.{Numbered, specs_of, at_number, numbered_from, in_search_order, default_to_prefix, search_of}
 use Rattle.gix_pathspec.specs.SelectionLaws.{NoNilPrefix}
+use Rattle.pathspec_pattern.proofs.NormalTextProofs.{nil_has_no_directory}
 use Rattle.pathspec_pattern.proofs.ResultProofs.{bind_ok}
 use Rattle.gix_pathspec.proofs.SelectedProofs.{Contains-cases}
 
 -- ---- the specs of a search
 
-resolved_empty : (s : Spec) (b : Bool) → (cond b (record s { path = []; prefix_length = 0 }) (record s { path = codes "."; nil = true; prefix_length = 0 })).prefix_length ≡ 0
-resolved_empty s true = refl
-resolved_empty s false = refl
-
-resolved-nil : (b : Base) (s : Spec) (own left : List (List ℕ)) → IsTrue (resolved b s own left).nil → (resolved b s own left).prefix_length ≡ 0
-resolved-nil b s own [] n = resolved_empty s (stays_empty b s own)
-resolved-nil b s own (name ∷ more) n = rw n refl
-
-resolve-nil : (b : Base) (s m : Spec) (own : Option (List (List ℕ))) → resolve b s own ≡ Ok m → IsTrue m.nil → m.prefix_length ≡ 0
-resolve-nil b s m None e n = cc
-resolve-nil b s m (Some own) e n = elim (cases_Bool (is_inside b own)) [
-  | inl z ↦
-      let left = survivors (components_to_resolve b own) in
-      let r : Ok (resolved b s own left) ≡ Ok m = rw z at e in
-      let same : resolved b s own left ≡ m = cc in
-      subst (λ (x : Spec). IsTrue x.nil → x.prefix_length ≡ 0) same (resolved-nil b s own left) n
-  | inr z ↦ let r : Err (LeavesRepository s.path) ≡ Ok m = rw z at e in cc
-]
-
-pub normal_form-nil : (prefix root : List ℕ) (s m : Spec) → normal_form prefix root s ≡ Ok m → IsTrue m.nil → m.prefix_length ≡ 0
-unfolding normal_form
-normal_form-nil prefix root s m e n = resolve-nil (base prefix s) s m (own_components (base prefix s) root s.path) e n
-
-ok_of_number : {A : Type 0} (n : ℕ) (r : Result A Fault) (a : A) → at_number n r ≡ Ok a → r ≡ Ok a
+pub ok_of_number : {A : Type 0} (n : ℕ) (r : Result A Fault) (a : A) → at_number n r ≡ Ok a → r ≡ Ok a
 ok_of_number n (Ok x) a h = cc
 ok_of_number n (Err e) a h = cc
 
@@ -50,10 +27,10 @@ OfEach P specs = (s : Spec) → Contains specs s → P s
 abbrev LacksNilPrefix : Spec → Type 0
 LacksNilPrefix s = IsTrue s.nil → s.prefix_length ≡ 0
 
-of_none : (P : Spec → Type 0) → OfEach P []
+pub of_none : (P : Spec → Type 0) → OfEach P []
 of_none P s c = let no : ⊥ = omega (arith, c.1) in absurd no
 
-one_more : (P : Spec → Type 0) (x : Spec) (specs : List Spec) → P x → OfEach P specs → OfEach P (x ∷ specs)
+pub one_more : (P : Spec → Type 0) (x : Spec) (specs : List Spec) → P x → OfEach P specs → OfEach P (x ∷ specs)
 one_more P x specs p q s c = elim (Contains-cases x specs s c) [
   | inl e ↦ subst P e p
   | inr d ↦ q s d
@@ -68,7 +45,7 @@ numbered_from-nil n prefix root (s ∷ specs) ns e =
     let made : Ok (m ∷ others.0) ≡ Ok ns = others.2 in
     let same : m ∷ others.0 ≡ ns = cc in
     subst (λ xs. NoNilPrefix (specs_of xs)) same
-    (one_more LacksNilPrefix first.0 (specs_of others.0) (normal_form-nil prefix root s first.0 (ok_of_number n (normal_form prefix root s) first.0 first.1)) (numbered_from-nil (n + 1) prefix root specs others.0 others.1))
+    (one_more LacksNilPrefix first.0 (specs_of others.0) (nil_has_no_directory prefix root s first.0 (ok_of_number n (normal_form prefix root s) first.0 first.1)) (numbered_from-nil (n + 1) prefix root specs others.0 others.1))
 
 -- and of all, where one more stands at the end
 pub of_push : (P : Spec → Type 0) (ns more : List Numbered) (n : Numbered) → OfEach P (specs_of ns) → P n.spec → more ≡ ns ++ n ∷ [] → OfEach P (specs_of more)
@@ -99,7 +76,7 @@ of_ordered P ns h s c =
     ]
 
 -- a search is a list of numbered specs, put into search order
-search_of-numbered : (prefix root : List ℕ) (specs : List Spec) (search : List Numbered) → search_of prefix root specs ≡ Ok search → (ns : List Numbered) × (in_search_order ns ≡ search) × (numbered_from 0 prefix root (default_to_prefix prefix specs) ≡ Ok ns)
+pub search_of-numbered : (prefix root : List ℕ) (specs : List Spec) (search : List Numbered) → search_of prefix root specs ≡ Ok search → (ns : List Numbered) × (in_search_order ns ≡ search) × (numbered_from 0 prefix root (default_to_prefix prefix specs) ≡ Ok ns)
 unfolding search_of
 search_of-numbered prefix root specs search e =
     let r = bind_ok (numbered_from 0 prefix root (default_to_prefix prefix specs)) _ search e in

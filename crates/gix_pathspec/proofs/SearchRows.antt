@@ -73,7 +73,7 @@ unfolding asked
 prefix_alone = refl
 
 -- the spec of no specs under `a` that answers for file `a/b`
-prefix_alone_by : answering (codes "a") [] (codes "a/b") ≡ Some (codes ":(literal)a/")
+prefix_alone_by : answering (codes "a") [] (codes "a/b") ≡ Some (codes ":(literal,prefix:1)a/")
 unfolding answering
 prefix_alone_by = refl
 

@@ -15,6 +15,9 @@ pub use Rattle.pathspec_pattern.specs.Specs
 pub use Rattle.pathspec_pattern.specs.Reading
 pub use Rattle.pathspec_pattern.specs.NormalForm
 pub use Rattle.pathspec_pattern.specs.Patterns
+pub use Rattle.pathspec_pattern.specs.AttributeLists
+pub use Rattle.pathspec_pattern.specs.LongText
+pub use Rattle.pathspec_pattern.specs.RoundTrips
 pub mod Matching
 pub mod Prefixes
 pub mod Pruning

@@ -1,5 +1,5 @@
 -- A search: normalised specs with their numbers, excludes first.
-use Rattle.std.specs.Prelude.{◌≡◌, ℕ, ◌+◌, Bool, false, not, ◌&&◌, List, [], ◌∷◌, ◌++◌, length, map, filter, find, if◌then◌else◌, Option, Some, None, Result, Ok, Err}
+use Rattle.std.specs.Prelude.{◌≡◌, ◌↔◌, Contains, ℕ, ◌+◌, Bool, false, not, ◌&&◌, List, [], ◌∷◌, ◌++◌, length, map, filter, find, if◌then◌else◌, Option, Some, None, Result, Ok, Err}
 use Rattle.std.specs.List.{list_any}
 use Rattle.gix_pathspec.specs.declared.search.MatchKind.{MatchKind}
 use Rattle.gix_pathspec.specs.declared.search.MatchKind.TheVariants.{Always}
@@ -66,6 +66,16 @@ default_to_prefix prefix specs = if is_empty specs && not (is_empty prefix) then
 -- The search of these specs, or the first spec that has no normal form.
 unfoldable pub search_of : List ℕ → List ℕ → List Spec → Result (List Numbered) (ℕ × Fault)
 search_of prefix root specs = numbered_from 0 prefix root (default_to_prefix prefix specs) >>= λ ns. Ok (in_search_order ns)
+
+-- n is the normal form of one of these specs
+abbrev pub IsNormalFormOfOne : List ℕ → List ℕ → List Spec → Spec → Type 0
+IsNormalFormOfOne prefix root specs n = (s : Spec) × Contains specs s × (normal_form prefix root s ≡ Ok n)
+
+-- The specs of a search are just the normal forms of those that it is made from.
+abbrev pub HoldsNormalForms : Type 0
+HoldsNormalForms =
+    (prefix root : List ℕ) (specs : List Spec) (search : List Numbered) (n : Spec) → search_of prefix root specs ≡ Ok search
+    → Contains (specs_of search) n ↔ IsNormalFormOfOne prefix root (default_to_prefix prefix specs) n
 
 -- a spec that matches a path, its number, and how
 pub record Answer : Type 0 where

@@ -1,2 +1,3 @@
 pub mod NormalForms
 pub mod Selections
+pub mod Stores

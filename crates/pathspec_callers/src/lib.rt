@@ -8,5 +8,6 @@ pub mod search;
 pub mod select;
 pub mod spec;
 pub mod stems;
+pub mod store;
 #[cfg(test)]
 mod tests;

@@ -16,6 +16,7 @@ mod normal_forms;
 mod one_by_one;
 mod paths;
 mod patterns;
+mod prefix_lengths;
 mod program;
 mod reading;
 mod readme;

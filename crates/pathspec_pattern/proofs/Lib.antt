@@ -1,14 +1,18 @@
 pub mod ResultProofs
+pub mod NumberProofs
 pub mod ReadingProofs
 pub mod JoinProofs
 pub mod NormalFormProofs
 pub mod HeightProofs
 pub mod StaysProofs
+pub mod BoundaryProofs
+pub mod PrefixPieceProofs
 pub mod StackProofs
 pub mod LongTextProofs
 pub mod AttributeTextProofs
 pub mod RoundTripProofs
 pub mod ParsedProofs
+pub mod NormalTextProofs
 mod RoundTripRows
 pub mod ResolvingProofs
 pub mod ParseProofs
@@ -18,5 +22,6 @@ pub mod ListProofs
 pub mod Asking
 mod ReadingRows
 mod NormalFormRows
+mod PrefixRows
 pub mod EnvironmentProofs
 mod EnvironmentRows

@@ -8,7 +8,7 @@ use Rattle.std.proofs.lemmas.Option.{slice_get-map}
 use Rattle.std.proofs.lemmas.List.{take-map}
 use Rattle.pathspec_parts.specs.Bytes.{comma, space, is_empty}
 use Rattle.pathspec_parts.specs.Attributes.{Assignment}
-use Rattle.pathspec_pattern.specs.LongText.{HoldsWords, assignment_text, list_text, attributes_text}
+use Rattle.pathspec_pattern.specs.LongText.{HoldsWords, assignment_text, list_text, attributes_text, number_text, prefix_piece, prefix_text}
 use Rattle.pathspec_pattern.proofs.JoinProofs.{join-more}
 
 -- ---- keywords
@@ -77,6 +77,13 @@ attributes-after [] old begun listing new words h f b l n = cc
 attributes-after (a ∷ rest) old begun listing new words h f b l n =
     let gap = cond (nat_lt 2 (length old)) (comma ∷ []) [] in
     word-after old new words (codes "attr:" ++ list_text (a ∷ rest)) h refl (rw (n, l, b) (append_assoc (old ++ gap) (codes "attr:") (list_text (a ∷ rest))))
+
+-- A prefix length is one more word.
+pub prefix-after : (n : ℕ) (old begun named new : List ℕ) (words : List (List ℕ)) → HoldsWords old words → (n == 0) ≡ false → begun ≡ old ++ cond (nat_lt 2 (length old)) (comma ∷ []) [] → named ≡ begun ++ codes "prefix:" → new ≡ named ++ number_text n
+    → HoldsWords new (words ++ prefix_text n)
+prefix-after n old begun named new words h z b l e =
+    let gap = cond (nat_lt 2 (length old)) (comma ∷ []) [] in
+    rw z (word-after old new words (prefix_piece n) h refl (rw (e, l, b) (append_assoc (old ++ gap) (codes "prefix:") (number_text n))))
 
 -- a list that has elements
 pub map-filled : {X : Type 0} (view : X → Assignment) (xs : List X) → (length xs == 0) ≡ false → is_empty (map view xs) ≡ false

@@ -58,7 +58,7 @@ module _ (d : Defaults) (text : List ℕ) (filled : (length text == 0) ≡ false
   pub reading-literal : d.literal ≡ true → reading d text ≡ Ok (literal_spec (signature_bits d.signature) text)
   reading-literal l = reading_at d text true (bytes_eq text (colon ∷ [])) (first_is is_colon text) (something_there text filled) l refl refl
 
-  pub reading-plain : d.literal ≡ false → first_is is_colon text ≡ false → reading d text ≡ Ok (spec_of d no_magic text)
+  pub reading-plain : d.literal ≡ false → first_is is_colon text ≡ false → reading d text ≡ spec_of d no_magic text
   reading-plain l p = reading_at d text false false false (something_there text filled) l (plain_alone text p) p
 
   pub reading-nil : d.literal ≡ false → bytes_eq text (colon ∷ []) ≡ true → first_is is_colon text ≡ true → reading d text ≡ Ok nil_spec

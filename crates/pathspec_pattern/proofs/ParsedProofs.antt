@@ -9,20 +9,20 @@ use Rattle.pathspec_pattern.specs.declared.defaults.Defaults.{Defaults}
 use Rattle.pathspec_parts.specs.Bytes.{space, bang, dash, slash, equals_sign, is_one_of, is_empty, first_is, begins_with}
 use Rattle.pathspec_pattern.specs.Results.{all_ok, ◌>>=◌}
 use Rattle.pathspec_pattern.specs.Faults.{Fault}
-use Rattle.pathspec_pattern.specs.Faults.Fault.{EmptyAttributes, InvalidName, InvalidValueByte, LiteralWithGlob, SecondAttributes}
+use Rattle.pathspec_pattern.specs.Faults.Fault.{EmptyAttributes, InvalidName, InvalidValueByte, LiteralWithGlob, SecondAttributes, InvalidPrefix}
 use Rattle.pathspec_parts.specs.Attributes.{State, Assignment, is_attribute_name}
 use Rattle.pathspec_pattern.specs.AttributeLists.{ValueUnit, name_of, assignment_with_state, assignment_with_value, value_of, units_from, unit_byte, is_value_byte, assignment_of, assignments_of, parts}
 use Rattle.pathspec_parts.specs.Attributes.State.{Set, Unset, Value, Unspecified}
 use Rattle.pathspec_pattern.specs.AttributeLists.ValueUnit.{Plain, Escaped, LoneBackslash}
 use Rattle.pathspec_pattern.specs.Signatures.{signature_bits}
-use Rattle.pathspec_pattern.specs.Specs.{Spec, top, icase, exclude, must_be_dir, has}
+use Rattle.pathspec_pattern.specs.Specs.{Spec, top, icase, exclude, must_be_dir, has, has_boundary}
 use Rattle.pathspec_parts.specs.Paths.{ends_with_slash, without_last_slash}
-use Rattle.pathspec_pattern.specs.Reading.{Keyword, keyword_of, Magic, with_piece, with_pieces, same_mode, long_pieces, Cut, short_bits, magic_of, spec_of, no_magic, nil_spec, Reads, no_defaults}
-use Rattle.pathspec_pattern.specs.Reading.Keyword.{Adds, Picks, Ignored, Lists, Unknown}
+use Rattle.pathspec_pattern.specs.Reading.{Keyword, keyword_of, Magic, with_piece, with_pieces, same_mode, long_pieces, Cut, short_bits, magic_of, spec_of, body_spec, prefix_length_of, is_number, no_magic, nil_spec, Reads, no_defaults}
+use Rattle.pathspec_pattern.specs.Reading.Keyword.{Adds, Picks, Ignored, Lists, Counts, Unknown}
 use Rattle.pathspec_pattern.specs.Reading.Reads.{verbatim, nothing, plain, magic}
 use Rattle.pathspec_pattern.specs.LongText.{long_text}
 use Rattle.pathspec_pattern.specs.RoundTrips.{is_expressible_state, is_set, is_expressible_assignment, IsExpressible, RoundTripIsExact, ParsedIsExpressible, ParsedRoundTrips}
-use Rattle.pathspec_pattern.proofs.ReadingProofs.{reading_is_exact}
+use Rattle.pathspec_pattern.proofs.ReadingProofs.{reading_is_exact, said_boundary}
 use Rattle.pathspec_pattern.proofs.RoundTripProofs.{round_trip}
 use Rattle.pathspec_pattern.proofs.ResultProofs.{bind_ok}
 
@@ -138,7 +138,8 @@ known_cond false x y h k = k
 -- each piece is one
 known_keyword : (piece : List ℕ) → is_known_keyword (keyword_of piece) ≡ true
 known_keyword piece =
-    let g = cond (begins_with piece (codes "attr:")) (Lists (drop 5 piece)) Unknown in
+    let h = cond (begins_with piece (codes "prefix:")) (Counts (drop 7 piece)) Unknown in
+    let g = cond (begins_with piece (codes "attr:")) (Lists (drop 5 piece)) h in
     let f = cond (bytes_eq piece (codes "attr")) Ignored g in
     let e = cond (bytes_eq piece (codes "glob")) (Picks PathAwareGlob) f in
     let d = cond (bytes_eq piece (codes "literal")) (Picks Literal) e in
@@ -150,7 +151,8 @@ known_keyword piece =
     (known_cond (bytes_eq piece (codes "literal")) (Picks Literal) e refl
     (known_cond (bytes_eq piece (codes "glob")) (Picks PathAwareGlob) f refl
     (known_cond (bytes_eq piece (codes "attr")) Ignored g refl
-    (known_cond (begins_with piece (codes "attr:")) (Lists (drop 5 piece)) Unknown refl refl))))))
+    (known_cond (begins_with piece (codes "attr:")) (Lists (drop 5 piece)) h refl
+    (known_cond (begins_with piece (codes "prefix:")) (Counts (drop 7 piece)) Unknown refl refl)))))))
 
 -- a piece leaves magic known
 known_after : (m n : Magic) (piece : List ℕ) (k : Keyword) → IsKnown m → is_known_keyword k ≡ true → with_piece m piece k ≡ Ok n → IsKnown n
@@ -170,6 +172,10 @@ known_after m n piece (Lists list) w f h = known_listed m n piece list (is_empty
         let made : IsKnown (record m { attributes = k.0 }) = record { signature = w.signature; attributes = assignments_said list k.0 k.1 } in
         subst IsKnown (ok_same (record m { attributes = k.0 }) n k.2) made
     known_listed m n piece list false w h = absurd (let q : ⊥ = cc in q)
+known_after m n piece (Counts digits) w f h =
+    let c = cond_ok (is_number digits) (record m { prefix = Some piece }) n (InvalidPrefix piece) h in
+    let made : IsKnown (record m { prefix = Some piece }) = record { signature = w.signature; attributes = w.attributes } in
+    subst IsKnown c.1 made
 known_after m n piece Unknown w f h = absurd (let q : ⊥ = cc in q)
 
 -- so do pieces
@@ -190,9 +196,9 @@ known_short false false = omega arith
 known_magic : (cut : Cut) (said : Magic) → magic_of cut ≡ Ok said → IsKnown said
 unfolding magic_of
 known_magic cut said h =
-    let start : IsKnown (record { signature = short_bits cut.short; mode = None; attributes = [] }) =
+    let start : IsKnown (record { signature = short_bits cut.short; mode = None; attributes = []; prefix = None }) =
     record { signature = known_short (list_any (λ b. b == slash) cut.short) (list_any (is_one_of (codes "^!")) cut.short); attributes = refl } in
-    known_pieces (record { signature = short_bits cut.short; mode = None; attributes = [] }) said (long_pieces (unwrap_or cut.long [])) start h
+    known_pieces (record { signature = short_bits cut.short; mode = None; attributes = []; prefix = None }) said (long_pieces (unwrap_or cut.long [])) start h
 
 -- ---- the spec
 
@@ -207,26 +213,35 @@ slash_said n body true h = inl (eq-eqb (bit_and (bit_or n must_be_dir) must_be_d
 slash_said n body false h = inr (ap ends_with_slash (cond-false (ends_with_slash body) (take (length body - 1) body) body h) ∙ h)
 
 -- known magic and a body say an expressible spec
-expressible_spec : (d : Defaults) (said : Magic) (body : List ℕ) → signature_bits d.signature < 16 → IsKnown said → IsExpressible (spec_of d said body)
-unfolding spec_of
-expressible_spec d said body h w = record {
-  bits = or_lt 4 (bit_or (signature_bits d.signature) said.signature) (cond (ends_with_slash body) must_be_dir 0) (or_lt 4 (signature_bits d.signature) said.signature h w.signature) (known_slash (ends_with_slash body));
-  prefix = refl;
-  assignments = w.attributes;
-  path = slash_said (bit_or (signature_bits d.signature) said.signature) body (ends_with_slash body) refl;
-  nil = λ n. absurd (both_ways false refl n);
+expressible_body : (d : Defaults) (said : Magic) (body : List ℕ) (n : ℕ) → signature_bits d.signature < 16 → IsKnown said → has_boundary (body_spec d said body n) ≡ true → IsExpressible (body_spec d said body n)
+expressible_body d said body n h w b = record {
+  prefix = b;
+  parts = record {
+    bits = or_lt 4 (bit_or (signature_bits d.signature) said.signature) (cond (ends_with_slash body) must_be_dir 0) (or_lt 4 (signature_bits d.signature) said.signature h w.signature) (known_slash (ends_with_slash body));
+    assignments = w.attributes;
+    path = slash_said (bit_or (signature_bits d.signature) said.signature) body (ends_with_slash body) refl;
+    nil = λ n. absurd (both_ways false refl n);
+  };
 }
+
+-- and so the spec that they say
+expressible_spec : (d : Defaults) (said : Magic) (body : List ℕ) (s : Spec) → signature_bits d.signature < 16 → IsKnown said → spec_of d said body ≡ Ok s → IsExpressible s
+unfolding spec_of
+expressible_spec d said body s h w e =
+    let k = bind_ok (prefix_length_of said.prefix (without_last_slash body)) (λ n. Ok (body_spec d said body n)) s e in
+    let same = ok_same (body_spec d said body k.0) s k.2 in
+    subst IsExpressible same (expressible_body d said body k.0 h w (subst (λ t. has_boundary t ≡ true) (sym same) (said_boundary d said body s e)))
 
 -- the nil spec is expressible
 expressible_nil : IsExpressible nil_spec
-expressible_nil = record { bits = omega arith; prefix = refl; assignments = refl; path = inr refl; nil = λ n. refl }
+expressible_nil = record { parts = record { bits = omega arith; assignments = refl; path = inr refl; nil = λ n. refl }; prefix = refl }
 
 -- so each way to read a text gives an expressible spec
 expressible_read : (d : Defaults) (text : List ℕ) (s : Spec) → d.literal ≡ false → signature_bits d.signature < 16 → Reads d text s → IsExpressible s
 expressible_read d text s l h (verbatim v n e) = absurd (both_ways d.literal l v)
 expressible_read d text s l h (nothing v t e) = subst IsExpressible (sym e) expressible_nil
-expressible_read d text s l h (plain v n c e) = subst IsExpressible (sym e) (expressible_spec d no_magic text h (record { signature = omega arith; attributes = refl }))
-expressible_read d text s l h (magic v n cut c t said g e) = subst IsExpressible (sym e) (expressible_spec d said cut.body h (known_magic cut said g))
+expressible_read d text s l h (plain v n c e) = expressible_spec d no_magic text s h (record { signature = omega arith; attributes = refl }) e
+expressible_read d text s l h (magic v n cut c t said g e) = expressible_spec d said cut.body s h (known_magic cut said g) e
 
 -- What a text says is expressible.
 pub parsed_is_expressible : ParsedIsExpressible

@@ -11,12 +11,13 @@ use Rattle.pathspec_pattern.specs.declared.defaults.Defaults.{Defaults}
 use Rattle.pathspec_parts.specs.Bytes.{slash, bang, colon, open_paren, close_paren, first_is, is_empty}
 use Rattle.pathspec_pattern.specs.Results.{◌>>=◌}
 use Rattle.pathspec_pattern.specs.Faults.{Fault}
-use Rattle.pathspec_pattern.specs.Faults.Fault.{Empty, UnimplementedShort, MissingParen}
+use Rattle.pathspec_pattern.specs.Faults.Fault.{Empty, UnimplementedShort, MissingParen, InvalidPrefix}
 use Rattle.pathspec_pattern.specs.Signatures.{signature_bits}
-use Rattle.pathspec_pattern.specs.Specs.{Spec}
-use Rattle.pathspec_pattern.specs.Reading.{Cut, IsCut, text_of, cut_of, cut_end, cut_long, cut_paren, is_short, is_unimplemented, is_colon, end_mark, in_parentheses, holds_close, may_begin, magic_of, magic_reading, Magic, Reads, IsRefused, reading, spec_of, no_magic, nil_spec, literal_spec, OneCut, ReadingIsExact}
+use Rattle.pathspec_pattern.specs.Specs.{Spec, is_boundary, has_boundary}
+use Rattle.pathspec_parts.specs.Paths.{without_last_slash}
+use Rattle.pathspec_pattern.specs.Reading.{Cut, IsCut, text_of, cut_of, cut_end, cut_long, cut_paren, is_short, is_unimplemented, is_colon, end_mark, in_parentheses, holds_close, may_begin, magic_of, magic_reading, Magic, Reads, IsRefused, reading, spec_of, body_spec, prefix_length_of, piece_number, no_magic, nil_spec, literal_spec, OneCut, ReadingIsExact, ReadHasBoundary}
 use Rattle.pathspec_pattern.specs.Reading.Reads.{verbatim, nothing, plain, magic}
-use Rattle.pathspec_pattern.specs.Reading.IsRefused.{empty, short as short_fault, paren, piece}
+use Rattle.pathspec_pattern.specs.Reading.IsRefused.{empty, short as short_fault, paren, piece, boundary}
 use Rattle.pathspec_pattern.proofs.ResultProofs.{bind_ok}
 
 -- ---- the front that passes a test
@@ -255,7 +256,7 @@ refused_end text short rest fault (unclosed false bs e n f) = rw (e, not_free.1,
 abbrev caret : ℕ
 caret = 94
 
-cut_of_sound : (m : List ℕ) (cut : Cut) → cut_of (colon ∷ m) ≡ Ok cut → IsCut cut × (colon ∷ m ≡ text_of cut)
+pub cut_of_sound : (m : List ℕ) (cut : Cut) → cut_of (colon ∷ m) ≡ Ok cut → IsCut cut × (colon ∷ m ≡ text_of cut)
 unfolding cut_of
 cut_of_sound m cut e =
     let n = prefix_len is_short m in
@@ -317,19 +318,19 @@ ok_err x e h = cc
 err_ok : {A E : Type 0} (x : A) (e : E) → Err e ≡ Ok x → ⊥
 err_ok x e h = cc
 
-reads_cut : (d : Defaults) (m : List ℕ) (s : Spec) (cut : Cut) (said : Magic) → d.literal ≡ false → colon ∷ m ≢ colon ∷ [] → cut_of (colon ∷ m) ≡ Ok cut → magic_of cut ≡ Ok said → spec_of d said cut.body ≡ s → Reads d (colon ∷ m) s
-reads_cut d m s cut said l n c g e = let q = cut_of_sound m cut c in magic l n cut q.0 q.1 said g (sym e)
+reads_cut : (d : Defaults) (m : List ℕ) (s : Spec) (cut : Cut) (said : Magic) → d.literal ≡ false → colon ∷ m ≢ colon ∷ [] → cut_of (colon ∷ m) ≡ Ok cut → magic_of cut ≡ Ok said → spec_of d said cut.body ≡ Ok s → Reads d (colon ∷ m) s
+reads_cut d m s cut said l n c g e = let q = cut_of_sound m cut c in magic l n cut q.0 q.1 said g e
 
 reads_magic : (d : Defaults) (m : List ℕ) (s : Spec) → d.literal ≡ false → colon ∷ m ≢ colon ∷ [] → magic_reading d (colon ∷ m) ≡ Ok s → Reads d (colon ∷ m) s
 reads_magic d m s l n h =
-    let g = bind_ok (cut_of (colon ∷ m)) (λ cut. magic_of cut >>= λ said. Ok (spec_of d said cut.body)) s h in
-    let k = bind_ok (magic_of g.0) (λ said. Ok (spec_of d said g.0.body)) s g.2 in
-    reads_cut d m s g.0 k.0 l n g.1 k.1 (same_ok (spec_of d k.0 g.0.body) s k.2)
+    let g = bind_ok (cut_of (colon ∷ m)) (λ cut. magic_of cut >>= λ said. spec_of d said cut.body) s h in
+    let k = bind_ok (magic_of g.0) (λ said. spec_of d said g.0.body) s g.2 in
+    reads_cut d m s g.0 k.0 l n g.1 k.1 k.2
 
 -- the reading by the tests that it makes
 abbrev pub chosen_reading : Bool → Bool → Bool → Defaults → List ℕ → Result Spec Fault
 chosen_reading literal alone marked d text =
-    cond literal (Ok (literal_spec (signature_bits d.signature) text)) (cond alone (Ok nil_spec) (cond marked (magic_reading d text) (Ok (spec_of d no_magic text))))
+    cond literal (Ok (literal_spec (signature_bits d.signature) text)) (cond alone (Ok nil_spec) (cond marked (magic_reading d text) (spec_of d no_magic text)))
 
 pub reading_at : (d : Defaults) (text : List ℕ) (literal alone marked : Bool) → text ≢ [] → d.literal ≡ literal → bytes_eq text (colon ∷ []) ≡ alone → first_is is_colon text ≡ marked → reading d text ≡ chosen_reading literal alone marked d text
 unfolding reading
@@ -344,7 +345,7 @@ reads_at d b m s false true marked l a c h = nothing l ((bytes_eq-Decides (b ∷
 reads_at d b m s false false true l a c h =
     let e = eqb-true b colon c in
     subst (λ x. Reads d (x ∷ m) s) (sym e) (reads_magic d m s l (λ q. both_ways (bytes_eq (b ∷ m) (colon ∷ [])) a ((bytes_eq-Decides (b ∷ m) (colon ∷ [])).1 (ap (λ x. x ∷ m) e ∙ q))) (ap (λ x. magic_reading d (x ∷ m)) (sym e) ∙ h))
-reads_at d b m s false false false l a c h = plain l (not_nil b m) c (sym (same_ok (spec_of d no_magic (b ∷ m)) s h))
+reads_at d b m s false false false l a c h = plain l (not_nil b m) c h
 
 reads : (d : Defaults) (text : List ℕ) (s : Spec) → reading d text ≡ Ok s → Reads d text s
 unfolding reading
@@ -357,12 +358,41 @@ plain_alone text f = not_colon text (λ e. both_ways (first_is is_colon text) f 
 said_by : (d : Defaults) (text : List ℕ) (s : Spec) → Reads d text s → reading d text ≡ Ok s
 said_by d text s (verbatim l n e) = reading_at d text true (bytes_eq text (colon ∷ [])) (first_is is_colon text) n l refl refl ∙ ap Ok (sym e)
 said_by d text s (nothing l t e) = reading_at d text false true (first_is is_colon text) (λ q. not_nil colon [] (sym t ∙ q)) l (ap (λ x. bytes_eq x (colon ∷ [])) t) refl ∙ ap Ok (sym e)
-said_by d text s (plain l n f e) = reading_at d text false false false n l (plain_alone text f) f ∙ ap Ok (sym e)
+said_by d text s (plain l n f e) = reading_at d text false false false n l (plain_alone text f) f ∙ e
 said_by d text s (magic l n cut c t said g e) =
     reading_at d text false false true (λ q. not_nil colon _ (sym t ∙ q)) l (not_colon text n) (ap (first_is is_colon) t)
-    ∙ (rw (t, cut_found cut c, g) (ap Ok (sym e)))
+    ∙ (rw (t, cut_found cut c, g) e)
 
 -- ---- the refusals
+
+-- a text without magic says a spec
+pub plain_says : (d : Defaults) (text : List ℕ) → spec_of d no_magic text ≡ Ok (body_spec d no_magic text 0)
+unfolding spec_of
+plain_says d text = refl
+
+-- where one of a value and a fault is a fault, the test failed
+cond_err : (t : Bool) (x : ℕ) (e fault : Fault) → cond t (Ok x) (Err e) ≡ Err fault → (t ≡ false) × (fault ≡ e)
+cond_err true x e fault h = absurd (let q : ⊥ = cc in q)
+cond_err false x e fault h = (refl, let q : fault ≡ e = cc in q)
+
+outside_by : (prefix : Option (List ℕ)) (path : List ℕ) (fault : Fault) → prefix_length_of prefix path ≡ Err fault
+    → (word : List ℕ) × (prefix ≡ Some word) × (is_boundary path (piece_number word) ≡ false) × (fault ≡ InvalidPrefix word)
+outside_by None path fault h = absurd (ok_err 0 fault h)
+outside_by (Some word) path fault h = let c = cond_err (is_boundary path (piece_number word)) (piece_number word) (InvalidPrefix word) fault h in (word, refl, c.0, c.1)
+
+-- magic and a body say no spec where the prefix length is no boundary of the path
+outside : (d : Defaults) (said : Magic) (body : List ℕ) (fault : Fault) → spec_of d said body ≡ Err fault
+    → (word : List ℕ) × (said.prefix ≡ Some word) × (is_boundary (without_last_slash body) (piece_number word) ≡ false) × (fault ≡ InvalidPrefix word)
+unfolding spec_of
+outside d said body fault h = elim (bind_err (prefix_length_of said.prefix (without_last_slash body)) (λ n. Ok (body_spec d said body n)) fault h) [
+  | inl e ↦ outside_by said.prefix (without_last_slash body) fault e
+  | inr k ↦ absurd (ok_err (body_spec d said body k.0) fault k.2)
+]
+
+-- and there alone
+outside_says : (d : Defaults) (said : Magic) (body word : List ℕ) → said.prefix ≡ Some word → is_boundary (without_last_slash body) (piece_number word) ≡ false → spec_of d said body ≡ Err (InvalidPrefix word)
+unfolding spec_of
+outside_says d said body word e h = rw (e, h) refl
 
 refused_cut : (d : Defaults) (m : List ℕ) (fault : Fault) → d.literal ≡ false → cut_of (colon ∷ m) ≡ Err fault → IsRefused d (colon ∷ m) fault
 refused_cut d m fault l e = let r = cut_of_refused m fault e in by_cut r.0 r.1 r.2 r.3 r.4
@@ -373,11 +403,11 @@ refused_cut d m fault l e = let r = cut_of_refused m fault e in by_cut r.0 r.1 r
         paren l front ended bs (ap (λ x. colon ∷ x) (w ∙ (ap (λ x. front ++ x) q ∙ sym (append_assoc front (end_mark ended) (open_paren ∷ bs))))) a n f
 
 refused_magic : (d : Defaults) (m : List ℕ) (fault : Fault) → d.literal ≡ false → magic_reading d (colon ∷ m) ≡ Err fault → IsRefused d (colon ∷ m) fault
-refused_magic d m fault l h = elim (bind_err (cut_of (colon ∷ m)) (λ cut. magic_of cut >>= λ said. Ok (spec_of d said cut.body)) fault h) [
+refused_magic d m fault l h = elim (bind_err (cut_of (colon ∷ m)) (λ cut. magic_of cut >>= λ said. spec_of d said cut.body) fault h) [
   | inl e ↦ refused_cut d m fault l e
-  | inr g ↦ elim (bind_err (magic_of g.0) (λ said. Ok (spec_of d said g.0.body)) fault g.2) [
-    | inl e ↦ let q = cut_of_sound m g.0 g.1 in piece l g.0 q.0 q.1 e
-    | inr k ↦ absurd (ok_err (spec_of d k.0 g.0.body) fault k.2)
+  | inr g ↦ let q = cut_of_sound m g.0 g.1 in elim (bind_err (magic_of g.0) (λ said. spec_of d said g.0.body) fault g.2) [
+    | inl e ↦ piece l g.0 q.0 q.1 e
+    | inr k ↦ let o = outside d k.0 g.0.body fault k.2 in boundary l g.0 q.0 q.1 k.0 k.1 o.0 o.1 o.2 o.3
   ]
 ]
 
@@ -386,7 +416,7 @@ refused_at d b m fault true alone marked l c h = absurd (ok_err (literal_spec (s
 refused_at d b m fault false true marked l c h = absurd (ok_err nil_spec fault h)
 refused_at d b m fault false false true l c h =
     let e = eqb-true b colon c in subst (λ x. IsRefused d (x ∷ m) fault) (sym e) (refused_magic d m fault l (ap (λ x. magic_reading d (x ∷ m)) (sym e) ∙ h))
-refused_at d b m fault false false false l c h = absurd (ok_err (spec_of d no_magic (b ∷ m)) fault h)
+refused_at d b m fault false false false l c h = absurd (ok_err (body_spec d no_magic (b ∷ m) 0) fault (sym (plain_says d (b ∷ m)) ∙ h))
 
 refused : (d : Defaults) (text : List ℕ) (fault : Fault) → reading d text ≡ Err fault → IsRefused d text fault
 unfolding reading
@@ -406,7 +436,7 @@ unfolding cut_of magic_of
 alone_says cut c t fault e =
     let only : Cut = record { short = []; ended = false; long = None; body = [] } in
     let same : only ≡ cut = same_ok only cut (sym (ap cut_of t) ∙ cut_found cut c) in
-    ok_err (record { signature = 0; mode = None; attributes = [] }) fault (ap magic_of same ∙ e)
+    ok_err (record { signature = 0; mode = None; attributes = []; prefix = None }) fault (ap magic_of same ∙ e)
 
 paren_longer : (front : List ℕ) (ended : Bool) (rest : List ℕ) → colon ∷ (front ++ (end_mark ended ++ open_paren ∷ rest)) ≢ colon ∷ []
 paren_longer front true rest = longer front colon (open_paren ∷ rest)
@@ -423,6 +453,20 @@ piece_says : (d : Defaults) (cut : Cut) (fault : Fault) → d.literal ≡ false 
 piece_says d cut fault l c e =
     reading_at d (text_of cut) false false true (not_nil colon _) l (not_colon (text_of cut) (λ q. alone_says cut c q fault e)) refl ∙ (rw (cut_found cut c, e) refl)
 
+-- the same where magic is asked for
+alone_asks : (d : Defaults) (cut : Cut) → IsCut cut → text_of cut ≡ colon ∷ [] → (said : Magic) → magic_of cut ≡ Ok said → (word : List ℕ) → said.prefix ≡ Some word → ⊥
+unfolding cut_of magic_of
+alone_asks d cut c t said g word p =
+    let only : Cut = record { short = []; ended = false; long = None; body = [] } in
+    let same : only ≡ cut = same_ok only cut (sym (ap cut_of t) ∙ cut_found cut c) in
+    let none : no_magic ≡ said = same_ok no_magic said (ap magic_of same ∙ g) in
+    let no : None ≡ Some word = ap (λ m. m.prefix) none ∙ p in cc
+
+boundary_says : (d : Defaults) (cut : Cut) (said : Magic) (word : List ℕ) → d.literal ≡ false → IsCut cut → magic_of cut ≡ Ok said → said.prefix ≡ Some word → is_boundary (without_last_slash cut.body) (piece_number word) ≡ false
+    → reading d (text_of cut) ≡ Err (InvalidPrefix word)
+boundary_says d cut said word l c g p h =
+    reading_at d (text_of cut) false false true (not_nil colon _) l (not_colon (text_of cut) (λ q. alone_asks d cut c q said g word p)) refl ∙ (rw (cut_found cut c, g) (outside_says d said cut.body word p h))
+
 empty_says : (d : Defaults) → reading d [] ≡ Err Empty
 unfolding reading
 empty_says d = refl
@@ -435,6 +479,34 @@ fault_of d text fault (paren l front ended rest t a n f) =
     let w : text ≡ colon ∷ (front ++ (end_mark ended ++ open_paren ∷ rest)) = t ∙ ap (λ x. colon ∷ x) (append_assoc front (end_mark ended) (open_paren ∷ rest)) in
     ap (reading d) w ∙ (paren_says d front ended rest l a n ∙ ap Err (ap MissingParen (sym w) ∙ sym f))
 fault_of d text fault (piece l cut c t e) = ap (reading d) t ∙ piece_says d cut fault l c e
+fault_of d text fault (boundary l cut c t said g word p h f) = ap (reading d) t ∙ (boundary_says d cut said word l c g p h ∙ ap Err (sym f))
 
 pub reading_is_exact : ReadingIsExact
 reading_is_exact d text = (λ s. (said_by d text s, reads d text s), λ fault. (fault_of d text fault, refused d text fault))
+
+-- ---- the prefix length
+
+-- a length that is given is a boundary
+pub given : (prefix : Option (List ℕ)) (path : List ℕ) (n : ℕ) → prefix_length_of prefix path ≡ Ok n → is_boundary path n ≡ true
+given None path n h = subst (λ k. is_boundary path k ≡ true) (same_ok 0 n h) refl
+given (Some word) path n h = elim (cases_Bool (is_boundary path (piece_number word))) [
+  | inl y ↦ let e : piece_number word ≡ n = (let k = rw y at h in cc) in subst (λ k. is_boundary path k ≡ true) e y
+  | inr out ↦ let k = rw out at h in absurd (let q : ⊥ = cc in q)
+]
+
+-- so the spec of magic and a body has such a length
+pub said_boundary : (d : Defaults) (said : Magic) (body : List ℕ) (s : Spec) → spec_of d said body ≡ Ok s → has_boundary s ≡ true
+unfolding spec_of
+said_boundary d said body s h =
+    let k = bind_ok (prefix_length_of said.prefix (without_last_slash body)) (λ n. Ok (body_spec d said body n)) s h in
+    subst (λ t. has_boundary t ≡ true) (same_ok (body_spec d said body k.0) s k.2) (given said.prefix (without_last_slash body) k.0 k.1)
+
+read_boundary : (d : Defaults) (text : List ℕ) (s : Spec) → Reads d text s → has_boundary s ≡ true
+read_boundary d text s (verbatim l n e) = subst (λ t. has_boundary t ≡ true) (sym e) refl
+read_boundary d text s (nothing l t e) = subst (λ t. has_boundary t ≡ true) (sym e) refl
+read_boundary d text s (plain l n f e) = said_boundary d no_magic text s e
+read_boundary d text s (magic l n cut c t said g e) = said_boundary d said cut.body s e
+
+-- The prefix length of what a text says is a boundary of its path.
+pub read_has_boundary : ReadHasBoundary
+read_has_boundary d text s h = read_boundary d text s (reads d text s h)

@@ -12,14 +12,15 @@ use Rattle.pathspec_parts.specs.Bytes.{space, slash, colon, open_paren, close_pa
 use Rattle.pathspec_pattern.specs.Results.{◌>>=◌}
 use Rattle.pathspec_pattern.specs.Faults.{Fault}
 use Rattle.pathspec_parts.specs.Attributes.{Assignment}
-use Rattle.pathspec_pattern.specs.Specs.{Spec, top, icase, exclude, must_be_dir, has, wants_directory}
+use Rattle.pathspec_pattern.specs.Specs.{Spec, top, icase, exclude, must_be_dir, has, wants_directory, is_boundary}
 use Rattle.pathspec_parts.specs.Paths.{ends_with_slash, without_last_slash}
-use Rattle.pathspec_pattern.specs.Reading.{cuts, backslashes_after, long_pieces_from, long_pieces, keyword_of, Magic, with_piece, with_pieces, Cut, IsCut, text_of, magic_of, spec_of, nil_spec, Reads, reading, no_defaults}
+use Rattle.pathspec_pattern.specs.Reading.{cuts, backslashes_after, long_pieces_from, long_pieces, keyword_of, Magic, with_piece, with_pieces, Cut, IsCut, text_of, magic_of, spec_of, body_spec, prefix_length_of, piece_number, nil_spec, Reads, reading, no_defaults}
 use Rattle.pathspec_pattern.specs.Reading.Reads.{magic}
-use Rattle.pathspec_pattern.specs.LongText.{with_escapes, state_text, attributes_text, mode_text, bit_text, keywords, long_text, assignment_text, list_text}
+use Rattle.pathspec_pattern.specs.LongText.{with_escapes, state_text, attributes_text, mode_text, prefix_text, prefix_piece, number_text, bit_text, keywords, long_text, assignment_text, list_text}
 use Rattle.pathspec_pattern.specs.RoundTrips.{is_expressible_assignment, IsExpressible, RoundTrip, LongTextIsInjective}
 use Rattle.pathspec_pattern.proofs.AttributeTextProofs.{list_text-lacks, join-lacks, assignments_of-list_text, filter-all, backslash-lacks}
 use Rattle.pathspec_pattern.proofs.ReadingProofs.{reading_is_exact}
+use Rattle.pathspec_pattern.proofs.NumberProofs.{is_bare, number_back, number_is, number_bare}
 
 -- ---- the pieces of joined keywords
 
@@ -123,6 +124,31 @@ are_pieces-mode ShellGlob = refl
 are_pieces-mode Literal = refl
 are_pieces-mode PathAwareGlob = refl
 
+-- bytes that stand in a piece as they are
+bare_piece : (t : List ℕ) → list_all is_bare t ≡ true → (is_uncut 0 t ≡ true) × (list_any is_close t ≡ false)
+bare_piece [] h = (refl, refl)
+bare_piece (b ∷ t) h =
+    let q = and_parts (is_bare b) (list_all is_bare t) h in
+    let r = and_parts (not (b == comma) && not (b == backslash)) (not (b == close_paren)) q.0 in
+    let c = and_parts (not (b == comma)) (not (b == backslash)) r.0 in
+    let ih = bare_piece t q.1 in
+    let e = not-true (b == comma) c.0 in
+    let f = not-true (b == backslash) c.1 in
+    let g = not-true (b == close_paren) r.1 in
+    (rw (e, f) ih.0, rw g ih.1)
+
+-- so that of a prefix length is a piece
+is_piece-prefix : (n : ℕ) → is_piece (prefix_piece n) ≡ true
+is_piece-prefix n =
+    let b = bare_piece (number_text n) (number_bare n) in
+    rw (b.0, b.1) refl
+
+are_pieces-prefix : (n : ℕ) → list_all is_piece (prefix_text n) ≡ true
+are_pieces-prefix n = elim (cases_Bool (n == 0)) [
+  | inl z ↦ rw z refl
+  | inr z ↦ rw z (and_from (is_piece (prefix_piece n)) true (is_piece-prefix n) refl)
+]
+
 -- and that of a list of attributes
 are_pieces-attributes : (list : List Assignment) → list_all is_expressible_assignment list ≡ true → list_all is_piece (attributes_text list) ≡ true
 are_pieces-attributes [] h = refl
@@ -138,12 +164,14 @@ are_pieces s h =
     let t = bit_text top s.signature (codes "top") in
     let e = bit_text exclude s.signature (codes "exclude") in
     let i = bit_text icase s.signature (codes "icase") in
-    list_all-append_true is_piece (((t ++ e) ++ i) ++ mode_text s.mode) (attributes_text s.attributes)
+    list_all-append_true is_piece ((((t ++ e) ++ i) ++ mode_text s.mode) ++ prefix_text s.prefix_length) (attributes_text s.attributes)
+    (list_all-append_true is_piece (((t ++ e) ++ i) ++ mode_text s.mode) (prefix_text s.prefix_length)
     (list_all-append_true is_piece ((t ++ e) ++ i) (mode_text s.mode)
     (list_all-append_true is_piece (t ++ e) i
     (list_all-append_true is_piece t e (are_pieces-bit (has top s.signature) (codes "top") refl) (are_pieces-bit (has exclude s.signature) (codes "exclude") refl))
     (are_pieces-bit (has icase s.signature) (codes "icase") refl))
     (are_pieces-mode s.mode))
+    (are_pieces-prefix s.prefix_length))
     (are_pieces-attributes s.attributes h)
 
 -- ---- what the pieces say
@@ -168,11 +196,11 @@ abbrev word_of : Bool → Bool → Bool → ℕ
 word_of t e i = bit_or (bit_or (cond t top 0) (cond e exclude 0)) (cond i icase 0)
 
 -- magic by its parts
-abbrev said : ℕ → Option SearchMode → List Assignment → Magic
-said signature mode list = record { signature = signature; mode = mode; attributes = list }
+abbrev said : ℕ → Option SearchMode → Option (List ℕ) → List Assignment → Magic
+said signature mode prefix list = record { signature = signature; mode = mode; attributes = list; prefix = prefix }
 
 -- the keywords of bits say them
-bits_said : (t e i : Bool) → with_pieces (said 0 None []) ((cond t (codes "top" ∷ []) [] ++ cond e (codes "exclude" ∷ []) []) ++ cond i (codes "icase" ∷ []) []) ≡ Ok (said (word_of t e i) None [])
+bits_said : (t e i : Bool) → with_pieces (said 0 None None []) ((cond t (codes "top" ∷ []) [] ++ cond e (codes "exclude" ∷ []) []) ++ cond i (codes "icase" ∷ []) []) ≡ Ok (said (word_of t e i) None None [])
 bits_said true true true = refl
 bits_said true true false = refl
 bits_said true false true = refl
@@ -189,7 +217,7 @@ picked_mode Literal = Some Literal
 picked_mode PathAwareGlob = Some PathAwareGlob
 
 -- the keyword of a mode picks it
-mode_said : (w : ℕ) (mode : SearchMode) → with_pieces (said w None []) (mode_text mode) ≡ Ok (said w (picked_mode mode) [])
+mode_said : (w : ℕ) (mode : SearchMode) → with_pieces (said w None None []) (mode_text mode) ≡ Ok (said w (picked_mode mode) None [])
 mode_said w ShellGlob = refl
 mode_said w Literal = refl
 mode_said w PathAwareGlob = refl
@@ -200,22 +228,46 @@ mode_back ShellGlob = refl
 mode_back Literal = refl
 mode_back PathAwareGlob = refl
 
--- the keyword of attributes lists them
-attributes_said : (w : ℕ) (mode : Option SearchMode) (list : List Assignment) → list_all is_expressible_assignment list ≡ true → with_pieces (said w mode []) (attributes_text list) ≡ Ok (said w mode list)
-attributes_said w mode [] h = refl
-attributes_said w mode (a ∷ list) h = rw (assignments_of-list_text a list h) refl
+-- the piece of a prefix length
+abbrev asked_prefix : ℕ → Option (List ℕ)
+asked_prefix n = cond (n == 0) None (Some (prefix_piece n))
 
--- the keywords of a spec say its known bits but the directory's, its mode and its attributes
+-- the piece asks for it
+prefix_said : (w : ℕ) (mode : Option SearchMode) (n : ℕ) → with_pieces (said w mode None []) (prefix_text n) ≡ Ok (said w mode (asked_prefix n) [])
+prefix_said w mode n = elim (cases_Bool (n == 0)) [
+  | inl z ↦ rw z refl
+  | inr z ↦ let i = number_is n z in rw (z, i) refl
+]
+
+-- and the length that it asks for is that length, where it is a boundary
+prefix_back : (path : List ℕ) (n : ℕ) → is_boundary path n ≡ true → prefix_length_of (asked_prefix n) path ≡ Ok n
+prefix_back path n h = elim (cases_Bool (n == 0)) [
+  | inl z ↦ rw z (ap Ok (sym (eqb-true n 0 z)))
+  | inr z ↦ let b : piece_number (prefix_piece n) ≡ n = number_back n in rw z (rw (b, h) refl)
+]
+
+-- the keyword of attributes lists them
+attributes_said : (w : ℕ) (mode : Option SearchMode) (prefix : Option (List ℕ)) (list : List Assignment) → list_all is_expressible_assignment list ≡ true → with_pieces (said w mode prefix []) (attributes_text list) ≡ Ok (said w mode prefix list)
+attributes_said w mode prefix [] h = refl
+attributes_said w mode prefix (a ∷ list) h = rw (assignments_of-list_text a list h) refl
+
+-- what the keywords of a spec say
+abbrev said_of : Spec → Magic
+said_of s = said (word_of (has top s.signature) (has exclude s.signature) (has icase s.signature)) (picked_mode s.mode) (asked_prefix s.prefix_length) s.attributes
+
+-- the keywords of a spec say its known bits but the directory's, its mode, its prefix length and its attributes
 keywords_said : (s : Spec) → list_all is_expressible_assignment s.attributes ≡ true
-    → with_pieces (said 0 None []) (keywords s) ≡ Ok (said (word_of (has top s.signature) (has exclude s.signature) (has icase s.signature)) (picked_mode s.mode) s.attributes)
+    → with_pieces (said 0 None None []) (keywords s) ≡ Ok (said_of s)
 keywords_said s h =
     let t = bit_text top s.signature (codes "top") in
     let e = bit_text exclude s.signature (codes "exclude") in
     let i = bit_text icase s.signature (codes "icase") in
     let w = word_of (has top s.signature) (has exclude s.signature) (has icase s.signature) in
-    with_pieces-onto (said 0 None []) (said w (picked_mode s.mode) []) (((t ++ e) ++ i) ++ mode_text s.mode) (attributes_text s.attributes)
-    (with_pieces-onto (said 0 None []) (said w None []) ((t ++ e) ++ i) (mode_text s.mode) (bits_said (has top s.signature) (has exclude s.signature) (has icase s.signature)) ∙ mode_said w s.mode)
-    ∙ attributes_said w (picked_mode s.mode) s.attributes h
+    with_pieces-onto (said 0 None None []) (said w (picked_mode s.mode) (asked_prefix s.prefix_length) []) ((((t ++ e) ++ i) ++ mode_text s.mode) ++ prefix_text s.prefix_length) (attributes_text s.attributes)
+    (with_pieces-onto (said 0 None None []) (said w (picked_mode s.mode) None []) (((t ++ e) ++ i) ++ mode_text s.mode) (prefix_text s.prefix_length)
+    (with_pieces-onto (said 0 None None []) (said w None None []) ((t ++ e) ++ i) (mode_text s.mode) (bits_said (has top s.signature) (has exclude s.signature) (has icase s.signature)) ∙ mode_said w s.mode)
+    ∙ prefix_said w (picked_mode s.mode) s.prefix_length)
+    ∙ attributes_said w (picked_mode s.mode) (asked_prefix s.prefix_length) s.attributes h
 
 -- a signature of known bits is the bits that it has
 abbrev signature_back : ℕ → ℕ
@@ -280,13 +332,13 @@ is_cut_for s h = record { short = refl; long = join-lacks_close (keywords s) (ar
 
 -- the magic of this cut says what the spec has
 magic_said : (s : Spec) → list_all is_expressible_assignment s.attributes ≡ true
-    → magic_of (cut_for s) ≡ Ok (said (word_of (has top s.signature) (has exclude s.signature) (has icase s.signature)) (picked_mode s.mode) s.attributes)
+    → magic_of (cut_for s) ≡ Ok (said_of s)
 unfolding magic_of
 magic_said s h =
     let p = are_pieces s h in
     let u = list_all-weaker is_piece (is_uncut 0) (keywords s) (λ t k. (and_parts (is_filled t) (is_uncut 0 t) (and_parts (is_filled t && is_uncut 0 t) (not (list_any is_close t)) k).0).1) p in
     let f = list_all-weaker is_piece is_filled (keywords s) (λ t k. (and_parts (is_filled t) (is_uncut 0 t) (and_parts (is_filled t && is_uncut 0 t) (not (list_any is_close t)) k).0).0) p in
-    ap (with_pieces (said 0 None [])) (long_pieces-join (keywords s) u f) ∙ keywords_said s h
+    ap (with_pieces (said 0 None None [])) (long_pieces-join (keywords s) u f) ∙ keywords_said s h
 
 -- specs with equal parts are equal
 spec_by_parts : (p q : List ℕ) (a b : ℕ) (m n : SearchMode) (list : List Assignment) (x y : Bool) (k l : ℕ) → p ≡ q → a ≡ b → m ≡ n → x ≡ y → k ≡ l
@@ -294,15 +346,22 @@ spec_by_parts : (p q : List ℕ) (a b : ℕ) (m n : SearchMode) (list : List Ass
 spec_by_parts p q a b m n list x y k l e f g h i = cc
 
 -- the spec of this cut is the spec
-spec_back : (s : Spec) → IsExpressible s → s.nil ≡ false → spec_of no_defaults (said (word_of (has top s.signature) (has exclude s.signature) (has icase s.signature)) (picked_mode s.mode) s.attributes) (body_of s) ≡ s
+body_back : (s : Spec) → IsExpressible s → s.nil ≡ false → body_spec no_defaults (said_of s) (body_of s) s.prefix_length ≡ s
+body_back s w n =
+    let e = ends_with_slash-body s.path (wants_directory s) w.parts.path in
+    spec_by_parts (without_last_slash (body_of s)) s.path (bit_or (bit_or 0 (word_of (has top s.signature) (has exclude s.signature) (has icase s.signature))) (cond (ends_with_slash (body_of s)) must_be_dir 0)) s.signature
+    (unwrap_or (picked_mode s.mode) ShellGlob) s.mode s.attributes false s.nil s.prefix_length s.prefix_length
+    (without_last_slash-body s.path (wants_directory s) w.parts.path)
+    (ap (λ b. bit_or (bit_or 0 (word_of (has top s.signature) (has exclude s.signature) (has icase s.signature))) (cond b must_be_dir 0)) e ∙ signature_is_bits s.signature w.parts.bits)
+    (mode_back s.mode) (sym n) refl
+
+-- and its prefix length is a boundary
+spec_back : (s : Spec) → IsExpressible s → s.nil ≡ false → spec_of no_defaults (said_of s) (body_of s) ≡ Ok s
 unfolding spec_of
 spec_back s w n =
-    let e = ends_with_slash-body s.path (wants_directory s) w.path in
-    spec_by_parts (without_last_slash (body_of s)) s.path (bit_or (bit_or 0 (word_of (has top s.signature) (has exclude s.signature) (has icase s.signature))) (cond (ends_with_slash (body_of s)) must_be_dir 0)) s.signature
-    (unwrap_or (picked_mode s.mode) ShellGlob) s.mode s.attributes false s.nil 0 s.prefix_length
-    (without_last_slash-body s.path (wants_directory s) w.path)
-    (ap (λ b. bit_or (bit_or 0 (word_of (has top s.signature) (has exclude s.signature) (has icase s.signature))) (cond b must_be_dir 0)) e ∙ signature_is_bits s.signature w.bits)
-    (mode_back s.mode) (sym n) (sym w.prefix)
+    let p = without_last_slash-body s.path (wants_directory s) w.parts.path in
+    let b = prefix_back s.path s.prefix_length w.prefix in
+    ap (λ r. r >>= λ k. Ok (body_spec no_defaults (said_of s) (body_of s) k)) (ap (prefix_length_of (asked_prefix s.prefix_length)) p ∙ b) ∙ ap Ok (body_back s w n)
 
 -- the long text is the text of this cut
 long_text-cut : (s : Spec) → s.nil ≡ false → long_text s ≡ text_of (cut_for s)
@@ -315,7 +374,7 @@ not_alone b rest e = cc
 
 -- a long text is cut as it was made
 reads_long : (s : Spec) → IsExpressible s → s.nil ≡ false → Reads no_defaults (text_of (cut_for s)) s
-reads_long s w n = magic refl (not_alone open_paren _) (cut_for s) (is_cut_for s w.assignments) refl _ (magic_said s w.assignments) (sym (spec_back s w n))
+reads_long s w n = magic refl (not_alone open_paren _) (cut_for s) (is_cut_for s w.parts.assignments) refl _ (magic_said s w.parts.assignments) (spec_back s w n)
 
 -- the nil spec reads back
 nil_back : reading no_defaults (long_text nil_spec) ≡ Ok nil_spec
@@ -325,7 +384,7 @@ nil_back = refl
 -- The long text of an expressible spec reads as the spec.
 pub round_trip : RoundTrip
 round_trip s w = elim (cases_Bool s.nil) [
-  | inl n ↦ subst (λ x. reading no_defaults (long_text x) ≡ Ok x) (sym (w.nil n)) nil_back
+  | inl n ↦ subst (λ x. reading no_defaults (long_text x) ≡ Ok x) (sym (w.parts.nil n)) nil_back
   | inr n ↦ ap (reading no_defaults) (long_text-cut s n) ∙ ((reading_is_exact no_defaults (text_of (cut_for s))).0 s).0 (reads_long s w n)
 ]
 

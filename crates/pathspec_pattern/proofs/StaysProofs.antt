@@ -1,15 +1,16 @@
--- A second normalising without a prefix leaves the path: the components of joined names are those names, and names by themselves all survive.
-use Rattle.std.proofs.Common.{◌≡◌, ℕ, min, zero, suc, ◌-◌, Bool, true, false, not, ◌&&◌, ◌||◌, cond, refl, sym, ◌∙◌, ap, subst, List, [], ◌∷◌, ◌++◌, length, drop, arith, ◌==◌, inl, inr, Option, Some, None, Ok}
-use Rattle.std.proofs.lemmas.Bool.{cases_Bool, cond_both, and_parts, or_parts, or_from, not-true, and_left, ne_eqb, eqb-false}
+-- A second normalising without a prefix leaves the spec: the components of joined names are those names, and names by themselves all survive.
+use Rattle.std.proofs.Common.{◌≡◌, ℕ, zero, suc, ◌-◌, Bool, true, false, not, ◌&&◌, ◌||◌, cond, refl, sym, ◌∙◌, ap, subst, List, [], ◌∷◌, ◌++◌, length, drop, ◌==◌, inl, inr, Option, Some, None, Ok}
+use Rattle.std.proofs.lemmas.Bool.{cases_Bool, and_parts, or_parts, or_from, not-true, and_left, ne_eqb, eqb-false}
 use Rattle.std.proofs.lemmas.List.{append-nil}
+use Rattle.std.proofs.lemmas.Slice.Eq.{bytes_eq-Decides}
 use Rattle.std.proofs.lemmas.List.Splits.{slice_split_none, slice_split_at}
 use Rattle.std.proofs.lemmas.List.Elements.{All-from_recursion}
 use Rattle.std.specs.Prelude.{codes, filter}
 use Rattle.std.specs.List.{list_any, onto_first, AllByRecursion}
 use Rattle.pathspec_parts.specs.Bytes.{slash, is_empty}
 use Rattle.pathspec_parts.specs.Paths.{pieces, is_component, is_parent_dir, components, join_names, is_absolute, strip_names}
-use Rattle.pathspec_pattern.specs.Specs.{Spec, top, has, wants_directory}
-use Rattle.pathspec_pattern.specs.NormalForm.{Base, base, base_names, own_components, is_inside, new_prefix_length, climb, survivors, components_to_resolve, resolved, resolve, normal_form, IsNormal, stays_empty}
+use Rattle.pathspec_pattern.specs.Specs.{Spec, top, has}
+use Rattle.pathspec_pattern.specs.NormalForm.{Base, base, base_names, own_components, is_inside, new_prefix_length, climb, survivors, components_to_resolve, resolved, resolve, normal_form, stays_empty, NormalFormIsNormal}
 use Rattle.pathspec_pattern.specs.NormalForm.Base.{Root, Prefix, Top}
 use Rattle.pathspec_pattern.proofs.NormalFormProofs.{climb-name}
 
@@ -129,10 +130,10 @@ components-join_names (x ∷ y ∷ more) a = rw (slice_split_at (λ b. b == slas
 -- ---- what a normal form's path is, and that it stays
 
 -- what normal forms are
-data IsSettled (n : Spec) : Type 0 where
-  empty : n.path ≡ [] → IsSettled n
-  here : n.path ≡ codes "." → n.nil ≡ true → IsSettled n
-  named : (name : List ℕ) (more : List (List ℕ)) → AllByRecursion IsWholeName (name ∷ more) → n.path ≡ join_names (name ∷ more) → IsSettled n
+pub data IsSettled (n : Spec) : Type 0 where
+  empty : n.path ≡ [] → n.prefix_length ≡ 0 → IsSettled n
+  here : n.path ≡ codes "." → n.nil ≡ true → n.prefix_length ≡ 0 → IsSettled n
+  named : (name : List ℕ) (more : List (List ℕ)) → AllByRecursion IsWholeName (name ∷ more) → n.path ≡ join_names (name ∷ more) → (n.nil ≡ true → n.prefix_length ≡ 0) → IsSettled n
 
 -- a name does not begin with a slash
 relative_front : (x rest : List ℕ) → IsWholeName x → is_absolute (x ++ rest) ≡ false
@@ -145,10 +146,10 @@ is_absolute-join_names name [] a = subst (λ t. is_absolute t ≡ false) (append
 is_absolute-join_names name (x ∷ more) a = relative_front name (slash ∷ join_names (x ∷ more)) a
 
 -- so a normal form is relative
-idempotent-relative : (n : Spec) → IsSettled n → is_absolute n.path ≡ false
-idempotent-relative n (empty e) = ap is_absolute e
-idempotent-relative n (here e nil) = ap is_absolute e
-idempotent-relative n (named name more a e) = ap is_absolute e ∙ is_absolute-join_names name more a.0
+settled-relative : (n : Spec) → IsSettled n → is_absolute n.path ≡ false
+settled-relative n (empty e z) = ap is_absolute e
+settled-relative n (here e nil z) = ap is_absolute e
+settled-relative n (named name more a e z) = ap is_absolute e ∙ is_absolute-join_names name more a.0
 
 -- a relative path is resolved by its own components
 normal_form-relative : (root : List ℕ) (n : Spec) (cs : List (List ℕ)) → is_absolute n.path ≡ false → components n.path ≡ cs → climb cs ≡ 0 → normal_form [] root n ≡ Ok (resolved Top n cs (survivors cs))
@@ -156,62 +157,63 @@ unfolding normal_form
 normal_form-relative root n cs r e c = rw (r, e, c) refl
 
 -- a spec that gets its own path and nil
-with_path : (n : Spec) (path : List ℕ) (nil : Bool) (len : ℕ) → path ≡ n.path → nil ≡ n.nil → len ≡ 0 → record n { path = path; nil = nil; prefix_length = len } ≡ record n { prefix_length = 0 }
+with_path : (n : Spec) (path : List ℕ) (nil : Bool) (len : ℕ) → path ≡ n.path → nil ≡ n.nil → len ≡ n.prefix_length → record n { path = path; nil = nil; prefix_length = len } ≡ n
 with_path n path nil len e f g = rw (e, f, g) refl
 
--- without a prefix nothing is kept for one
-no_prefix : (n : Spec) (own left : List (List ℕ)) → new_prefix_length Top n own left ≡ 0
-no_prefix n own left =
-    let none : min 0 (length left - cond (wants_directory n) 0 1) ≡ 0 = omega arith in
-    rw none (cond_both n.nil 0 0 (λ k. k ≡ 0) (λ e. refl) (λ e. refl))
+-- the prefix directory stays where the path does
+same_length : (n : Spec) (own left : List (List ℕ)) → n.path ≡ join_names left → (n.nil ≡ true → n.prefix_length ≡ 0) → new_prefix_length Top n own left ≡ n.prefix_length
+same_length n own left e z = elim (cases_Bool n.nil) [
+  | inl y ↦ rw y (sym (z y))
+  | inr x ↦ let same = (bytes_eq-Decides n.path (join_names left)).1 e in rw (x, same) refl
+]
 
 -- an empty path stays empty
-resolved-empty : (n : Spec) → n.path ≡ [] → resolved Top n [] [] ≡ record n { prefix_length = 0 }
-resolved-empty n e = rw e refl
+resolved-empty : (n : Spec) → n.path ≡ [] → n.prefix_length ≡ 0 → resolved Top n [] [] ≡ n
+resolved-empty n e z = rw (e, z) refl
 
 -- nil stays nil
-resolved-here : (n : Spec) → n.path ≡ codes "." → n.nil ≡ true → resolved Top n [] [] ≡ record n { prefix_length = 0 }
-resolved-here n e nil = rw (e, nil) refl
+resolved-here : (n : Spec) → n.path ≡ codes "." → n.nil ≡ true → n.prefix_length ≡ 0 → resolved Top n [] [] ≡ n
+resolved-here n e nil z = rw (e, nil, z) refl
 
 -- names stay
-resolved-name_count : (n : Spec) (name : List ℕ) (more : List (List ℕ)) → n.path ≡ join_names (name ∷ more) → resolved Top n (name ∷ more) (name ∷ more) ≡ record n { prefix_length = 0 }
-resolved-name_count n name more e = with_path n (join_names (name ∷ more)) n.nil (new_prefix_length Top n (name ∷ more) (name ∷ more)) (sym e) refl (no_prefix n (name ∷ more) (name ∷ more))
+resolved-name_count : (n : Spec) (name : List ℕ) (more : List (List ℕ)) → n.path ≡ join_names (name ∷ more) → (n.nil ≡ true → n.prefix_length ≡ 0) → resolved Top n (name ∷ more) (name ∷ more) ≡ n
+resolved-name_count n name more e z = with_path n (join_names (name ∷ more)) n.nil (new_prefix_length Top n (name ∷ more) (name ∷ more)) (sym e) refl (same_length n (name ∷ more) (name ∷ more) e z)
 
 -- what stands in normal form stays
-again : (root : List ℕ) (n : Spec) → IsSettled n → normal_form [] root n ≡ Ok (record n { prefix_length = 0 })
+again : (root : List ℕ) (n : Spec) → IsSettled n → normal_form [] root n ≡ Ok n
 unfolding climb
-again root n (empty e) = normal_form-relative root n [] (ap is_absolute e) (ap components e) refl ∙ ap Ok (resolved-empty n e)
-again root n (here e nil) = normal_form-relative root n [] (ap is_absolute e) (ap components e) refl ∙ ap Ok (resolved-here n e nil)
-again root n (named name more a e) =
+again root n (empty e z) = normal_form-relative root n [] (ap is_absolute e) (ap components e) refl ∙ ap Ok (resolved-empty n e z)
+again root n (here e nil z) = normal_form-relative root n [] (ap is_absolute e) (ap components e) refl ∙ ap Ok (resolved-here n e nil z)
+again root n (named name more a e z) =
     let name_count = name ∷ more in
-    let r = idempotent-relative n (named name more a e) in
+    let r = settled-relative n (named name more a e z) in
     normal_form-relative root n name_count r (ap components e ∙ components-join_names name_count a) (climb-name_count name_count a)
-    ∙ ap Ok (ap (λ left. resolved Top n name_count left) (survivors-name_count name_count a) ∙ resolved-name_count n name more e)
+    ∙ ap Ok (ap (λ left. resolved Top n name_count left) (survivors-name_count name_count a) ∙ resolved-name_count n name more e z)
 
 -- what is resolved stands in normal form
-resolved-idempotent : (b : Base) (s : Spec) (own left : List (List ℕ)) → AllByRecursion IsWholeName left → IsSettled (resolved b s own left)
-resolved-idempotent b s own [] a = elim (cases_Bool (stays_empty b s own)) [
-  | inl y ↦ rw y (empty refl)
-  | inr n ↦ rw n (here refl refl)
+resolved-settled : (b : Base) (s : Spec) (own left : List (List ℕ)) → AllByRecursion IsWholeName left → IsSettled (resolved b s own left)
+resolved-settled b s own [] a = elim (cases_Bool (stays_empty b s own)) [
+  | inl y ↦ rw y (empty refl refl)
+  | inr n ↦ rw n (here refl refl refl)
 ]
-resolved-idempotent b s own (name ∷ more) a = named name more a refl
+resolved-settled b s own (name ∷ more) a = named name more a refl (λ y. rw y refl)
 
 -- the same where it does not climb out
-resolve-idempotent : (b : Base) (s n : Spec) (found : Option (List (List ℕ))) → AllByRecursion IsPart (base_names b) → AllParts found → resolve b s found ≡ Ok n → IsSettled n
-resolve-idempotent b s n None f a h = cc
-resolve-idempotent b s n (Some own) f a h = elim (cases_Bool (is_inside b own)) [
+resolve-settled : (b : Base) (s n : Spec) (found : Option (List (List ℕ))) → AllByRecursion IsPart (base_names b) → AllParts found → resolve b s found ≡ Ok n → IsSettled n
+resolve-settled b s n None f a h = cc
+resolve-settled b s n (Some own) f a h = elim (cases_Bool (is_inside b own)) [
   | inl y ↦
       let e : resolved b s own (survivors (components_to_resolve b own)) ≡ n = (let k = rw y at h in cc) in
       let whole = survivors-whole (components_to_resolve b own) (AllByRecursion-append IsPart (base_names b) own f a) in
-      subst IsSettled e (resolved-idempotent b s own (survivors (components_to_resolve b own)) whole)
+      subst IsSettled e (resolved-settled b s own (survivors (components_to_resolve b own)) whole)
   | inr up ↦ let k = rw up at h in cc
 ]
 
 -- the same of the whole call
-idempotent : (prefix root : List ℕ) (s n : Spec) → normal_form prefix root s ≡ Ok n → IsSettled n
+pub normal_form-settled : (prefix root : List ℕ) (s n : Spec) → normal_form prefix root s ≡ Ok n → IsSettled n
 unfolding normal_form
-idempotent prefix root s n h = resolve-idempotent (base prefix s) s n (own_components (base prefix s) root s.path) (base-parts prefix s) (own-parts (base prefix s) root s.path) h
+normal_form-settled prefix root s n h = resolve-settled (base prefix s) s n (own_components (base prefix s) root s.path) (base-parts prefix s) (own-parts (base prefix s) root s.path) h
 
--- A second normalising without a prefix, with whatever root, leaves all but the prefix length, which becomes 0.
-pub normal_form_again : (prefix root : List ℕ) (s n : Spec) → normal_form prefix root s ≡ Ok n → IsNormal n
-normal_form_again prefix root s n h other = again other n (idempotent prefix root s n h)
+-- A second normalising without a prefix, with whatever root, leaves the spec.
+pub normal_form_again : NormalFormIsNormal
+normal_form_again prefix root s n h other = again other n (normal_form-settled prefix root s n h)

@@ -10,4 +10,5 @@ keyword_view (told.Adds flag) = Asked.Adds (signature_bits flag)
 keyword_view (told.Picks mode) = Asked.Picks mode
 keyword_view told.Ignored = Asked.Ignored
 keyword_view (told.Lists list) = Asked.Lists list.now
+keyword_view (told.Counts digits) = Asked.Counts digits.now
 keyword_view told.Unknown = Asked.Unknown

@@ -1,10 +1,10 @@
 -- What a spec means from a folder of the repository: its path from the root, resolved (normalising).
-use Rattle.std.specs.Prelude.{◌≡◌, ℕ, ◌-◌, min, max, Bool, true, false, not, ◌&&◌, ◌||◌, List, [], ◌∷◌, ◌++◌, length, take, map, filter, codes, ◌==◌, if◌then◌else◌, Option, Some, None, Result, Ok, Err}
+use Rattle.std.specs.Prelude.{◌≡◌, ℕ, ◌-◌, min, max, Bool, true, false, not, ◌&&◌, ◌||◌, List, [], ◌∷◌, ◌++◌, length, take, map, filter, codes, bytes_eq, ◌==◌, if◌then◌else◌, Option, Some, None, Result, Ok, Err, IsTrue}
 use Rattle.pathspec_parts.specs.Bytes.{is_empty}
 use Rattle.pathspec_parts.specs.Paths.{components, join_names, is_parent_dir, is_absolute, strip_root}
 use Rattle.pathspec_pattern.specs.Faults.{Fault}
 use Rattle.pathspec_pattern.specs.Faults.Fault.{OutsideRoot, LeavesRepository}
-use Rattle.pathspec_pattern.specs.Specs.{Spec, top, has, wants_directory}
+use Rattle.pathspec_pattern.specs.Specs.{Spec, top, has, wants_directory, has_boundary}
 
 -- ---- fronts of components
 
@@ -82,9 +82,22 @@ kept Top own left = 0
 abbrev pub directory_count : Base → Spec → List (List ℕ) → List (List ℕ) → ℕ
 directory_count b s own left = min (kept b own left) (length left - (if wants_directory s then 0 else 1))
 
+-- how many bytes these names are, joined
+abbrev pub directory_length : Base → Spec → List (List ℕ) → List (List ℕ) → ℕ
+directory_length b s own left = length (join_names (take (directory_count b s own left) left))
+
+-- whether the prefix directory stays: nothing stands in front of the path, which is what its survivors make
+abbrev pub keeps_directory : Base → Spec → List (List ℕ) → Bool
+keeps_directory Root s left = false
+keeps_directory (Prefix front) s left = false
+keeps_directory Top s left = bytes_eq s.path (join_names left)
+
 -- the prefix length of a spec whose path becomes these survivors
 abbrev pub new_prefix_length : Base → Spec → List (List ℕ) → List (List ℕ) → ℕ
-new_prefix_length b s own left = if s.nil then 0 else length (join_names (take (directory_count b s own left) left))
+new_prefix_length b s own left =
+    if s.nil then 0
+    else if keeps_directory b s left then s.prefix_length
+    else directory_length b s own left
 
 -- Whether a path that leaves nothing stays an empty path: it is the root itself, or it was empty and stands on the top.
 abbrev pub stays_empty : Base → Spec → List (List ℕ) → Bool
@@ -108,6 +121,28 @@ resolve b s (Some own) = if is_inside b own then Ok (resolved b s own (survivors
 unfoldable pub normal_form : List ℕ → List ℕ → Spec → Result Spec Fault
 normal_form prefix root s = let b = base prefix s in resolve b s (own_components b root s.path)
 
--- A spec that is its own normal form: without a prefix, under whatever root, only its prefix length becomes 0.
+-- A spec that is its own normal form, without a prefix and under whatever root.
 abbrev pub IsNormal : Spec → Type 0
-IsNormal s = (root : List ℕ) → normal_form [] root s ≡ Ok (record s { prefix_length = 0 })
+IsNormal s = (root : List ℕ) → normal_form [] root s ≡ Ok s
+
+-- The prefix length of a normal form is a boundary of its path, if that of the spec is one.
+abbrev pub NormalFormHasBoundary : Type 0
+NormalFormHasBoundary = (prefix root : List ℕ) (s n : Spec) → IsTrue (has_boundary s) → normal_form prefix root s ≡ Ok n → IsTrue (has_boundary n)
+
+-- A nil normal form has no prefix directory.
+abbrev pub NilHasNoDirectory : Type 0
+NilHasNoDirectory = (prefix root : List ℕ) (s n : Spec) → normal_form prefix root s ≡ Ok n → IsTrue n.nil → n.prefix_length ≡ 0
+
+-- n has the signature, the mode and the attributes of s
+pub record KeepsMagic (s n : Spec) : Type 0 where
+  pub signature : n.signature ≡ s.signature
+  pub mode : n.mode ≡ s.mode
+  pub attributes : n.attributes ≡ s.attributes
+
+-- A normal form has them.
+abbrev pub NormalFormKeepsMagic : Type 0
+NormalFormKeepsMagic = (prefix root : List ℕ) (s n : Spec) → normal_form prefix root s ≡ Ok n → KeepsMagic s n
+
+-- A normal form is its own, without a prefix and under whatever root.
+abbrev pub NormalFormIsNormal : Type 0
+NormalFormIsNormal = (prefix root : List ℕ) (s n : Spec) → normal_form prefix root s ≡ Ok n → IsNormal n

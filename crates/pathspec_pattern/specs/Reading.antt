@@ -1,18 +1,20 @@
 -- What the text of a spec says (gitglossary, "pathspec").
 use Rattle.std.specs.Prelude.{◌≡◌, ◌≢◌, ℕ, ◌+◌, ◌%◌, ◌<◌, Bool, true, false, not, ◌&&◌, ◌||◌, List, [], ◌∷◌, ◌++◌, take, drop, length, filter, codes, bytes_eq, ◌==◌, if◌then◌else◌, Option, Some, None, unwrap_or, Result, Ok, Err, IsTrue, IsFalse, bit_or, ◌↔◌}
 use Rattle.std.specs.List.{list_all, list_any, before_first, after_first, take_while, prefix_len, onto_first}
+use Rattle.std.specs.Char.{is_ascii_digit}
 use Rattle.pathspec_pattern.specs.declared.SearchMode.{SearchMode}
 use Rattle.pathspec_pattern.specs.declared.SearchMode.TheVariants.{ShellGlob, Literal, PathAwareGlob}
 use Rattle.pathspec_pattern.specs.declared.defaults.Defaults.{Defaults}
 use Rattle.pathspec_parts.specs.Bytes.{slash, colon, open_paren, close_paren, comma, backslash, is_one_of, is_empty, first_is, begins_with}
 use Rattle.pathspec_parts.specs.Paths.{ends_with_slash, without_last_slash}
 use Rattle.pathspec_parts.specs.Attributes.{Assignment}
+use Rattle.pathspec_parts.specs.Truth.{decimal_value}
 use Rattle.pathspec_pattern.specs.Results.{◌>>=◌}
 use Rattle.pathspec_pattern.specs.Faults.{Fault}
-use Rattle.pathspec_pattern.specs.Faults.Fault.{Empty, UnimplementedShort, MissingParen, InvalidKeyword, LiteralWithGlob, SecondAttributes}
+use Rattle.pathspec_pattern.specs.Faults.Fault.{Empty, UnimplementedShort, MissingParen, InvalidKeyword, LiteralWithGlob, SecondAttributes, InvalidPrefix}
 use Rattle.pathspec_pattern.specs.AttributeLists.{assignments_of}
 use Rattle.pathspec_pattern.specs.Signatures.{signature_bits, no_bits}
-use Rattle.pathspec_pattern.specs.Specs.{Spec, top, icase, exclude, must_be_dir}
+use Rattle.pathspec_pattern.specs.Specs.{Spec, top, icase, exclude, must_be_dir, is_boundary, has_boundary}
 
 -- ---- the pieces of long magic
 
@@ -53,7 +55,19 @@ pub data Keyword : Type 0 where
   Picks : (mode : SearchMode) → Keyword
   Ignored : Keyword
   Lists : (list : List ℕ) → Keyword
+  Counts : (digits : List ℕ) → Keyword
   Unknown : Keyword
+
+-- the pieces that carry a value
+abbrev pub valued_keyword_of : List ℕ → Keyword
+valued_keyword_of piece =
+    if begins_with piece (codes "attr:") then Lists (drop 5 piece)
+    else if begins_with piece (codes "prefix:") then Counts (drop 7 piece)
+    else Unknown
+
+-- a piece that asks for a prefix length
+abbrev pub is_prefix_piece : List ℕ → Bool
+is_prefix_piece piece = begins_with piece (codes "prefix:")
 
 -- the table of pieces
 abbrev pub keyword_of : List ℕ → Keyword
@@ -64,14 +78,15 @@ keyword_of piece =
     else if bytes_eq piece (codes "literal") then Picks Literal
     else if bytes_eq piece (codes "glob") then Picks PathAwareGlob
     else if bytes_eq piece (codes "attr") then Ignored
-    else if begins_with piece (codes "attr:") then Lists (drop 5 piece)
-    else Unknown
+    else valued_keyword_of piece
 
 -- what the magic that has been read asks for
 pub record Magic : Type 0 where
   pub signature : ℕ
   pub mode : Option SearchMode
   pub attributes : List Assignment
+  -- the last piece `prefix:` and digits
+  pub prefix : Option (List ℕ)
 
 -- the modes are one
 abbrev pub same_mode : SearchMode → SearchMode → Bool
@@ -90,12 +105,21 @@ with_list magic piece list =
     if is_empty magic.attributes then (assignments_of list >>= λ assignments. Ok (record magic { attributes = assignments }))
     else Err (SecondAttributes piece)
 
+-- one decimal digit or more
+abbrev pub is_number : List ℕ → Bool
+is_number digits = not (is_empty digits) && list_all is_ascii_digit digits
+
+-- of several such pieces the last counts
+abbrev pub with_prefix : Magic → List ℕ → List ℕ → Result Magic Fault
+with_prefix magic piece digits = if is_number digits then Ok (record magic { prefix = Some piece }) else Err (InvalidPrefix piece)
+
 -- what a piece makes of the magic before it, or its fault
 abbrev pub with_piece : Magic → List ℕ → Keyword → Result Magic Fault
 with_piece magic piece (Adds flag) = Ok (record magic { signature = bit_or magic.signature flag })
 with_piece magic piece (Picks mode) = with_mode magic piece mode
 with_piece magic piece Ignored = Ok magic
 with_piece magic piece (Lists list) = with_list magic piece list
+with_piece magic piece (Counts digits) = with_prefix magic piece digits
 with_piece magic piece Unknown = Err (InvalidKeyword piece)
 
 -- what the pieces make of the magic before them, from left to right, or the fault of the first at fault
@@ -200,23 +224,36 @@ short_bits short = bit_or (if list_any (λ b. b == slash) short then top else 0)
 
 -- what a cut's magic says
 unfoldable pub magic_of : Cut → Result Magic Fault
-magic_of cut = with_pieces (record { signature = short_bits cut.short; mode = None; attributes = [] }) (long_pieces (unwrap_or cut.long []))
+magic_of cut = with_pieces (record { signature = short_bits cut.short; mode = None; attributes = []; prefix = None }) (long_pieces (unwrap_or cut.long []))
 
--- the spec that magic and a body say: a last slash is stripped and asks for a directory, and the defaults fill in
-unfoldable pub spec_of : Defaults → Magic → List ℕ → Spec
-spec_of defaults magic body =
+-- the number that a piece `prefix:` writes
+abbrev pub piece_number : List ℕ → ℕ
+piece_number piece = decimal_value (drop 7 piece)
+
+-- the prefix length that magic asks for, or the fault of its piece where that is no boundary of the path
+abbrev pub prefix_length_of : Option (List ℕ) → List ℕ → Result ℕ Fault
+prefix_length_of None path = Ok 0
+prefix_length_of (Some piece) path = if is_boundary path (piece_number piece) then Ok (piece_number piece) else Err (InvalidPrefix piece)
+
+-- the spec that magic and a body say, with this prefix length: a last slash is stripped and asks for a directory, and the defaults fill in
+abbrev pub body_spec : Defaults → Magic → List ℕ → ℕ → Spec
+body_spec defaults magic body prefix_length =
     record {
       path = without_last_slash body;
       signature = bit_or (bit_or (signature_bits defaults.signature) magic.signature) (if ends_with_slash body then must_be_dir else 0);
       mode = unwrap_or magic.mode defaults.search_mode;
       attributes = magic.attributes;
       nil = false;
-      prefix_length = 0;
+      prefix_length = prefix_length;
     }
+
+-- the spec that magic and a body say, or why they say none
+unfoldable pub spec_of : Defaults → Magic → List ℕ → Result Spec Fault
+spec_of defaults magic body = prefix_length_of magic.prefix (without_last_slash body) >>= λ n. Ok (body_spec defaults magic body n)
 
 -- magic that asks for nothing
 abbrev pub no_magic : Magic
-no_magic = record { signature = 0; mode = None; attributes = [] }
+no_magic = record { signature = 0; mode = None; attributes = []; prefix = None }
 
 -- a spec that asks for nothing
 abbrev pub empty_spec : Spec
@@ -239,9 +276,9 @@ pub data Reads (defaults : Defaults) (text : List ℕ) (spec : Spec) : Type 0 wh
   -- it is `:` alone
   nothing : IsFalse defaults.literal → text ≡ colon ∷ [] → spec ≡ nil_spec → Reads defaults text spec
   -- it does not begin with `:`, and is all body
-  plain : IsFalse defaults.literal → text ≢ [] → IsFalse (first_is is_colon text) → spec ≡ spec_of defaults no_magic text → Reads defaults text spec
+  plain : IsFalse defaults.literal → text ≢ [] → IsFalse (first_is is_colon text) → spec_of defaults no_magic text ≡ Ok spec → Reads defaults text spec
   -- it is cut into magic and a body
-  magic : IsFalse defaults.literal → text ≢ colon ∷ [] → (cut : Cut) → IsCut cut → text ≡ text_of cut → (asked : Magic) → magic_of cut ≡ Ok asked → spec ≡ spec_of defaults asked cut.body → Reads defaults text spec
+  magic : IsFalse defaults.literal → text ≢ colon ∷ [] → (cut : Cut) → IsCut cut → text ≡ text_of cut → (asked : Magic) → magic_of cut ≡ Ok asked → spec_of defaults asked cut.body ≡ Ok spec → Reads defaults text spec
 
 -- The text says no spec, and this is why.
 pub data IsRefused (defaults : Defaults) (text : List ℕ) (fault : Fault) : Type 0 where
@@ -253,10 +290,12 @@ pub data IsRefused (defaults : Defaults) (text : List ℕ) (fault : Fault) : Typ
   paren : IsFalse defaults.literal → (front : List ℕ) (ended : Bool) (rest : List ℕ) → text ≡ colon ∷ front ++ end_mark ended ++ open_paren ∷ rest → IsTrue (list_all is_short front) → IsFalse (list_any (λ b. b == close_paren) rest) → fault ≡ MissingParen text → IsRefused defaults text fault
   -- a piece of long magic is at fault
   piece : IsFalse defaults.literal → (cut : Cut) → IsCut cut → text ≡ text_of cut → magic_of cut ≡ Err fault → IsRefused defaults text fault
+  -- the number of the last piece `prefix:` is no boundary of the path
+  boundary : IsFalse defaults.literal → (cut : Cut) → IsCut cut → text ≡ text_of cut → (asked : Magic) → magic_of cut ≡ Ok asked → (piece : List ℕ) → asked.prefix ≡ Some piece → IsFalse (is_boundary (without_last_slash cut.body) (piece_number piece)) → fault ≡ InvalidPrefix piece → IsRefused defaults text fault
 
 -- what a text with magic says
 abbrev pub magic_reading : Defaults → List ℕ → Result Spec Fault
-magic_reading defaults text = cut_of text >>= λ cut. magic_of cut >>= λ asked. Ok (spec_of defaults asked cut.body)
+magic_reading defaults text = cut_of text >>= λ cut. magic_of cut >>= λ asked. spec_of defaults asked cut.body
 
 -- The spec that a text says, or why it says none: the same as a function.
 unfoldable pub reading : Defaults → List ℕ → Result Spec Fault
@@ -265,7 +304,7 @@ reading defaults text =
     else if defaults.literal then Ok (literal_spec (signature_bits defaults.signature) text)
     else if bytes_eq text (colon ∷ []) then Ok nil_spec
     else if first_is is_colon text then magic_reading defaults text
-    else Ok (spec_of defaults no_magic text)
+    else spec_of defaults no_magic text
 
 -- the defaults that ask for nothing
 abbrev pub no_defaults : Defaults
@@ -280,3 +319,15 @@ OneCut = (a b : Cut) → IsCut a → IsCut b → text_of a ≡ text_of b → a �
 -- The function gives just what the relation says, and each refusal.
 abbrev pub ReadingIsExact : Type 0
 ReadingIsExact = (d : Defaults) (text : List ℕ) → ((s : Spec) → Reads d text s ↔ (reading d text ≡ Ok s)) × ((fault : Fault) → IsRefused d text fault ↔ (reading d text ≡ Err fault))
+
+-- The prefix length of what a text says is a boundary of its path.
+abbrev pub ReadHasBoundary : Type 0
+ReadHasBoundary = (d : Defaults) (text : List ℕ) (s : Spec) → reading d text ≡ Ok s → IsTrue (has_boundary s)
+
+-- No piece of the text's long magic asks for a prefix length.
+abbrev pub AsksNoPrefix : List ℕ → Type 0
+AsksNoPrefix text = (cut : Cut) → IsCut cut → text ≡ text_of cut → IsFalse (list_any is_prefix_piece (long_pieces (unwrap_or cut.long [])))
+
+-- Such a text has no prefix directory, and is not refused for one.
+abbrev pub PrefixIsAsked : Type 0
+PrefixIsAsked = (d : Defaults) (text : List ℕ) → AsksNoPrefix text → ((s : Spec) → reading d text ≡ Ok s → s.prefix_length ≡ 0) × ((piece : List ℕ) → reading d text ≢ Err (InvalidPrefix piece))

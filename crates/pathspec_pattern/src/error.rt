@@ -27,6 +27,9 @@ pub enum Error {
     /// A second list of attributes: its whole piece, with its `attr:`.
     #[error("only one attribute list is allowed: {}", BStr::new(.0.as_slice()))]
     SecondAttributes(Vec<u8>),
+    /// A prefix length that is no number, or no boundary of the path: its whole piece, with its `prefix:`.
+    #[error("invalid prefix length: {}", BStr::new(.0.as_slice()))]
+    InvalidPrefix(Vec<u8>),
     /// `attr:` without a list: nothing follows its colon.
     #[error("attribute list is empty")]
     EmptyAttributes,
@@ -68,6 +71,7 @@ impl Error {
             Error::InvalidKeyword(_) => "InvalidKeyword",
             Error::LiteralWithGlob(_) => "LiteralWithGlob",
             Error::SecondAttributes(_) => "SecondAttributes",
+            Error::InvalidPrefix(_) => "InvalidPrefix",
             Error::EmptyAttributes => "EmptyAttributes",
             Error::InvalidName(_) => "InvalidName",
             Error::InvalidValueByte(_) => "InvalidValueByte",

@@ -4,13 +4,15 @@ ghost use Rattle.std.specs.List.{list_any};
 ghost use Rattle.pathspec_parts.specs.Bytes.{colon, first_is, is_one_of};
 ghost use Rattle.pathspec_pattern.specs.Errors.{Computes, IsAnswer, IsMemory, IsMemoryOr};
 ghost use Rattle.pathspec_pattern.specs.Signatures.{signature_bits};
-ghost use Rattle.pathspec_pattern.specs.Reading.{Reads, IsRefused, reading, magic_reading, magic_of, short_bits, spec_of, is_colon, OneCut, ReadingIsExact};
+ghost use Rattle.pathspec_pattern.specs.Specs.{BoundaryIsExact};
+ghost use Rattle.pathspec_pattern.specs.Reading.{Reads, IsRefused, reading, magic_reading, magic_of, short_bits, spec_of, is_colon, OneCut, ReadingIsExact, ReadHasBoundary, PrefixIsAsked};
 ghost use Rattle.pathspec_pattern.specs.Patterns.{pattern_spec};
 
 mod cut;
 mod lists;
 mod magic;
 mod pieces;
+mod prefix;
 
 use crate::{Defaults, Error, MagicSignature, Pattern};
 use bitflags::Flags;
@@ -22,8 +24,9 @@ use std::alloc::Global;
 
 /// Reads the text of a pathspec: `:` alone, a path, or a path after `:`, short magic (`/`, `^`, `!`, and a `:` that
 /// may end it) and long magic (`(top,icase,..)`). Long magic may say `top`, `icase`, `exclude`, `literal`, `glob`,
-/// `attr`, which asks for nothing, and once `attr:` with a list of attributes (see [`attributes`]). The defaults say
-/// what a text gets that says nothing of it.
+/// `attr`, which asks for nothing, once `attr:` with a list of attributes (see [`attributes`]), and `prefix:` with the
+/// length of the prefix directory in decimal digits, of which the last counts: so `:(icase,prefix:1)a/B` has the prefix
+/// directory `a`. The defaults say what a text gets that says nothing of it.
 ///
 /// It looks at each byte a fixed number of times. It takes memory for the path, for the attributes with their names
 /// and values, or for the bytes that an error carries.
@@ -32,7 +35,9 @@ use std::alloc::Global;
 /// [`Error::Empty`] for the empty text, [`Error::UnimplementedShort`] for a byte of short magic that git keeps
 /// free, [`Error::MissingParen`] for `(` without `)`; for the first piece of long magic at fault
 /// [`Error::InvalidKeyword`], [`Error::LiteralWithGlob`] where it picks a second mode, [`Error::SecondAttributes`]
-/// where it is a second list, or the error of its list, as [`attributes`] gives it; [`Error::Memory`].
+/// where it is a second list, the error of its list, as [`attributes`] gives it, or [`Error::InvalidPrefix`] where no
+/// digits alone follow its `prefix:`. Where all else is right, [`Error::InvalidPrefix`] for the last `prefix:` whose number
+/// is no length that a directory of the path can have: 0, the path's length, or the place of a slash. [`Error::Memory`].
 pub fn parse(alloc: Global, input: &[u8], defaults: Defaults) -> Result<Pattern, Error>
     ensures reads { IfOk result (λ p. Reads defaults input.now (pattern_spec p)) }
     ensures refused { IfErr result (λ e. IsMemoryOr e (IsRefused defaults input.now)) }
@@ -40,6 +45,8 @@ pub fn parse(alloc: Global, input: &[u8], defaults: Defaults) -> Result<Pattern,
     ensures exact { Computes pattern_spec (reading defaults input.now) result }
     // A text has at most one cut, and the relation and the function say the same of each text.
     ensures grammar { OneCut × ReadingIsExact }
+    // The prefix length of what a text says is a boundary of its path, and 0 where no piece asks for one.
+    ensures prefix { ReadHasBoundary × BoundaryIsExact × PrefixIsAsked }
 {
     pattern_of(alloc, input, defaults)
 }
@@ -74,13 +81,14 @@ fn pattern_with_magic(alloc: Global, text: &[u8], defaults: Defaults) -> Result<
 
 /// What the magic of a cut says.
 #[tactic(auto, unfolding(crate::specs::Reading::magic_of))]
-fn magic_of(alloc: Global, cut: &Cut<'_>) -> Result<Magic, Error>
+fn magic_of<'p>(alloc: Global, cut: &Cut<'p>) -> Result<Magic<'p>, Error>
     ensures { IsAnswer (magic_of cut.now) result }
 {
     let short = Magic {
         signature: signature_of(cut.short),
         mode: None,
         attributes: Vec::new(alloc),
+        prefix: None,
     };
     magic::after_long(alloc, short, cut.long.unwrap_or(&[]))
 }
@@ -122,13 +130,13 @@ impl Pattern {
     fn with_body(
         alloc: Global,
         defaults: Defaults,
-        magic: Magic,
+        magic: Magic<'_>,
         body: &[u8],
     ) -> Result<Pattern, Error>
-        ensures ok { IfOk result (λ p. pattern_spec p ≡ spec_of defaults magic body.now) }
-        ensures err { IfErr result IsMemory }
+        ensures { Computes pattern_spec (spec_of defaults magic.entry body.now) result }
     {
         let (path, wants_directory) = path::strip_last_slash(body);
+        let prefix_length = prefix::length_of(alloc, magic.prefix, path)?;
         let mut directory = MagicSignature::empty();
         directory.set(MagicSignature::MUST_BE_DIR, wants_directory);
         Ok(Pattern {
@@ -137,7 +145,7 @@ impl Pattern {
             search_mode: magic.mode.unwrap_or(defaults.search_mode),
             attributes: magic.attributes,
             nil: false,
-            prefix_length: 0,
+            prefix_length,
         })
     }
 }

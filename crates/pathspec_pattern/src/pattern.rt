@@ -1,11 +1,11 @@
 //! A pathspec as it is read from a text, and its normal form.
-ghost use Rattle.std.specs.Prelude.{◌≡◌, map, IfOk, IfErr};
+ghost use Rattle.std.specs.Prelude.{◌≡◌, [], map, IsTrue, IfOk, IfErr};
 ghost use Rattle.bstr.specs.BStr.{bstr_bytes};
 ghost use Rattle.pathspec_parts.specs.AttributeStates.{assignment_view};
 ghost use Rattle.pathspec_parts.specs.Paths.{IsBytes};
 ghost use Rattle.pathspec_pattern.specs.Errors.{IsMemory, IsMemoryOr, Computes};
 ghost use Rattle.pathspec_pattern.specs.Signatures.{signature_bits};
-ghost use Rattle.pathspec_pattern.specs.Specs.{is_exclude, always_matches, has_wildcard, is_glob, prefix_directory};
+ghost use Rattle.pathspec_pattern.specs.Specs.{is_exclude, always_matches, has_wildcard, is_glob, prefix_directory, is_boundary, has_boundary};
 ghost use Rattle.pathspec_pattern.specs.Reading.{empty_spec, nil_spec, literal_spec, Reads, IsRefused, reading};
 
 mod long_text;
@@ -34,6 +34,8 @@ pub struct Pattern {
     pub(crate) nil: bool,
     /// How many bytes of the path are the prefix directory.
     pub(crate) prefix_length: usize,
+    ghost boundary: { IsTrue (is_boundary path.items prefix_length) },
+    ghost nil_has_none: { IsTrue nil → prefix_length ≡ 0 },
 }
 
 impl Pattern {
@@ -93,8 +95,12 @@ impl Pattern {
         ensures { pattern_spec result ≡ nil_spec }
     {
         Pattern {
+            path: Vec::new(alloc),
+            signature: MagicSignature::empty(),
+            search_mode: SearchMode::ShellGlob,
+            attributes: Vec::new(alloc),
             nil: true,
-            ..Pattern::new(alloc)
+            prefix_length: 0,
         }
     }
 
@@ -126,14 +132,18 @@ impl Pattern {
         text_of(self.path.as_slice())
     }
 
-    /// The front of the path that [`Pattern::normalize`] took from the prefix, without a last slash: a spec without
-    /// case compares it with case. Of an absolute path it is all but the last component, and all of it where a
-    /// directory is wanted. It is empty before the path is normalised.
+    /// The directory in front of the path, without a last slash, that a spec without case compares with case. A text asks
+    /// for it by `prefix:`; [`Pattern::normalize`] sets it to what it took from the prefix, or of an absolute path to all
+    /// but the last component, and to all of it where a directory is wanted. Otherwise it is empty.
+    ///
+    /// It ends where a name of the path does: it is empty, the whole path, or followed by a slash. That is kept with the
+    /// pattern, so nothing is searched. A nil spec has none.
     pub fn prefix_directory(&self) -> BStr<'_>
-        ensures { bstr_bytes result ≡ prefix_directory (pattern_spec self.now) }
+        ensures directory { bstr_bytes result ≡ prefix_directory (pattern_spec self.now) }
+        ensures boundary { IsTrue (has_boundary (pattern_spec self.now)) }
+        ensures nil { IsTrue (pattern_spec self.now).nil → bstr_bytes result ≡ [] }
     {
-        let length = self.prefix_length.min(self.path.len());
-        BStr::new(&self.path[..length])
+        BStr::new(&self.path[..self.prefix_length])
     }
 
     /// Whether this spec says that there is no pathspec.

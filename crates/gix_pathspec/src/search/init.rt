@@ -8,8 +8,9 @@ ghost use Rattle.bstr.specs.Owned.{bstring_bytes};
 ghost use Rattle.pathspec_parts.specs.Paths.{IsBytes, is_clean_prefix};
 ghost use Rattle.gix_pathspec.specs.Errors.{IsMemory};
 ghost use Rattle.gix_pathspec.specs.Patterns.{pattern_spec};
+ghost use Rattle.gix_pathspec.specs.NormalForm.{NormalFormIsNormal};
 ghost use Rattle.gix_pathspec.specs.Prefixes.{common_front, common_prefix};
-ghost use Rattle.gix_pathspec.specs.Search.{KeepsSpecs, HasNoEffort, specs_of, numbered_from, default_to_prefix, in_search_order, search_of};
+ghost use Rattle.gix_pathspec.specs.Search.{KeepsSpecs, HasNoEffort, specs_of, numbered_from, default_to_prefix, in_search_order, search_of, HoldsNormalForms};
 ghost use Rattle.gix_pathspec.specs.Effort.{ArePlacesOf, heads_in_order, unasked};
 ghost use Rattle.gix_pathspec.specs.Building.{prefix_bytes, TellsFault, Builds, IsErrorAt, numbered_normal_form};
 ghost use Rattle.gix_pathspec.specs.SelectionLaws.{SpecPathsAreBytes};
@@ -89,6 +90,9 @@ impl Search {
             × (xs : List Pattern) × I.into_iter_gives specs it × Drains I.IntoIter.next_gives it xs
             × (search_of (prefix_bytes prefix.entry) (bstr_bytes root.entry) (map pattern_spec xs)
             ≡ Err fault))) }
+        // So a search has just the normal forms of its specs, and of no specs and a prefix that of the prefix; and each is
+        // its own normal form.
+        ensures forms { HoldsNormalForms × NormalFormIsNormal }
     {
         let patterns = gather(alloc, specs)?;
         build(alloc, patterns, prefix.unwrap_or(BStr::new(b"")), root)
@@ -284,7 +288,7 @@ fn common_prefix(alloc: Global, specs: &[CompiledSpec]) -> Result<Vec<u8>, Alloc
 {
     let mut common: Option<&[u8]> = None;
     for spec in specs {
-        if !spec.pattern.is_excluded() {
+        if spec.is_include() {
             let head = spec.head();
             common = match common {
                 Some(front) => Some(common_front(front, head)),

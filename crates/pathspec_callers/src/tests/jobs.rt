@@ -46,6 +46,7 @@ fn the_first_fault_is_told(rt: HostRuntime) -> Result<(), Fail> {
         Refused("a :#x", UNSET, 3, "spec 1: UnimplementedShort"),
         Refused(":(top", UNSET, 3, "spec 0: MissingParen"),
         Refused(":(attr:)x", UNSET, 3, "spec 0: EmptyAttributes"),
+        Refused(":(prefix:2)a/B", UNSET, 3, "spec 0: InvalidPrefix"),
         Refused("a ../x", UNSET, 3, "spec 1: LeavesRepository"),
         Refused("/a", UNSET, 3, "spec 0: OutsideRoot"),
         Refused("--root /rr a /r/a", UNSET, 3, "spec 1: OutsideRoot"),
@@ -57,6 +58,7 @@ fn the_first_fault_is_told(rt: HostRuntime) -> Result<(), Fail> {
         Refused(":#x", GLOB_AND_NO_GLOB, 3, "environment: GlobAndNoGlob"),
         Refused("../x", BAD_CASE, 3, "environment: NotTruth"),
         Refused("../x :#y", UNSET, 3, "spec 1: UnimplementedShort"),
+        Refused("../x :(prefix:9)y", UNSET, 3, "spec 1: InvalidPrefix"),
         Refused("a ../x ../y", UNSET, 3, "spec 1: LeavesRepository"),
     ];
     assert_each(&rt, rt.alloc(), ROWS)
@@ -118,9 +120,9 @@ fn specs_are_read_under_the_defaults_of_the_environment(rt: HostRuntime) -> Resu
         Specs("a :!b", UNSET, ":(exclude)b :()a "),
         Specs("--prefix a ../b", UNSET, ":()b "),
         Specs("--prefix a/ ../b", UNSET, ":()b "),
-        Specs("--prefix b --prefix a", UNSET, ":(literal)a/ "),
-        Specs("--prefix .. --prefix a b", UNSET, ":()a/b "),
-        Specs("--prefix -- x", UNSET, ":()--/x "),
+        Specs("--prefix b --prefix a", UNSET, ":(literal,prefix:1)a/ "),
+        Specs("--prefix .. --prefix a b", UNSET, ":(prefix:1)a/b "),
+        Specs("--prefix -- x", UNSET, ":(prefix:2)--/x "),
         Specs("--root /s --root /r /r/a", UNSET, ":()a "),
         Specs("--root --prefix x", UNSET, ":()x "),
         Specs("a*", LITERAL, ":(literal)a* "),

@@ -34,6 +34,11 @@ fn long_texts_read_back(rt: HostRuntime) -> Result<(), Fail> {
         Long(":(attr: ,attr:a)x", ":(attr:a)x"),
         Long(":(attr:=v)x", ":(attr:=v)x"),
         Long(":(attr: )x", ":()x"),
+        Long(":(icase,prefix:1)a/B", ":(icase,prefix:1)a/B"),
+        Long(":(prefix:9,prefix:01)a/b", ":(prefix:1)a/b"),
+        Long(":(attr:g,prefix:1)a/b", ":(prefix:1,attr:g)a/b"),
+        Long(":(prefix:1)a/", ":(prefix:1)a/"),
+        Long(":(prefix:0012)abcdefghijkl/m", ":(prefix:12)abcdefghijkl/m"),
     ];
     assert_each(&rt, rt.alloc(), ROWS)
 }

@@ -43,6 +43,11 @@ fn is_normal(pattern: &Pattern, path: &str, directory: &str, nil: bool) -> bool 
 fn paths_are_resolved_from_the_prefix(rt: HostRuntime) -> Result<(), Fail> {
     const ROWS: &[InPrefix] = &[
         InPrefix("", "a", "a", "", false),
+        InPrefix("", ":(prefix:1)a/b", "a/b", "a", false),
+        InPrefix("c", ":(prefix:1)a/b", "c/a/b", "c", false),
+        InPrefix("", ":(prefix:1)a//b", "a/b", "", false),
+        InPrefix("c", ":(top,prefix:1)a/b", "a/b", "a", false),
+        InPrefix("", ":(icase,prefix:1).", ".", "", true),
         InPrefix("", "./c", "c", "", false),
         InPrefix("", "a//", "a", "", false),
         InPrefix("", "a/./b//c/.", "a/b/c", "", false),

@@ -28,3 +28,15 @@ fn the_glob_of_the_readme_runs(rt: HostRuntime) -> Result<(), Fail> {
     }
     Ok(())
 }
+
+#[test]
+fn the_stored_spec_of_the_readme_reads_back(rt: HostRuntime) -> Result<(), Fail> {
+    let alloc = rt.alloc();
+    let mut spec = Pattern::from_bytes(alloc, b":(icase)B", Defaults::default())?;
+    spec.normalize(BStr::new(b"a"), BStr::new(b""))?;
+    let stored = spec.to_bstring()?;
+    assert!(rt; stored.as_bytes() == b":(icase,prefix:1)a/B".as_slice());
+    let read = Pattern::from_bytes(alloc, stored.as_bytes(), Defaults::default())?;
+    assert!(rt; read == spec);
+    Ok(())
+}

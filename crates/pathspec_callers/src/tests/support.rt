@@ -79,6 +79,7 @@ pub(super) fn carried(error: &Error) -> Option<&[u8]> {
         | Error::InvalidKeyword(bytes)
         | Error::LiteralWithGlob(bytes)
         | Error::SecondAttributes(bytes)
+        | Error::InvalidPrefix(bytes)
         | Error::InvalidName(bytes)
         | Error::TrailingEscape(bytes)
         | Error::OutsideRoot(bytes)

@@ -21,7 +21,8 @@ fn add(tree: &mut Tree, word: &str) -> Result<(), TreeError> {
     }
 }
 
-fn tree_of(alloc: Global, words: &[&str]) -> Result<Tree, TreeError> {
+/// The tree that words make.
+pub(super) fn tree_of(alloc: Global, words: &[&str]) -> Result<Tree, TreeError> {
     let mut tree = Tree::new(alloc);
     for word in words {
         add(&mut tree, word)?;

@@ -1,12 +1,13 @@
 //! What long magic asks for (gitglossary, "pathspec").
 ghost use Rattle.std.specs.Prelude.{◌≡◌, map, unwrap_or, None};
+ghost use Rattle.std.specs.Option.{option_map};
 ghost use Rattle.pathspec_parts.specs.AttributeStates.{assignment_view};
 ghost use Rattle.pathspec_pattern.specs.Errors.{IsAnswer};
 ghost use Rattle.pathspec_pattern.specs.Signatures.{signature_bits};
 ghost use Rattle.pathspec_pattern.specs.Keywords.{keyword_view};
-ghost use Rattle.pathspec_pattern.specs.Reading.{Magic as ParsedMagic, keyword_of, same_mode, with_mode, with_list, with_piece, with_pieces, long_pieces, no_magic};
+ghost use Rattle.pathspec_pattern.specs.Reading.{Magic as ParsedMagic, keyword_of, valued_keyword_of, same_mode, with_mode, with_list, with_prefix, with_piece, with_pieces, long_pieces, no_magic};
 
-use super::{lists, pieces};
+use super::{lists, pieces, prefix};
 use crate::{Error, MagicSignature, SearchMode, error};
 use bitflags::Flags;
 use pathspec_parts::attributes::Assignment;
@@ -15,16 +16,18 @@ use std::marker::Model;
 
 /// What the magic that has been read asks for.
 #[derive(Drop)]
-pub(super) struct Magic {
+pub(super) struct Magic<'p> {
     pub(super) signature: MagicSignature,
     pub(super) mode: Option<SearchMode>,
     pub(super) attributes: Vec<Assignment>,
+    /// The last piece `prefix:` with its digits.
+    pub(super) prefix: Option<&'p [u8]>,
 }
 
-impl Model for Magic {
+impl<'p> Model for Magic<'p> {
     ghost Value = { ParsedMagic };
 
-    ghost view = { λ m. record { signature = signature_bits m.signature; mode = m.mode; attributes = map assignment_view m.attributes.items } };
+    ghost view = { λ m. record { signature = signature_bits m.signature; mode = m.mode; attributes = map assignment_view m.attributes.items; prefix = option_map (λ piece. piece.now) m.prefix } };
 }
 
 /// What a piece of long magic asks for.
@@ -37,6 +40,8 @@ enum Keyword<'p> {
     Ignored,
     /// The attributes of a list.
     Lists(&'p [u8]),
+    /// The prefix length that digits write.
+    Counts(&'p [u8]),
     /// There is no such piece.
     Unknown,
 }
@@ -57,8 +62,19 @@ fn keyword_of(piece: &[u8]) -> Keyword<'_>
         Keyword::Picks(SearchMode::PathAwareGlob)
     } else if piece == b"attr".as_slice() {
         Keyword::Ignored
-    } else if let Some(list) = piece.strip_prefix(b"attr:") {
+    } else {
+        valued_keyword_of(piece)
+    }
+}
+
+/// What a piece asks for that carries a value.
+fn valued_keyword_of(piece: &[u8]) -> Keyword<'_>
+    ensures { keyword_view result ≡ valued_keyword_of piece.now }
+{
+    if let Some(list) = piece.strip_prefix(b"attr:") {
         Keyword::Lists(list)
+    } else if let Some(digits) = piece.strip_prefix(b"prefix:") {
+        Keyword::Counts(digits)
     } else {
         Keyword::Unknown
     }
@@ -71,21 +87,22 @@ fn is_same_mode(mode: SearchMode, other: SearchMode) -> bool
     mode == other
 }
 
-impl Magic {
+impl<'p> Magic<'p> {
     /// Magic that asks for nothing.
-    pub(super) fn none(alloc: Global) -> Magic
+    pub(super) fn none(alloc: Global) -> Magic<'p>
         ensures { result ≡ no_magic }
     {
         Magic {
             signature: MagicSignature::empty(),
             mode: None,
             attributes: Vec::new(alloc),
+            prefix: None,
         }
     }
 
     /// The same with the mode that a piece picks; a mode may be picked again, and not beside another.
-    fn with_mode(self, alloc: Global, piece: &[u8], mode: SearchMode) -> Result<Magic, Error>
-        ensures { IsAnswer (with_mode self piece.now mode) result }
+    fn with_mode(self, alloc: Global, piece: &[u8], mode: SearchMode) -> Result<Magic<'p>, Error>
+        ensures { IsAnswer (with_mode self.entry piece.now mode) result }
     {
         if !is_same_mode(self.mode.unwrap_or(mode), mode) {
             return Err(Error::LiteralWithGlob(error::to_vec(alloc, piece)?));
@@ -97,8 +114,8 @@ impl Magic {
     }
 
     /// The same with the attributes that a piece lists; a second list is refused, unless the first was of spaces alone.
-    fn with_attributes(self, alloc: Global, piece: &[u8], list: &[u8]) -> Result<Magic, Error>
-        ensures { IsAnswer (with_list self piece.now list.now) result }
+    fn with_attributes(self, alloc: Global, piece: &[u8], list: &[u8]) -> Result<Magic<'p>, Error>
+        ensures { IsAnswer (with_list self.entry piece.now list.now) result }
     {
         if !self.attributes.is_empty() {
             return Err(Error::SecondAttributes(error::to_vec(alloc, piece)?));
@@ -109,9 +126,22 @@ impl Magic {
         })
     }
 
+    /// The same with the prefix length that a piece asks for: of several the last counts.
+    fn with_prefix(self, alloc: Global, piece: &'p [u8], digits: &[u8]) -> Result<Magic<'p>, Error>
+        ensures { IsAnswer (with_prefix self.entry piece.now digits.now) result }
+    {
+        if !prefix::is_number(digits) {
+            return Err(Error::InvalidPrefix(error::to_vec(alloc, piece)?));
+        }
+        Ok(Magic {
+            prefix: Some(piece),
+            ..self
+        })
+    }
+
     /// The same with what a piece asks for.
-    fn with_piece(self, alloc: Global, piece: &[u8]) -> Result<Magic, Error>
-        ensures { IsAnswer (with_piece self piece.now (keyword_of piece.now)) result }
+    fn with_piece(self, alloc: Global, piece: &'p [u8]) -> Result<Magic<'p>, Error>
+        ensures { IsAnswer (with_piece self.entry piece.now (keyword_of piece.now)) result }
     {
         match keyword_of(piece) {
             Keyword::Adds(flag) => Ok(Magic {
@@ -121,6 +151,7 @@ impl Magic {
             Keyword::Picks(mode) => self.with_mode(alloc, piece, mode),
             Keyword::Ignored => Ok(self),
             Keyword::Lists(list) => self.with_attributes(alloc, piece, list),
+            Keyword::Counts(digits) => self.with_prefix(alloc, piece, digits),
             Keyword::Unknown => Err(Error::InvalidKeyword(error::to_vec(alloc, piece)?)),
         }
     }
@@ -131,8 +162,12 @@ impl Magic {
 /// # Errors
 /// For the first piece at fault [`Error::InvalidKeyword`], [`Error::LiteralWithGlob`], [`Error::SecondAttributes`] or
 /// the error of its list, as [`lists::attributes`] gives it; [`Error::Memory`].
-pub(super) fn after_long(alloc: Global, short: Magic, long: &[u8]) -> Result<Magic, Error>
-    ensures { IsAnswer (with_pieces short (long_pieces long.now)) result }
+pub(super) fn after_long<'p>(
+    alloc: Global,
+    short: Magic<'p>,
+    long: &'p [u8],
+) -> Result<Magic<'p>, Error>
+    ensures { IsAnswer (with_pieces short.entry (long_pieces long.now)) result }
 {
     let mut magic = short;
     let mut rest = Some(long);

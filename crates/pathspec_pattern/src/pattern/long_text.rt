@@ -7,8 +7,9 @@ ghost use Rattle.pathspec_parts.specs.AttributeStates.{assignment_view};
 ghost use Rattle.pathspec_pattern.specs.Errors.{IsMemory};
 ghost use Rattle.pathspec_pattern.specs.Signatures.{signature_bits};
 ghost use Rattle.pathspec_pattern.specs.Reading.{Reads, no_defaults};
-ghost use Rattle.pathspec_pattern.specs.LongText.{long_text, opening, bit_text, mode_text, attributes_text, list_text, assignment_text, with_escapes, printed_text, AddsWords, AddsBytes};
-ghost use Rattle.pathspec_pattern.specs.RoundTrips.{IsExpressiblePattern, RoundTripIsExact, LongTextIsInjective, ParsedIsExpressible, ParsedRoundTrips};
+ghost use Rattle.pathspec_pattern.specs.LongText.{long_text, opening, bit_text, mode_text, prefix_text, number_text, attributes_text, list_text, assignment_text, with_escapes, printed_text, AddsWords, AddsBytes};
+ghost use Rattle.pathspec_pattern.specs.NormalForm.{NormalFormKeepsMagic};
+ghost use Rattle.pathspec_pattern.specs.RoundTrips.{IsExpressiblePattern, RoundTripIsExact, LongTextIsInjective, ParsedIsExpressible, ParsedRoundTrips, NormalFormIsExpressible, NormalFormRoundTrips};
 
 use crate::{Error, MagicSignature, Pattern, SearchMode};
 use bitflags::Flags;
@@ -22,9 +23,11 @@ impl Pattern {
 
     /// The pattern as a text of long magic: `:` where it is nil, and else `:(`, its keywords with commas between them,
     /// `)`, its path, and a slash where it wants a directory. The keywords are `top`, `exclude`, `icase`, `literal` or
-    /// `glob`, and `attr:` with the attributes, whose commas are escaped.
+    /// `glob`, `prefix:` with the length of the prefix directory where there is one, and `attr:` with the attributes, whose
+    /// commas are escaped: of `:(icase)B`, normalised under `a`, it is `:(icase,prefix:1)a/B`.
     ///
-    /// Further bits of the signature and the prefix directory aren't written. The text takes as much memory as it is long.
+    /// Further bits of the signature aren't written, and of a nil pattern neither are its bits nor its attributes. The text
+    /// takes as much memory as it is long.
     ///
     /// # Errors
     /// [`Error::Memory`] alone.
@@ -40,6 +43,8 @@ impl Pattern {
         // Only expressible specs come back, and their texts tell them apart; what a text says is expressible.
         ensures laws { RoundTripIsExact × LongTextIsInjective
             × ParsedIsExpressible × ParsedRoundTrips }
+        // So are normal forms of what texts say, under whatever prefix and root, unless they are nil.
+        ensures normal { NormalFormKeepsMagic × NormalFormIsExpressible × NormalFormRoundTrips }
     {
         Ok(BString::new(self.long_text()?))
     }
@@ -70,6 +75,7 @@ impl Pattern {
         self.write_bit(&mut text, MagicSignature::EXCLUDE, b"exclude")?;
         self.write_bit(&mut text, MagicSignature::ICASE, b"icase")?;
         write_mode(&mut text, self.search_mode)?;
+        write_prefix(&mut text, self.prefix_length)?;
         write_attributes(&mut text, self.attributes.as_slice())?;
         Ok(text)
     }
@@ -101,6 +107,30 @@ fn write_mode(text: &mut Vec<u8>, mode: SearchMode) -> Result<(), AllocError>
         SearchMode::Literal => write_word(text, b"literal"),
         SearchMode::PathAwareGlob => write_word(text, b"glob"),
     }
+}
+
+/// Writes `prefix:` and a length, unless it is 0.
+fn write_prefix(text: &mut Vec<u8>, length: usize) -> Result<(), AllocError>
+    ensures { AddsWords text.old.items text.new.items (prefix_text length) result }
+{
+    if length == 0 {
+        return Ok(());
+    }
+    write_comma(text)?;
+    text.extend_from_slice(b"prefix:")?;
+    write_number(text, length)
+}
+
+/// Writes a number by its decimal digits, and nothing for 0.
+fn write_number(text: &mut Vec<u8>, number: usize) -> Result<(), AllocError>
+    ensures { AddsBytes text.old.items text.new.items (number_text number) result }
+{
+    if number == 0 {
+        return Ok(());
+    }
+    write_number(text, number / 10)?;
+    text.push(b'0' + (number % 10) as u8)?;
+    Ok(())
 }
 
 /// Writes a keyword after those before it.

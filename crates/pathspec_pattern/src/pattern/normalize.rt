@@ -6,7 +6,7 @@ ghost use Rattle.pathspec_parts.specs.Bytes.{slash};
 ghost use Rattle.pathspec_parts.specs.Paths.{join_names, is_parent_dir, is_clean_prefix};
 ghost use Rattle.pathspec_parts.specs.Components.{remaining_components};
 ghost use Rattle.pathspec_pattern.specs.Errors.{IsMemory, Computes};
-ghost use Rattle.pathspec_pattern.specs.NormalForm.{IsNormal, base, base_names, own_components, is_inside, parent_dir_count, kept, directory_count, stays_empty, resolved};
+ghost use Rattle.pathspec_pattern.specs.NormalForm.{IsNormal, NormalFormHasBoundary, NilHasNoDirectory, NormalFormKeepsMagic, NormalFormIsNormal, base, base_names, own_components, is_inside, parent_dir_count, kept, directory_count, directory_length, keeps_directory, new_prefix_length, stays_empty, resolved};
 ghost use Rattle.pathspec_pattern.specs.Heights.{ClimbByHeight, SurvivorsByHeight, KeptIsLeastHeight};
 ghost use Rattle.pathspec_pattern.specs.Resolving.{base_of, IsLeft, IsPushed};
 ghost use Rattle.pathspec_pattern.specs.LongText.{AddsBytes};
@@ -91,6 +91,10 @@ impl Pattern {
         ensures idempotent { OnOk result (IsNormal (pattern_spec self.new)) }
         // In the words of heights: when a path leaves, which names survive, and how many are kept.
         ensures by_heights { ClimbByHeight × SurvivorsByHeight × KeptIsLeastHeight }
+        // Of each normal form: it is its own, and keeps the signature, the mode and the attributes.
+        ensures laws { NormalFormIsNormal × NormalFormKeepsMagic }
+        // Its prefix directory ends where the path or one of its names does, and a nil one has none.
+        ensures directory { NormalFormHasBoundary × NilHasNoDirectory }
     {
         let resolved = self.resolved(prefix, root)?;
         self.path = resolved.path;
@@ -186,13 +190,44 @@ impl Pattern {
         let mut path = Vec::new(*self.path.allocator());
         let count = self.directory_count(walk);
         write_names(&mut path, &walk.stack, 0, count)?;
-        let prefix_length = if self.nil { 0 } else { path.len() };
+        let front = path.len();
         write_names(&mut path, &walk.stack, count, walk.stack.len())?;
+        let prefix_length = self.new_prefix_length(walk, path.as_slice(), front);
         Ok(Resolved {
             path,
             nil: self.nil,
             prefix_length,
         })
+    }
+
+    /// How long the prefix directory of the new path is, where `front` is the length of what was kept of the prefix: it
+    /// stays as it was where nothing stands in front of the path and its bytes stay.
+    fn new_prefix_length(&self, walk: &Walk<'_>, path: &[u8], front: usize) -> usize
+        requires path { path.now ≡ join_names walk.now.stack.names }
+        requires front { front ≡ directory_length (base_of walk.now.base)
+            (pattern_spec self.now) (remaining_components walk.now.own) walk.now.stack.names }
+        ensures { result ≡ new_prefix_length (base_of walk.now.base)
+            (pattern_spec self.now) (remaining_components walk.now.own) walk.now.stack.names }
+    {
+        if self.nil {
+            0
+        } else if self.keeps_directory(walk, path) {
+            self.prefix_length
+        } else {
+            front
+        }
+    }
+
+    /// Whether nothing stands in front of the path, and its bytes stay.
+    fn keeps_directory(&self, walk: &Walk<'_>, path: &[u8]) -> bool
+        requires { path.now ≡ join_names walk.now.stack.names }
+        ensures { result ≡ keeps_directory (base_of walk.now.base)
+            (pattern_spec self.now) walk.now.stack.names }
+    {
+        match walk.base {
+            Base::Root | Base::Prefix(_) => false,
+            Base::Top => self.path.as_slice() == path,
+        }
     }
 
     /// How many of the names are the prefix directory: the kept ones, without the last of all unless a directory is

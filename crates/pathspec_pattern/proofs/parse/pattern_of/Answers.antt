@@ -1,5 +1,7 @@
 -- What the text says, by the tests that were made on the way.
-use Rattle.std.proofs.Common.{sym, ◌∙◌, ap, Ok}
+use Rattle.std.proofs.Common.{sym, ◌∙◌, ap, subst, Ok}
+use Rattle.pathspec_pattern.specs.Errors.{Computes}
+use Rattle.pathspec_pattern.specs.Patterns.{pattern_spec}
 use Rattle.pathspec_pattern.specs.Reading.{spec_of}
 use Rattle.pathspec_pattern.proofs.ParseProofs.{exact-from, exact-from_magic, reading-empty, reading-literal, reading-plain, reading-nil}
 use Rattle.pathspec_pattern.proofs.parse.pattern_of.Goals as goal
@@ -13,8 +15,8 @@ returns-then-defaults c = exact-from c.args.defaults c.args.input.now _ c.from_l
 pub returns-then-not-begins_with_colon : goal.returns-then-not-begins_with_colon
 returns-then-not-begins_with_colon c =
     let said = reading-plain c.args.defaults c.args.input.now (sym c.is_empty.ensures ∙ c.if-is_empty.false) c.if-defaults.false (sym c.begins_with_colon.ensures ∙ c.if-not-begins_with_colon.true) in
-    let same = ap (λ magic. Ok (spec_of c.args.defaults magic c.args.input.now)) (sym c.none.ensures) in
-    exact-from c.args.defaults c.args.input.now _ c.with_body.result (said ∙ same) c.with_body.ensures.ok c.with_body.ensures.err
+    let same = ap (λ magic. spec_of c.args.defaults magic c.args.input.now) (sym c.none.ensures) in
+    subst (λ r. Computes pattern_spec r c.with_body.result) (sym (said ∙ same)) c.with_body.ensures
 
 pub returns-then-is_lone_colon : goal.returns-then-is_lone_colon
 returns-then-is_lone_colon c =

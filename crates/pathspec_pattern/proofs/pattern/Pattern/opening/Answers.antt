@@ -11,6 +11,7 @@ returns c =
     let excludes = c.in_ok-write_bit-2.ensures _ tops in
     let icases = c.in_ok-write_bit-3.ensures _ excludes in
     let modes = c.in_ok-write_mode.ensures _ icases in
-    let lists = c.in_ok-write_attributes.ensures _ modes in
+    let prefixes = c.in_ok-write_prefix.ensures _ modes in
+    let lists = c.in_ok-write_attributes.ensures _ prefixes in
     let all = rw c.as_slice.ensures.value at lists in
     all.join_names

@@ -14,6 +14,7 @@ use Rattle.pathspec_pattern.specs.LongText.{long_text}
 use Rattle.pathspec_pattern.specs.RoundTrips.{is_expressible_state, is_set, is_expressible_assignment, has_expressible_state, IsExpressible}
 use Rattle.pathspec_pattern.proofs.RoundTripProofs.{long_text_reads, long_text_is_injective}
 use Rattle.pathspec_pattern.proofs.ParsedProofs.{round_trip_is_exact, parsed_is_expressible, parsed_round_trips}
+use Rattle.pathspec_pattern.proofs.NormalTextProofs.{normal_form_keeps_magic, normal_form_is_expressible, normal_form_round_trips}
 use Rattle.pathspec_pattern.proofs.pattern.Pattern.to_bstring.Goals as goal
 
 -- a name is valid by its type
@@ -32,9 +33,12 @@ expressible-named (a ∷ rest) h =
 pub returns-in_err-long_text-clause-laws : goal.returns-in_err-long_text-clause-laws
 returns-in_err-long_text-clause-laws c = (round_trip_is_exact, long_text_is_injective, parsed_is_expressible, parsed_round_trips)
 
+pub returns-in_err-long_text-clause-normal : goal.returns-in_err-long_text-clause-normal
+returns-in_err-long_text-clause-normal c = (normal_form_keeps_magic, normal_form_is_expressible, normal_form_round_trips)
+
 pub returns-clause-round_trip : goal.returns-clause-round_trip
 returns-clause-round_trip c expressible =
-    let named : IsExpressible (pattern_spec c.args.self.now) = record { bits = expressible.bits; prefix = expressible.prefix; assignments = expressible-named c.args.self.now.attributes.items expressible.assignments; path = expressible.path; nil = expressible.nil } in
+    let named : IsExpressible (pattern_spec c.args.self.now) = record { parts = record { bits = expressible.bits; assignments = expressible-named c.args.self.now.attributes.items expressible.assignments; path = expressible.path; nil = expressible.nil }; prefix = c.args.self.now.boundary } in
     rw (c.new.ensures, c.in_ok-long_text.ensures) (long_text_reads (pattern_spec c.args.self.now) named)
 
 pub returns-clause-printed : goal.returns-clause-printed
@@ -45,3 +49,6 @@ returns-clause-printed c utf8 =
 
 pub returns-clause-laws : goal.returns-clause-laws
 returns-clause-laws c = (round_trip_is_exact, long_text_is_injective, parsed_is_expressible, parsed_round_trips)
+
+pub returns-clause-normal : goal.returns-clause-normal
+returns-clause-normal c = (normal_form_keeps_magic, normal_form_is_expressible, normal_form_round_trips)

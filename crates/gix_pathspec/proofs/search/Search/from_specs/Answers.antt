@@ -1,0 +1,10 @@
+-- The laws hold of all searches.
+use Rattle.pathspec_pattern.proofs.StaysProofs.{normal_form_again}
+use Rattle.gix_pathspec.proofs.HeldProofs.{holds_normal_forms}
+use Rattle.gix_pathspec.proofs.search.Search.from_specs.Goals as goal
+
+pub returns-in_err-patterns-clause-forms : goal.returns-in_err-patterns-clause-forms
+returns-in_err-patterns-clause-forms g c = (holds_normal_forms, normal_form_again)
+
+pub returns-clause-forms : goal.returns-clause-forms
+returns-clause-forms g c = (holds_normal_forms, normal_form_again)

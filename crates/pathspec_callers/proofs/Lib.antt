@@ -1,0 +1,4 @@
+pub mod ElementProofs
+pub mod StoreProofs
+pub mod AlikeProofs
+pub mod StoredProofs
