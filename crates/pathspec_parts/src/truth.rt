@@ -1,6 +1,6 @@
 //! Words of truth, after git's (git help config, "Values"); `docs/DIFFERENCES.md` has the words that git takes otherwise.
-ghost use Rattle.std.specs.Prelude.{◌≡◌, bytes_eq, drop, min, IsTrue, ◌-◌, ◌^◌};
-ghost use Rattle.std.specs.List.{list_all, take_while, prefix_len};
+ghost use Rattle.std.specs.Prelude.{◌≡◌, bytes_eq, drop, min, ◌-◌, ◌^◌};
+ghost use Rattle.std.specs.List.{take_while, prefix_len};
 ghost use Rattle.std.specs.Char.{is_ascii_digit};
 ghost use Rattle.std.specs.Str.{str_to_ascii_lowercase};
 ghost use Rattle.pathspec_parts.specs.Truth.{truth_of, IsTruth, is_yes, is_no, is_unit, number_says, signed_says, decimal_value, fits_64};
@@ -72,7 +72,7 @@ fn number_truth(negative: bool, number: &[u8]) -> Option<bool>
     ensures { result ≡ number_says negative (str_to_ascii_lowercase number.now) }
 {
     let (digits, unit) = split_digits(number);
-    let value = value_of(digits);
+    let value = decimal_value(digits);
     if digits.is_empty() || !is_unit(unit) || !fits(negative, value) {
         return None;
     }
@@ -101,16 +101,18 @@ fn is_unit(unit: &[u8]) -> bool
     matches!(unit, [] | [b'k' | b'm' | b'g' | b'K' | b'M' | b'G'])
 }
 
-/// The number that digits write, or the greatest of 64 bits where it lies above that.
-fn value_of(digits: &[u8]) -> u64
-    requires { IsTrue (list_all is_ascii_digit digits.now) }
+/// The number that decimal digits write, or `u64::MAX` where it lies above that. Of another byte counts how far it stands
+/// above `0` in ASCII, or nothing.
+///
+/// It looks at each byte once and takes no memory.
+pub fn decimal_value(digits: &[u8]) -> u64
     ensures { result ≡ min (decimal_value digits.now) (2 ^ 64 - 1) }
 {
     let mut value: u64 = 0;
     for digit in digits {
         value = value
             .saturating_mul(10)
-            .saturating_add(u64::from(digit - b'0'));
+            .saturating_add(u64::from(digit.saturating_sub(b'0')));
     }
     value
 }

@@ -1,10 +1,9 @@
 -- The prefix length of a normal form is a boundary of its path, and the test of boundaries is the relation.
-use Rattle.std.proofs.Common.{◌≡◌, ℕ, zero, suc, Bool, true, false, ◌||◌, cond, refl, sym, ◌∙◌, ap, subst, List, [], ◌∷◌, ◌++◌, length, take, drop, append_assoc, ◌==◌, inl, inr, ◌<◌, ◌≤◌, Option, Some, None, Ok, arith, length-append}
-use Rattle.std.proofs.lemmas.Bool.{cases_Bool, eqb-true, eq-eqb, or_right, or_cases, false_from_ne_true, both_ways}
+use Rattle.std.proofs.Common.{◌≡◌, ℕ, zero, suc, Bool, true, false, ◌||◌, cond, refl, sym, ◌∙◌, ap, subst, List, [], ◌∷◌, ◌++◌, length, take, drop, append_assoc, ◌==◌, inl, inr, Option, Some, None, Ok}
+use Rattle.std.proofs.lemmas.Bool.{cases_Bool, eqb-true, eq-eqb, or_right, or_cases}
 use Rattle.std.proofs.lemmas.List.{take-append-drop}
 use Rattle.std.proofs.lemmas.Slice.Eq.{bytes_eq-Decides}
 use Rattle.std.proofs.Math.Seq.{drop-append_seam}
-use Rattle.std.specs.Prelude.{min}
 use Rattle.pathspec_parts.specs.Bytes.{slash, first_is}
 use Rattle.pathspec_parts.specs.Paths.{join_names, is_slash, IsAtOrBelow}
 use Rattle.pathspec_pattern.specs.Specs.{Spec, IsBoundary, is_boundary, has_boundary, BoundaryIsExact}
@@ -105,24 +104,3 @@ resolve_boundary b s n (Some own) h e = elim (cases_Bool (is_inside b own)) [
 pub normal_form_has_boundary : NormalFormHasBoundary
 unfolding normal_form
 normal_form_has_boundary prefix root s n h e = resolve_boundary (base prefix s) s n (own_components (base prefix s) root s.path) h e
-
--- ---- numbers that are held at a greatest one
-
-relation_le : (path : List ℕ) (n : ℕ) → IsBoundary path n → n ≤ length path
-relation_le path n (inl z) = omega (arith, z)
-relation_le path n (inr (front, e, inl same)) = let l = ap length same in omega (arith, e, l)
-relation_le path n (inr (front, e, inr (rest, below))) = let l = ap length below in let m = length-append front (slash ∷ rest) in omega (arith, e, l, m)
-
--- a boundary is no more than the path's length
-pub boundary_le : (path : List ℕ) (n : ℕ) → is_boundary path n ≡ true → n ≤ length path
-boundary_le path n h = relation_le path n (told path n h)
-
--- So a number above the greatest is no boundary, and neither is the greatest in its place.
-pub held_boundary : (path : List ℕ) (m v n : ℕ) → length path < m → n ≡ min v m → is_boundary path n ≡ true → n ≡ v
-held_boundary path m v n l e h = let k = boundary_le path n h in omega (arith, l, e, k)
-
-pub held_outside : (path : List ℕ) (m v n : ℕ) → length path < m → n ≡ min v m → is_boundary path n ≡ false → is_boundary path v ≡ false
-held_outside path m v n l e h = false_from_ne_true (is_boundary path v) (λ t.
-    let k = boundary_le path v t in
-    let same : v ≡ n = omega (arith, l, e, k) in
-    both_ways (is_boundary path n) h (subst (λ x. is_boundary path x ≡ true) same t))

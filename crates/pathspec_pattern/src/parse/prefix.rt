@@ -1,14 +1,14 @@
 //! The prefix length that long magic asks for by `prefix:` and decimal digits.
-ghost use Rattle.std.specs.Prelude.{◌≡◌, true, false, IfNone, IfSome, drop, min, ◌-◌, ◌^◌};
+ghost use Rattle.std.specs.Prelude.{◌≡◌, true, false, IfNone, IfSome, drop};
 ghost use Rattle.std.specs.List.{list_all};
 ghost use Rattle.std.specs.Char.{is_ascii_digit};
 ghost use Rattle.std.specs.Option.{option_map};
-ghost use Rattle.pathspec_parts.specs.Truth.{decimal_value};
 ghost use Rattle.pathspec_pattern.specs.Errors.{IsAnswer};
 ghost use Rattle.pathspec_pattern.specs.Specs.{is_boundary};
 ghost use Rattle.pathspec_pattern.specs.Reading.{is_number, prefix_length_of, piece_number};
 
 use crate::{Error, error};
+use pathspec_parts::truth::decimal_value;
 use std::alloc::Global;
 
 /// Whether the text is a decimal digit or more.
@@ -45,7 +45,7 @@ fn boundary_of(path: &[u8], piece: &[u8]) -> Option<usize>
     ensures some { IfSome result (λ length. (length ≡ piece_number piece.now)
         × (is_boundary path.now (piece_number piece.now) ≡ true)) }
 {
-    let length = number_of(digits_of(piece));
+    let length = decimal_value(digits_of(piece)) as usize;
     if !is_boundary(path, length) {
         return None;
     }
@@ -65,17 +65,4 @@ fn is_boundary(path: &[u8], length: usize) -> bool
     ensures { result ≡ is_boundary path.now length }
 {
     length == 0 || length == path.len() || path.get(length) == Some(&b'/')
-}
-
-/// The number that digits write, or the greatest of 64 bits where it lies above that.
-fn number_of(digits: &[u8]) -> usize
-    ensures { result ≡ min (decimal_value digits.now) (2 ^ 64 - 1) }
-{
-    let mut value: usize = 0;
-    for digit in digits {
-        value = value
-            .saturating_mul(10)
-            .saturating_add(usize::from(digit.saturating_sub(b'0')));
-    }
-    value
 }

@@ -1,10 +1,9 @@
 use Rattle.std.proofs.Common.{◌≡◌, ℕ, ◌-◌, ◌^◌, Bool, true, false, List, [], ◌∷◌, length, refl, ◌==◌, arith}
 use Rattle.std.specs.Prelude.{min}
-use Rattle.std.specs.Char.{is_ascii_digit}
 use Rattle.std.proofs.lemmas.Bool.Decides.{nat_tests}
 use Rattle.pathspec_glob.specs.Bytes.{is_empty}
 use Rattle.pathspec_parts.specs.Truth.{fits_64, decimal_value}
-use Rattle.pathspec_parts.proofs.TruthProofs.{list_all-take_while, number_says-lower}
+use Rattle.pathspec_parts.proofs.TruthProofs.{number_says-lower}
 use Rattle.pathspec_parts.proofs.truth.number_truth.Goals as goal
 use Rattle.pathspec_parts.proofs.truth.number_truth.Goals.{then-is_empty-via-then-is_empty, then-is_empty-via-else-is_empty+then-not-is_unit, then-is_empty-via-else-is_empty+else-not-is_unit+then-not-fits}
 
@@ -21,9 +20,6 @@ fits-held false n = grind (arith, nat_tests)
 -- and it is 0 where the number is
 zero-held : (n : ℕ) → (min n (2 ^ 64 - 1) == 0) ≡ (n == 0)
 zero-held n = grind (arith, nat_tests)
-
-pub value_of-value-requires : goal.value_of-value-requires
-value_of-value-requires c = rw c.split_digits.ensures.digits (list_all-take_while is_ascii_digit c.args.number.now)
 
 pub returns-then-is_empty : goal.returns-then-is_empty
 returns-then-is_empty c =

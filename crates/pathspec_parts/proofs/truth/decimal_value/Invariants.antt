@@ -2,7 +2,7 @@
 use Rattle.std.proofs.Common.{◌≡◌, ◌-◌, ◌^◌, take}
 use Rattle.std.specs.Prelude.{min}
 use Rattle.pathspec_parts.specs.Truth.{decimal_value}
-use Rattle.pathspec_pattern.proofs.parse.prefix.number_of.Given as goal
+use Rattle.pathspec_parts.proofs.truth.decimal_value.Given as goal
 
 abbrev pub invariant-loop-digit : goal.invariant-loop-digit
 invariant-loop-digit l = l.value ≡ min (decimal_value (take l.digit-index l.digits)) (2 ^ 64 - 1)

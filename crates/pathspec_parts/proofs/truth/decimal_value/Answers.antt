@@ -1,8 +1,8 @@
-use Rattle.std.proofs.Common.{◌≡◌, ℕ, ◌<◌, ◌+◌, ◌-◌, ◌*◌, List, length, get_or, take, arith}
+use Rattle.std.proofs.Common.{◌≡◌, ◌∙◌, ℕ, ◌<◌, ◌+◌, ◌-◌, ◌*◌, List, length, get_or, take, arith}
 use Rattle.std.specs.Prelude.{min}
 use Rattle.std.proofs.lemmas.List.Sums.{fold_more}
 use Rattle.pathspec_parts.specs.Truth.{decimal_value}
-use Rattle.pathspec_parts.proofs.truth.value_of.Goals as goal
+use Rattle.pathspec_parts.proofs.truth.decimal_value.Goals as goal
 
 -- a step that is held at m goes on from a value that is held there
 held_step : (v d m : ℕ) → min (min (min v m * 10) m + d) m ≡ min (v * 10 + d) m
@@ -18,4 +18,4 @@ value_more digits i m v a b r h ve ae be re =
 
 pub loop-digit-preserved : goal.loop-digit-preserved
 loop-digit-preserved c =
-    value_more c.args.digits.now c.loop-digit.digit-index _ c.loop-digit.value c.saturating_mul.result c.from.result _ (omega arith) c.loop-digit.invariant c.saturating_mul.ensures c.from.ensures c.saturating_add-value.ensures
+    value_more c.args.digits.now c.loop-digit.digit-index _ c.loop-digit.value c.saturating_mul.result c.from.result _ (omega arith) c.loop-digit.invariant c.saturating_mul.ensures (c.from.ensures ∙ c.saturating_sub.ensures) c.saturating_add-value.ensures
