@@ -32,29 +32,33 @@ tells-on (told.Spec number error) P Q f h = (h.0, h.1, f (number, h.0) h.2)
 tells-on told.Memory P Q f h = h
 
 -- the error for a refusal tells its fault
-pub tells-refused : (number : ℕ) (error : Error) (e : BuildError) (prefix root : List ℕ) (s : Spec) → IsMemoryOr error (λ fault. normal_form prefix root s ≡ Err fault) → IsErrorAt number error e
-    → TellsFault e (λ fault. numbered_normal_form number prefix root s ≡ Err fault)
-tells-refused number error e prefix root s h m = by_fault (fault_of error) refl h m
+pub tells-refused : {A : Type 0} (number : ℕ) (error : Error) (e : BuildError) (x : Result A Fault) → IsMemoryOr error (λ fault. x ≡ Err fault) → IsErrorAt number error e → TellsFault e (λ fault. at_number number x ≡ Err fault)
+tells-refused number error e x h m = by_fault (fault_of error) refl h m
   where
-    by_fault : (o : Option Fault) → fault_of error ≡ o → IfSome o (λ fault. normal_form prefix root s ≡ Err fault) → MatchOption o (e ≡ told.Memory) (λ fault. e ≡ told.Spec number error)
-        → TellsFault e (λ fault. numbered_normal_form number prefix root s ≡ Err fault)
+    by_fault : (o : Option Fault) → fault_of error ≡ o → IfSome o (λ fault. x ≡ Err fault) → MatchOption o (e ≡ told.Memory) (λ fault. e ≡ told.Spec number error) → TellsFault e (λ fault. at_number number x ≡ Err fault)
     by_fault None q h m = rw m tt
     by_fault (Some fault) q h m = rw m (fault, q, rw h refl)
 
+-- ---- one after the other
+
+-- values and those that are still to come
+abbrev pub onto : {B E : Type 0} → List B → Result (List B) E → Result (List B) E
+onto ys (Ok zs) = Ok (ys ++ zs)
+onto ys (Err e) = Err e
+
+pub onto-snoc : {B E : Type 0} (ys : List B) (y : B) (r : Result (List B) E) → onto ys (r >>= λ zs. Ok (y ∷ zs)) ≡ onto (ys ++ y ∷ []) r
+onto-snoc ys y (Ok zs) = ap Ok (sym (append_assoc ys (y ∷ []) zs))
+onto-snoc ys y (Err e) = refl
+
 -- ---- numbers
-
--- specs and those that are still to come
-abbrev pub onto : List Numbered → Result (List Numbered) (ℕ × Fault) → Result (List Numbered) (ℕ × Fault)
-onto ns (Ok others) = Ok (ns ++ others)
-onto ns (Err e) = Err e
-
-onto-snoc : (ns : List Numbered) (n : Numbered) (r : Result (List Numbered) (ℕ × Fault)) → onto ns (r >>= λ others. Ok (n ∷ others)) ≡ onto (ns ++ n ∷ []) r
-onto-snoc ns n (Ok others) = ap Ok (sym (append_assoc ns (n ∷ []) others))
-onto-snoc ns n (Err e) = refl
 
 -- a spec with its number
 abbrev numbered : ℕ → Spec → Numbered
 numbered number s = record { number = number; spec = s }
+
+-- a spec without a normal form has no number
+pub one-refused : (number : ℕ) (r : Result Spec (ℕ × Fault)) (fault : ℕ × Fault) → r ≡ Err fault → (r >>= λ s. Ok (numbered number s)) ≡ Err fault
+one-refused number r fault h = rw h refl
 
 one-more : (number : ℕ) (r : Result Spec (ℕ × Fault)) (ns : List Numbered) (others : Result (List Numbered) (ℕ × Fault)) (n : Numbered) → (r >>= λ s. Ok (numbered number s)) ≡ Ok n
     → onto ns (r >>= λ s. others >>= λ ms. Ok (numbered number s ∷ ms)) ≡ onto (ns ++ n ∷ []) others

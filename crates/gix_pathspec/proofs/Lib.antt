@@ -1,4 +1,6 @@
 pub mod BuildingProofs
+pub mod LineProofs
+mod LineRows
 pub mod MatchingProofs
 pub mod BeginsProofs
 pub mod PrefixProofs

@@ -32,3 +32,4 @@ pub mod Found
 pub mod Effort
 pub mod Building
 pub mod Reach
+pub mod Lines

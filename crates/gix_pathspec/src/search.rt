@@ -3,6 +3,7 @@ pub(crate) mod counted;
 mod directories;
 mod found;
 mod init;
+mod lines;
 pub mod matching;
 mod patterns;
 mod pruning;

@@ -1,3 +1,4 @@
 pub mod NormalForms
 pub mod Selections
 pub mod Stores
+pub mod Reports

@@ -4,6 +4,7 @@
 pub mod attributes;
 pub mod glob;
 pub mod heads;
+pub mod lines;
 pub mod search;
 pub mod select;
 pub mod spec;

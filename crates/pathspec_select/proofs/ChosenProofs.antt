@@ -3,11 +3,12 @@ use Rattle.std.proofs.Common.{ℕ, Bool, inl, inr, List, [], ◌∷◌, Option, 
 use Rattle.std.proofs.lemmas.Bool.{cases_Bool}
 use Rattle.std.specs.Prelude.{OnOk}
 use Rattle.pathspec_parts.specs.Attributes.{Table}
-use Rattle.gix_pathspec.specs.Specs.{Spec}
+use Rattle.gix_pathspec.specs.Search.{Numbered, specs_of}
 use Rattle.gix_pathspec.specs.Matching.{is_chosen}
 use Rattle.gix_pathspec.proofs.ChosenProofs.{chosen_is_test}
 use Rattle.pathspec_select.specs.declared.refusal.Refusal.{Refusal}
 use Rattle.pathspec_select.specs.Listing.{records, output, record_path, record_is_dir}
+use Rattle.pathspec_select.specs.Requests.{JobSpecs}
 use Rattle.pathspec_select.specs.Program.{EndsJob}
 use Rattle.pathspec_select.specs.Choice.{IsSelection, IsChosenRecord, WritesRecords}
 use Rattle.pathspec_select.specs.Choice.IsSelection.{none, keep, drop}
@@ -21,10 +22,12 @@ filter-IsSelection P test same (x ∷ xs) = elim (cases_Bool (test x)) [
 ]
 
 -- a full output has the chosen records
-pub writes_records : {A : Type 0} (table : Table) (specs : List Spec) (separator : ℕ) (input old new : Option (List ℕ)) (result : Result A Refusal) → EndsJob table specs separator input old new result → OnOk result (WritesRecords table specs separator input old new)
+pub writes_records : {A : Type 0} (table : Table) (specs : JobSpecs (List Numbered)) (separator : ℕ) (input old new : Option (List ℕ)) (result : Result A Refusal) → EndsJob table specs separator input old new result → OnOk result (WritesRecords table specs separator input old new)
 unfolding output
 writes_records table specs separator input old new (Err e) h = tt
 writes_records table specs separator None old new (Ok done) h = tt
-writes_records table specs separator (Some bytes) old new (Ok done) h =
-    let test : List ℕ → Bool = λ r. is_chosen table specs (record_path r) (record_is_dir r) in
-    (filter test (records separator bytes), filter-IsSelection (IsChosenRecord table specs) test (λ r. chosen_is_test table specs (record_path r) (record_is_dir r)) (records separator bytes), h.1)
+writes_records table specs separator (Some bytes) old new (Ok done) (parts, e, (good, appended)) =
+    let given = specs_of parts.specs in
+    let test : List ℕ → Bool = λ r. is_chosen table given (record_path r) (record_is_dir r) in
+    let rs = records separator parts.listing in
+    (parts, e, (filter test rs, filter-IsSelection (IsChosenRecord table given) test (λ r. chosen_is_test table given (record_path r) (record_is_dir r)) rs, appended))

@@ -11,7 +11,7 @@ use Rattle.pathspec_pattern.specs.declared.defaults.Defaults.{Defaults}
 use Rattle.pathspec_pattern.specs.Environment.{Words, flag_of, Variable, Asker, Asks, asked_after, asked_globs, asked_variables}
 use Rattle.pathspec_select.specs.declared.refusal.Refusal.{Refusal}
 use Rattle.pathspec_select.specs.declared.refusal.Refusal.TheVariants as refusal
-use Rattle.pathspec_select.specs.Refusals.{TellsWordFault, RefusesEnvironment}
+use Rattle.pathspec_select.specs.Refusals.{TellsRequestFault, RefusesEnvironment}
 use Rattle.pathspec_select.specs.Environment.{word_of}
 use Rattle.pathspec_select.specs.Requests.{environment_result}
 
@@ -55,10 +55,10 @@ pub asks_environment : {F : Type 0} (environment words : Words) (g : Asker F) (f
 asks_environment environment words g f last answers h = same_variables environment words (asked_words environment g f answers (asked_variables words) last h)
 
 -- the refusal for an error of the environment tells its fault
-pub tells-environment : (e : Error) (r : Refusal) (said own : Result Defaults Fault) → said ≡ own → IsErrAnd said (Tells e) → RefusesEnvironment e r → TellsWordFault r (λ fault. environment_result own ≡ Err fault)
+pub tells-environment : (e : Error) (r : Refusal) (said own : Result Defaults Fault) → said ≡ own → IsErrAnd said (Tells e) → RefusesEnvironment e r → TellsRequestFault r (λ fault. environment_result own ≡ Err fault)
 tells-environment e r (Ok defaults) own same h m = absurd h
 tells-environment e r (Err fault) own same h m = by_fault (fault_of e) refl h m
   where
-    by_fault : (o : Option Fault) → fault_of e ≡ o → MatchOption o (IsTrue (carries_text fault)) (λ told_fault. told_fault ≡ fault) → MatchOption o (r ≡ refusal.Memory) (λ fault. r ≡ refusal.Environment e) → TellsWordFault r (λ fault. environment_result own ≡ Err fault)
+    by_fault : (o : Option Fault) → fault_of e ≡ o → MatchOption o (IsTrue (carries_text fault)) (λ told_fault. told_fault ≡ fault) → MatchOption o (r ≡ refusal.Memory) (λ fault. r ≡ refusal.Environment e) → TellsRequestFault r (λ fault. environment_result own ≡ Err fault)
     by_fault None q h m = rw m tt
     by_fault (Some f) q h m = rw m (f, q, rw (← same, h) refl)

@@ -3,6 +3,8 @@ pub mod WordProofs
 pub mod OptionProofs
 mod OptionRows
 mod WordRows
+pub mod InputProofs
+mod InputRows
 pub mod RowProofs
 pub mod EnvironmentProofs
 pub mod VariableProofs

@@ -1,27 +1,33 @@
 -- Options read one after the other.
 use Rattle.std.proofs.Common.{◌≡◌, refl, ◌∙◌, sym, ap, true, false, List, ℕ, Ok, Err, Result, Bor}
 use Rattle.pathspec_parts.specs.Paths.{is_clean_prefix}
-use Rattle.pathspec_select.specs.WordFaults.{WordFault}
+use Rattle.pathspec_select.specs.RequestFaults.{RequestFault}
 use Rattle.pathspec_select.specs.declared.options.Options.{Options as Shown}
-use Rattle.pathspec_select.specs.Options.{Options, no_options, prefix_of, with_clean_prefix, options_of}
+use Rattle.pathspec_select.specs.Options.{Options, no_options, prefix_of, with_clean_prefix, with_specs_once, options_of}
 use Rattle.pathspec_select.specs.OptionWords.{options_from, HasSettings, ShowsOptions}
 
 -- The options so far and the words that are left give what all words ask for.
-pub record ReadTo (all : Result Options WordFault) (shown : Shown) (left : List (List ℕ)) : Type 0 where
+pub record ReadTo (all : Result Options RequestFault) (shown : Shown) (left : List (List ℕ)) : Type 0 where
   pub options : Options
   pub so_far : options_from options left ≡ all
   pub settings : HasSettings shown options
 
 module _ (words : List (List ℕ)) where
   -- the options are at fault before the prefix is looked at
-  pub options-fault : (fault : WordFault) → options_from no_options words ≡ Err fault → options_of words ≡ Err fault
+  pub options-fault : (fault : RequestFault) → options_from no_options words ≡ Err fault → options_of words ≡ Err fault
   unfolding options_of
   options-fault fault e = rw e refl
 
-  -- they aren't
-  pub options-read : (options : Options) → options_from no_options words ≡ Ok options → options_of words ≡ with_clean_prefix options
-  unfolding options_of
-  options-read options e = rw e refl
+  module _ (options : Options) (e : options_from no_options words ≡ Ok options) where
+    -- the prefix isn't clean
+    pub options-unclean : (fault : RequestFault) → with_clean_prefix options ≡ Err fault → options_of words ≡ Err fault
+    unfolding options_of
+    options-unclean fault c = rw (e, c) refl
+
+    -- it is
+    pub options-read : (clean : Options) → with_clean_prefix options ≡ Ok clean → options_of words ≡ with_specs_once clean
+    unfolding options_of
+    options-read clean c = rw (e, c) refl
 
 module _ (shown : Shown) (options : Options) (h : ShowsOptions shown options) (prefix : Bor (List ℕ)) (named : prefix.now ≡ prefix_of shown.prefix.now) where
   same_prefix : prefix_of options.prefix ≡ prefix.now
@@ -30,8 +36,8 @@ module _ (shown : Shown) (options : Options) (h : ShowsOptions shown options) (p
   -- the prefix is clean
   pub cleaned : is_clean_prefix prefix.now ≡ true → (clean : Options) × (with_clean_prefix options ≡ Ok clean) × ShowsOptions (record shown { prefix = prefix }) clean
   cleaned c =
-      (record options { prefix = prefix_of options.prefix }, rw (same_prefix, c) refl, record { settings = record { prefix = same_prefix; root = h.settings.root; separator = h.settings.separator }; texts = h.texts })
+      (record options { prefix = prefix_of options.prefix }, rw (same_prefix, c) refl, record { settings = record { prefix = same_prefix; root = h.settings.root; separator = h.settings.separator; source = h.settings.source }; texts = h.texts })
 
   -- it isn't
-  pub unclean : is_clean_prefix prefix.now ≡ false → with_clean_prefix options ≡ Err WordFault.Usage
+  pub unclean : is_clean_prefix prefix.now ≡ false → with_clean_prefix options ≡ Err RequestFault.Usage
   unclean c = rw (same_prefix, c) refl

@@ -1,17 +1,17 @@
 -- Rows on what words ask for.
-use Rattle.std.proofs.Common.{◌≡◌, ℕ, refl, List, [], ◌∷◌, Result, Ok, Err}
+use Rattle.std.proofs.Common.{◌≡◌, ℕ, refl, List, [], ◌∷◌, Some, None, Result, Ok, Err}
 use Rattle.std.specs.Prelude.{codes}
-use Rattle.pathspec_select.specs.WordFaults.{WordFault}
-use Rattle.pathspec_select.specs.WordFaults.WordFault.{Usage}
+use Rattle.pathspec_select.specs.RequestFaults.{RequestFault}
+use Rattle.pathspec_select.specs.RequestFaults.RequestFault.{Usage}
 use Rattle.pathspec_select.specs.Options.{Options, ListAt, line_feed, options_of}
 
 -- a prefix, a root and the words of the specs
-abbrev asked : List ℕ → List ℕ → List (List ℕ) → Result Options WordFault
-asked prefix root texts = Ok (record { prefix = prefix; root = root; separator = line_feed; lists = []; texts = texts })
+abbrev asked : List ℕ → List ℕ → List (List ℕ) → Result Options RequestFault
+asked prefix root texts = Ok (record { prefix = prefix; root = root; separator = line_feed; lists = []; source = None; texts = texts })
 
 -- a separator, lists of attributes and the words of the specs
-abbrev asked_with : ℕ → List ListAt → List (List ℕ) → Result Options WordFault
-asked_with separator lists texts = Ok (record { prefix = []; root = []; separator = separator; lists = lists; texts = texts })
+abbrev asked_with : ℕ → List ListAt → List (List ℕ) → Result Options RequestFault
+asked_with separator lists texts = Ok (record { prefix = []; root = []; separator = separator; lists = lists; source = None; texts = texts })
 
 no_word : options_of [] ≡ asked [] [] []
 unfolding options_of
@@ -118,3 +118,43 @@ list_lacks_its_list = refl
 list_lacks_its_path : options_of (codes "--attr" ∷ []) ≡ Err Usage
 unfolding options_of
 list_lacks_its_path = refl
+
+-- ---- specs that stand first in the input
+
+-- what their source is called
+abbrev asked_first : List ℕ → Result Options RequestFault
+asked_first name = Ok (record { prefix = []; root = []; separator = line_feed; lists = []; source = Some name; texts = [] })
+
+source_is_read : options_of (codes "--specs-first" ∷ codes "f" ∷ []) ≡ asked_first (codes "f")
+unfolding options_of
+source_is_read = refl
+
+last_source_counts : options_of (codes "--specs-first" ∷ codes "f" ∷ codes "--specs-first" ∷ codes "g" ∷ codes "--" ∷ []) ≡ asked_first (codes "g")
+unfolding options_of
+last_source_counts = refl
+
+source_may_be_empty : options_of (codes "--specs-first" ∷ [] ∷ []) ≡ asked_first []
+unfolding options_of
+source_may_be_empty = refl
+
+-- `--specs-first --`
+source_may_be_any_word : options_of (codes "--specs-first" ∷ codes "--" ∷ []) ≡ asked_first (codes "--")
+unfolding options_of
+source_may_be_any_word = refl
+
+source_lacks_its_name : options_of (codes "-z" ∷ codes "--specs-first" ∷ []) ≡ Err Usage
+unfolding options_of
+source_lacks_its_name = refl
+
+no_word_is_a_spec_beside_it : options_of (codes "--specs-first" ∷ codes "f" ∷ codes "x" ∷ []) ≡ Err Usage
+unfolding options_of
+no_word_is_a_spec_beside_it = refl
+
+nor_after_the_end_of_options : options_of (codes "--specs-first" ∷ codes "f" ∷ codes "--" ∷ [] ∷ []) ≡ Err Usage
+unfolding options_of
+nor_after_the_end_of_options = refl
+
+-- `-- --specs-first f`
+after_the_end_of_options_it_is_a_spec : options_of (codes "--" ∷ codes "--specs-first" ∷ codes "f" ∷ []) ≡ asked [] [] (codes "--specs-first" ∷ codes "f" ∷ [])
+unfolding options_of
+after_the_end_of_options_it_is_a_spec = refl

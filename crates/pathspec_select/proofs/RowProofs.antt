@@ -1,6 +1,7 @@
 -- Rows that lists of attributes make, one after the other.
-use Rattle.std.proofs.Common.{◌≡◌, ◌∙◌, refl, ap, true, false, Bool, List, ℕ, [], ◌∷◌, ◌++◌, map, if◌then◌else◌, Ok, Err, Result}
+use Rattle.std.proofs.Common.{◌≡◌, ◌∙◌, refl, ap, true, false, not, ◌&&◌, is_some, Bool, List, ℕ, [], ◌∷◌, ◌++◌, map, if◌then◌else◌, Ok, Err, Result}
 use Rattle.std.proofs.lemmas.List.{map-append}
+use Rattle.pathspec_parts.specs.Bytes.{is_empty}
 use Rattle.pathspec_parts.specs.Paths.{is_clean_prefix}
 use Rattle.pathspec_parts.specs.Attributes.{Assignment}
 use Rattle.pathspec_parts.specs.AttributeRows.{Row}
@@ -8,27 +9,27 @@ use Rattle.gix_pathspec.specs.Results.{◌>>=◌, all_ok}
 use Rattle.pathspec_pattern.specs.AttributeLists.{assignments_of}
 use Rattle.pathspec_select.specs.declared.refusal.Refusal.{Refusal}
 use Rattle.pathspec_select.specs.declared.refusal.Refusal.TheVariants as refusal
-use Rattle.pathspec_select.specs.WordFaults.{WordFault}
-use Rattle.pathspec_select.specs.WordFaults.WordFault.{Usage}
-use Rattle.pathspec_select.specs.Options.{Options, OptionWord, Awaited, option_word, with_setting, options_after, no_options, prefix_of, with_clean_prefix, options_of}
-use Rattle.pathspec_select.specs.Options.Setting.{EndsByNul, HasPrefix, HasRoot, HasList}
-use Rattle.pathspec_select.specs.Options.OptionWord.{EndsOptions, SaysNul, NamesPrefix, NamesRoot, NamesList, IsUnknown, BeginsSpecs}
-use Rattle.pathspec_select.specs.Options.Awaited.{AnyWord, PrefixPath, RootPath, ListPath, ListOf}
+use Rattle.pathspec_select.specs.RequestFaults.{RequestFault}
+use Rattle.pathspec_select.specs.RequestFaults.RequestFault.{Usage}
+use Rattle.pathspec_select.specs.Options.{Options, OptionWord, Awaited, option_word, with_setting, options_after, no_options, prefix_of, with_clean_prefix, with_specs_once, options_of}
+use Rattle.pathspec_select.specs.Options.Setting.{EndsByNul, HasPrefix, HasRoot, HasList, HasSource}
+use Rattle.pathspec_select.specs.Options.OptionWord.{EndsOptions, SaysNul, NamesPrefix, NamesRoot, NamesList, NamesSource, IsUnknown, BeginsSpecs}
+use Rattle.pathspec_select.specs.Options.Awaited.{AnyWord, PrefixPath, RootPath, ListPath, ListOf, SourceName}
 use Rattle.pathspec_select.specs.OptionWords.{options_from}
 use Rattle.pathspec_select.specs.Rows.{RowsContents, list_result, row_of, rows_of_options, rows_of_words, IsUsageOrMemory}
 
 -- ---- one row more
 
 -- the rows and then one, where it can be read
-abbrev with_last : Result (List Row) WordFault → Result Row WordFault → Result (List Row) WordFault
+abbrev with_last : Result (List Row) RequestFault → Result Row RequestFault → Result (List Row) RequestFault
 with_last rows last = rows >>= λ xs. last >>= λ x. Ok (xs ++ x ∷ [])
 
-after_first : (first : Row) (rows : Result (List Row) WordFault) (last : Result Row WordFault) → (with_last rows last >>= λ xs. Ok (first ∷ xs)) ≡ with_last (rows >>= λ xs. Ok (first ∷ xs)) last
+after_first : (first : Row) (rows : Result (List Row) RequestFault) (last : Result Row RequestFault) → (with_last rows last >>= λ xs. Ok (first ∷ xs)) ≡ with_last (rows >>= λ xs. Ok (first ∷ xs)) last
 after_first first (Err e) last = refl
 after_first first (Ok xs) (Err e) = refl
 after_first first (Ok xs) (Ok x) = refl
 
-all_ok-snoc : (rows : List (Result Row WordFault)) (last : Result Row WordFault) → all_ok (rows ++ last ∷ []) ≡ with_last (all_ok rows) last
+all_ok-snoc : (rows : List (Result Row RequestFault)) (last : Result Row RequestFault) → all_ok (rows ++ last ∷ []) ≡ with_last (all_ok rows) last
 all_ok-snoc [] (Ok x) = refl
 all_ok-snoc [] (Err e) = refl
 all_ok-snoc (Err e ∷ rows) last = refl
@@ -49,7 +50,7 @@ module _ (options : Options) (path list : List ℕ) (rows : List Row) (so_far : 
 -- ---- among the options
 
 -- a list that can't be read among what words say
-pub fault-of : {all : Result Options WordFault} (said : Result Options WordFault) → all ≡ said → (said >>= rows_of_options) ≡ Err Usage → (all >>= rows_of_options) ≡ Err Usage
+pub fault-of : {all : Result Options RequestFault} (said : Result Options RequestFault) → all ≡ said → (said >>= rows_of_options) ≡ Err Usage → (all >>= rows_of_options) ≡ Err Usage
 fault-of said e h = ap (λ r. r >>= rows_of_options) e ∙ h
 
 -- where an option may stand, by what the first word says
@@ -61,6 +62,7 @@ fault-at_word options word words h later SaysNul e = fault-of (options_after Any
 fault-at_word options word words h later NamesPrefix e = fault-of (options_after PrefixPath options words) (rw (e, options_after) refl) (later PrefixPath options h)
 fault-at_word options word words h later NamesRoot e = fault-of (options_after RootPath options words) (rw (e, options_after) refl) (later RootPath options h)
 fault-at_word options word words h later NamesList e = fault-of (options_after ListPath options words) (rw (e, options_after) refl) (later ListPath options h)
+fault-at_word options word words h later NamesSource e = fault-of (options_after SourceName options words) (rw (e, options_after) refl) (later SourceName options h)
 fault-at_word options word words h later IsUnknown e = fault-of (Err Usage) (rw (e, options_after) refl) refl
 fault-at_word options word words h later BeginsSpecs e = fault-of (Ok (record options { texts = word ∷ words })) (rw (e, options_after) refl) h
 
@@ -71,16 +73,18 @@ rows-fault PrefixPath options [] h = refl
 rows-fault RootPath options [] h = refl
 rows-fault ListPath options [] h = refl
 rows-fault (ListOf path) options [] h = refl
+rows-fault SourceName options [] h = refl
 rows-fault PrefixPath options (word ∷ words) h = rows-fault AnyWord (with_setting (HasPrefix word) options) words h
 rows-fault RootPath options (word ∷ words) h = rows-fault AnyWord (with_setting (HasRoot word) options) words h
 rows-fault ListPath options (word ∷ words) h = rows-fault (ListOf word) options words h
+rows-fault SourceName options (word ∷ words) h = rows-fault AnyWord (with_setting (HasSource word) options) words h
 rows-fault (ListOf path) options (word ∷ words) h =
     rows-fault AnyWord (with_setting (HasList path word) options) words
     (rw map-append (all_ok-snoc (map row_of options.lists) (row_of (record { path = path; list = word })) ∙ ap (λ r. with_last r (row_of (record { path = path; list = word }))) h))
 rows-fault AnyWord options (word ∷ words) h = fault-at_word options word words h (λ awaited later k. rows-fault awaited later words k) (option_word word) refl
 
 -- The rows so far and the words that are left give what all words ask for.
-pub record RowsTo (all : Result Options WordFault) (rows : RowsContents) (left : List (List ℕ)) : Type 0 where
+pub record RowsTo (all : Result Options RequestFault) (rows : RowsContents) (left : List (List ℕ)) : Type 0 where
   pub options : Options
   pub so_far : options_from options left ≡ all
   pub read : rows_of_options options ≡ Ok rows.rows
@@ -92,17 +96,25 @@ usage-then refusal.Usage P Q f h = f h
 usage-then (refusal.Environment error) P Q f h = h
 usage-then (refusal.Spec number error) P Q f h = h
 usage-then refusal.Read P Q f h = h
+usage-then refusal.Specs P Q f h = h
 usage-then (refusal.Line number) P Q f h = h
 usage-then refusal.Write P Q f h = h
 usage-then refusal.Memory P Q f h = h
 
--- the prefix has no part in the rows
-rows-cleaned : (read : Result Options WordFault) (options : Options) → read >>= with_clean_prefix ≡ Ok options → (read >>= rows_of_options) ≡ rows_of_options options
+-- the prefix and where the specs stand have no part in the rows
+rows-once : (options others : Options) → with_specs_once options ≡ Ok others → rows_of_options options ≡ rows_of_options others
+rows-once options others e = by_test (is_some options.source && not (is_empty options.texts)) e
+  where
+    by_test : (twice : Bool) → (if twice then Err Usage else Ok options) ≡ Ok others → rows_of_options options ≡ rows_of_options others
+    by_test true e = absurd (let q : ⊥ = cc in q)
+    by_test false e = let same : options ≡ others = cc in ap rows_of_options same
+
+rows-cleaned : (read : Result Options RequestFault) (options : Options) → read >>= with_clean_prefix >>= with_specs_once ≡ Ok options → (read >>= rows_of_options) ≡ rows_of_options options
 rows-cleaned (Err e) options h = absurd (let q : ⊥ = cc in q)
 rows-cleaned (Ok read) options h = by_test (is_clean_prefix (prefix_of read.prefix)) h
   where
-    by_test : (clean : Bool) → (if clean then Ok (record read { prefix = prefix_of read.prefix }) else Err Usage) ≡ Ok options → rows_of_options read ≡ rows_of_options options
-    by_test true e = let same : record read { prefix = prefix_of read.prefix } ≡ options = cc in ap rows_of_options same
+    by_test : (clean : Bool) → ((if clean then Ok (record read { prefix = prefix_of read.prefix }) else Err Usage) >>= with_specs_once) ≡ Ok options → rows_of_options read ≡ rows_of_options options
+    by_test true e = rows-once (record read { prefix = prefix_of read.prefix }) options e
     by_test false e = absurd (let q : ⊥ = cc in q)
 
 -- the rows that right options ask for are those of the words

@@ -1,8 +1,7 @@
 -- Which variables are asked for, one after the other.
-use Rattle.std.proofs.Common.{◌≡◌, ℕ, Bool, true, false, not, refl, inl, inr, if◌then◌else◌, List, [], ◌∷◌, Option, Some, None, Result, Ok, Err, MatchOption}
+use Rattle.std.proofs.Common.{◌≡◌, ℕ, Bool, true, false, not, refl, inl, inr, if◌then◌else◌, List, [], ◌∷◌, Option, Some, None, Ok, Err, MatchOption}
 use Rattle.std.specs.Prelude.{codes, is_some}
 use Rattle.pathspec_parts.specs.Truth.{truth_of}
-use Rattle.gix_pathspec.specs.Faults.{Fault}
 use Rattle.gix_pathspec.specs.Faults.Fault.{NotTruth}
 use Rattle.pathspec_pattern.specs.Environment.{Words, truth_or_fault, flag_of, Variable, asked_after, asked_globs, asked_variables}
 use Rattle.pathspec_select.specs.declared.refusal.Refusal.{Refusal}

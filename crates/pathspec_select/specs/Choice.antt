@@ -1,13 +1,14 @@
 -- What is written, in the words of what specs choose.
-use Rattle.std.specs.Prelude.{ℕ, List, [], ◌∷◌, ◌++◌, flat_map, Option, IfSome}
+use Rattle.std.specs.Prelude.{ℕ, List, [], ◌∷◌, ◌++◌, flat_map, Option}
 use Rattle.std.specs.Io.KnownBytes.{Appends}
 use Rattle.pathspec_parts.specs.Attributes.{Table}
 use Rattle.pathspec_pattern.specs.Environment.{Words}
 use Rattle.gix_pathspec.specs.Specs.{Spec}
-use Rattle.gix_pathspec.specs.Search.{specs_of}
+use Rattle.gix_pathspec.specs.Search.{Numbered}
 use Rattle.gix_pathspec.specs.Matching.{IsChosen}
 use Rattle.pathspec_select.specs.Listing.{records, table_of, record_path, record_is_dir}
-use Rattle.pathspec_select.specs.Program.{AsksFor}
+use Rattle.pathspec_select.specs.Requests.{JobSpecs}
+use Rattle.pathspec_select.specs.Program.{OnParts, AsksFor}
 
 -- The kept elements are just those of which P holds, in their order.
 pub data IsSelection (P : List ℕ → Type 0) : List (List ℕ) → List (List ℕ) → Type 0 where
@@ -26,11 +27,11 @@ IsChosenRecord table specs r = IsChosen table specs (record_path r) (record_is_d
 abbrev pub text_of : ℕ → List (List ℕ) → List ℕ
 text_of separator rs = flat_map (λ r. r ++ separator ∷ []) rs
 
--- Just the records that specs choose were written, in their order, each with the separator after it.
-abbrev pub WritesRecords : Table → List Spec → ℕ → Option (List ℕ) → Option (List ℕ) → Option (List ℕ) → Type 0
+-- Just the records of the listing that a job's specs choose were written, in their order, each with the separator after it.
+abbrev pub WritesRecords : Table → JobSpecs (List Numbered) → ℕ → Option (List ℕ) → Option (List ℕ) → Option (List ℕ) → Type 0
 WritesRecords table specs separator input old new =
-    IfSome input (λ bytes. (kept : List (List ℕ)) × IsSelection (IsChosenRecord table specs) (records separator bytes) kept × Appends old new (text_of separator kept))
+    OnParts specs input (λ given listing. (kept : List (List ℕ)) × IsSelection (IsChosenRecord table given) (records separator listing) kept × Appends old new (text_of separator kept))
 
 -- Those that the words' specs choose were, with the attributes that the words give.
 abbrev pub WritesChosen : List (List ℕ) → Words → Option (List ℕ) → Option (List ℕ) → Option (List ℕ) → Type 0
-WritesChosen words environment input old new = AsksFor words environment (λ request. WritesRecords (table_of request.rows) (specs_of request.specs) request.separator input old new)
+WritesChosen words environment input old new = AsksFor words environment (λ request. WritesRecords (table_of request.rows) request.specs request.separator input old new)

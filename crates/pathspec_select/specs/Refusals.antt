@@ -11,7 +11,7 @@ use Rattle.pathspec_select.specs.declared.listing.contents.ListingError.{Listing
 use Rattle.pathspec_select.specs.declared.listing.contents.ListingError.TheVariants as listing
 use Rattle.pathspec_select.specs.declared.walk.SelectError.{SelectError}
 use Rattle.pathspec_select.specs.declared.walk.SelectError.TheVariants as walk
-use Rattle.pathspec_select.specs.WordFaults.{WordFault}
+use Rattle.pathspec_select.specs.RequestFaults.{RequestFault}
 
 -- the exit status
 abbrev pub status_of : Refusal → ℕ
@@ -19,6 +19,7 @@ status_of refusal.Usage = 2
 status_of (refusal.Environment error) = 3
 status_of (refusal.Spec number error) = 3
 status_of refusal.Read = 5
+status_of refusal.Specs = 4
 status_of (refusal.Line number) = 4
 status_of refusal.Write = 5
 status_of refusal.Memory = 6
@@ -28,19 +29,20 @@ abbrev pub exit_status : {A : Type 0} → Result A Refusal → ℕ
 exit_status (Ok done) = 0
 exit_status (Err refused) = status_of refused
 
--- The refusal tells this fault of the words or of the environment, or that memory ran out.
-abbrev pub TellsWordFault : Refusal → (WordFault → Type 0) → Type 0
-TellsWordFault refusal.Usage P = P WordFault.Usage
-TellsWordFault (refusal.Environment error) P = (fault : Fault) × (fault_of error ≡ Some fault) × P (WordFault.BadEnvironment fault)
-TellsWordFault (refusal.Spec number error) P = (fault : Fault) × (fault_of error ≡ Some fault) × P (WordFault.BadSpec number fault)
-TellsWordFault refusal.Read P = ⊥
-TellsWordFault (refusal.Line number) P = ⊥
-TellsWordFault refusal.Write P = ⊥
-TellsWordFault refusal.Memory P = Unit {0}
+-- The refusal tells this fault of the words, the environment or specs, or that memory ran out.
+abbrev pub TellsRequestFault : Refusal → (RequestFault → Type 0) → Type 0
+TellsRequestFault refusal.Usage P = P RequestFault.Usage
+TellsRequestFault (refusal.Environment error) P = (fault : Fault) × (fault_of error ≡ Some fault) × P (RequestFault.BadEnvironment fault)
+TellsRequestFault (refusal.Spec number error) P = (fault : Fault) × (fault_of error ≡ Some fault) × P (RequestFault.BadSpec number fault)
+TellsRequestFault refusal.Read P = ⊥
+TellsRequestFault refusal.Specs P = ⊥
+TellsRequestFault (refusal.Line number) P = ⊥
+TellsRequestFault refusal.Write P = ⊥
+TellsRequestFault refusal.Memory P = Unit {0}
 
 -- The result, seen by `view`, is what is computed; a refusal tells the computed fault, or that memory ran out.
-abbrev pub ComputesWords : {A B : Type 0} → (A → B) → Result B WordFault → Result A Refusal → Type 0
-ComputesWords view computed result = MatchResult result (λ x. computed ≡ Ok (view x)) (λ e. TellsWordFault e (λ fault. computed ≡ Err fault))
+abbrev pub ComputesRequest : {A B : Type 0} → (A → B) → Result B RequestFault → Result A Refusal → Type 0
+ComputesRequest view computed result = MatchResult result (λ x. computed ≡ Ok (view x)) (λ e. TellsRequestFault e (λ fault. computed ≡ Err fault))
 
 -- The refusal is for this error of the spec with this number.
 abbrev pub RefusesError : ℕ → Error → Refusal → Type 0
@@ -61,6 +63,7 @@ IsReadOrMemory refusal.Usage = ⊥
 IsReadOrMemory (refusal.Environment error) = ⊥
 IsReadOrMemory (refusal.Spec number error) = ⊥
 IsReadOrMemory refusal.Read = Unit {0}
+IsReadOrMemory refusal.Specs = ⊥
 IsReadOrMemory (refusal.Line number) = ⊥
 IsReadOrMemory refusal.Write = ⊥
 IsReadOrMemory refusal.Memory = Unit {0}

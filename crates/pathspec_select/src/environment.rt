@@ -3,7 +3,7 @@ ghost use Rattle.std.specs.Prelude.{◌≡◌, IfOk, IfErr, MatchOption, Ok, str
 ghost use Rattle.std.specs.Option.{option_copied, option_map};
 ghost use Rattle.pathspec_pattern.specs.Environment.{defaults_of, flag_of, asked_variables};
 ghost use Rattle.pathspec_select.specs.Requests.{environment_result};
-ghost use Rattle.pathspec_select.specs.Refusals.{ComputesWords, RefusesEnvironment};
+ghost use Rattle.pathspec_select.specs.Refusals.{ComputesRequest, RefusesEnvironment};
 ghost use Rattle.pathspec_select.specs.Variables.{IsNoTruth, word_told, word_read, HasTold, HasToldAll, HasRefusedOne};
 
 use crate::Refusal;
@@ -89,7 +89,7 @@ impl Environment {
     /// # Errors
     /// [`Refusal::Environment`] with the first fault, [`Refusal::Memory`].
     pub(crate) fn defaults(&self, alloc: Global) -> Result<Defaults, Refusal>
-        ensures { ComputesWords (λ defaults. defaults)
+        ensures { ComputesRequest (λ defaults. defaults)
             (environment_result (defaults_of (words_of self.now))) result }
     {
         let mut var = |name: &str| -> Option<&str> { self.word(name) };

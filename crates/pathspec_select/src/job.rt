@@ -1,43 +1,56 @@
 //! What words and the environment ask for.
-ghost use Rattle.std.specs.Prelude.{◌≡◌, None, Err, map, string_bytes, IfOk, IsTrue};
+ghost use Rattle.std.specs.Prelude.{◌≡◌, None, Err, map, string_bytes, IfOk, IfSome, IsTrue};
+ghost use Rattle.std.specs.Option.{option_copied, option_map};
+ghost use Rattle.bstr.specs.BStr.{bstr_bytes};
 ghost use Rattle.pathspec_parts.specs.Paths.{is_clean_prefix};
-ghost use Rattle.gix_pathspec.specs.Patterns.{pattern_spec};
-ghost use Rattle.gix_pathspec.specs.Search.{HasNoEffort, search_of};
-ghost use Rattle.pathspec_select.specs.WordFaults.{WordFault};
+ghost use Rattle.gix_pathspec.specs.Search.{HasNoEffort};
+ghost use Rattle.pathspec_select.specs.RequestFaults.{RequestFault};
 ghost use Rattle.pathspec_select.specs.Environment.{words_of};
-ghost use Rattle.pathspec_select.specs.Options.{options_of};
-ghost use Rattle.pathspec_select.specs.Refusals.{ComputesWords, RefusesBuild};
-ghost use Rattle.pathspec_select.specs.Requests.{JobContents, request_view, search_result, request_of};
+ghost use Rattle.pathspec_select.specs.Options.{Options as OptionsView, options_of};
+ghost use Rattle.pathspec_select.specs.OptionWords.{ShowsOptions};
+ghost use Rattle.pathspec_select.specs.Refusals.{ComputesRequest};
+ghost use Rattle.pathspec_select.specs.JobForms.{job_specs_view};
+ghost use Rattle.pathspec_select.specs.Requests.{request_view, numbered_specs, asked_specs, request_of, search_in, source_in};
 
+pub(crate) mod specs;
+
+use crate::options::{self, Options};
 use crate::rows::{self, Rows};
-use crate::{Environment, Refusal, options, words};
+use crate::{Environment, Refusal, words};
 use bstr::BStr;
-use gix_pathspec::search::BuildError;
-use gix_pathspec::{Pattern, Search};
+use gix_pathspec::{Defaults, Search};
+use specs::{JobSpecs, SearchBuilder};
 use std::alloc::Global;
 use std::marker::Model;
 
-/// What a run has to do: the search that its records are asked of, and the byte that ends a record.
+/// What a run has to do: the specs that its records are compared with, and the byte that ends a record.
 #[derive(Debug, Drop)]
 pub struct Job {
-    pub(crate) search: Search,
+    pub(crate) specs: JobSpecs,
     pub(crate) separator: u8,
 }
 
 impl Model for Job {
+    ghost use Rattle.pathspec_select.specs.JobForms.{job_specs_view};
+    ghost use Rattle.pathspec_select.specs.Requests.{JobContents};
+
     ghost Value = { JobContents };
 
-    ghost view = { λ j. record { search = j.search; separator = j.separator } };
+    ghost view = { λ j. record { specs = job_specs_view j.specs; separator = j.separator } };
 }
 
 impl Job {
     /// What words and the environment ask for: the job, and the attributes of paths.
     ///
-    /// The words are the arguments after the program's name: the options `-z`, `--prefix P`, `--root R` and
-    /// `--attr PATH LIST`, then `--` or nothing, and the specs, which are read as in the directory P of a repository that
-    /// lies at R. Of repeated `--prefix` or `--root` only the last is looked at. Where P is longer than one byte, one `/`
-    /// at its end isn't part of it. A LIST is read as [`parse::attributes`](gix_pathspec::parse::attributes) reads it.
-    /// No specs and a prefix stand for the prefix.
+    /// The words are the arguments after the program's name: the options `-z`, `--prefix P`, `--root R`,
+    /// `--attr PATH LIST` and `--specs-first NAME`, then `--` or nothing, and the specs, which are read as in the directory
+    /// P of a repository that lies at R. Of repeated `--prefix`, `--root` or `--specs-first` only the last is looked at.
+    /// Where P is longer than one byte, one `/` at its end isn't part of it. A LIST is read as
+    /// [`parse::attributes`](gix_pathspec::parse::attributes) reads it. No specs and a prefix stand for the prefix.
+    ///
+    /// With `--specs-first` no word may be a spec: each run reads the specs from the front of its input, and NAME is what
+    /// their source is called. For example `--specs-first specs` makes a job without a search, whose
+    /// [`source`](Job::source) is `specs`.
     ///
     /// It looks at each byte a fixed number of times, and for each spec at the prefix and the root. It takes memory for
     /// the rows and for the search, or for the bytes that an error carries.
@@ -45,37 +58,50 @@ impl Job {
     /// # Errors
     /// The first fault, in this order: [`Refusal::Usage`]; [`Refusal::Environment`]; [`Refusal::Spec`] of the first spec
     /// that can't be read, and then of the first that has no normal form. [`Refusal::Memory`] comes at its place among
-    /// them: an unknown option, a missing argument and a prefix that isn't clean are told before any memory is taken, and
-    /// a LIST that can't be read after that of the lists before it.
+    /// them: an unknown option, a missing argument, a prefix that isn't clean and specs beside `--specs-first` are told
+    /// before any memory is taken, and a LIST that can't be read after that of the lists before it.
     pub fn from_words(
         alloc: Global,
         words: &[String],
         environment: &Environment,
     ) -> Result<(Job, Rows), Refusal>
-        ensures request { ComputesWords request_view
+        ensures request { ComputesRequest request_view
             (request_of (map string_bytes words.now) (words_of environment.now)) result }
         ensures fresh { IfOk result (λ pair. pair.1.failures ≡ 0) }
-        // The search has no source, and has been asked nothing.
-        ensures source { IfOk result (λ pair. pair.0.search.source ≡ None) }
-        ensures effort { IfOk result (λ pair. HasNoEffort pair.0.search) }
+        // The search, if there is one, has no source, and has been asked nothing.
+        ensures source { IfOk result (λ pair. IfSome (search_in pair.0.specs)
+            (λ search. search.source ≡ None)) }
+        ensures effort { IfOk result (λ pair. IfSome (search_in pair.0.specs) HasNoEffort) }
         // Wrong options are told before any memory is taken; what a list says is no part of them.
-        ensures usage { options_of (map string_bytes words.now) ≡ Err WordFault.Usage
+        ensures usage { options_of (map string_bytes words.now) ≡ Err RequestFault.Usage
             → result ≡ Err Refusal.Usage }
     {
         let options = options::options_from_words(words)?;
         let rows = rows::rows_from_words(alloc, words)?;
         let defaults = environment.defaults(alloc)?;
-        let patterns = words::parse_words(alloc, options.specs, defaults)?;
-        let search = search(alloc, patterns, options.prefix, options.root)?;
         let separator = options.separator;
-        Ok((Job { search, separator }, rows))
+        let specs = asked_specs(alloc, options, defaults)?;
+        Ok((Job { specs, separator }, rows))
     }
 
-    /// The search that records are asked of.
-    pub fn search(&self) -> &Search
-        ensures { result.now ≡ self.now.search }
+    /// The search that records are asked of; None where each run builds one of the specs in its input.
+    pub fn search(&self) -> Option<&Search>
+        ensures { option_copied result ≡ search_in self.now.specs }
     {
-        &self.search
+        match &self.specs {
+            JobSpecs::FromWords(search) => Some(search),
+            JobSpecs::FromInput(_) => None,
+        }
+    }
+
+    /// What the source of the specs is called that stand first in an input; None where they stand in the words.
+    pub fn source(&self) -> Option<BStr<'_>>
+        ensures { option_map bstr_bytes result ≡ source_in self.now.specs }
+    {
+        match &self.specs {
+            JobSpecs::FromWords(_) => None,
+            JobSpecs::FromInput(builder) => Some(builder.source()),
+        }
     }
 
     /// The byte that ends a record.
@@ -86,31 +112,25 @@ impl Job {
     }
 }
 
-/// The search of specs that are given in a prefix of a repository with this root.
-fn search(
-    alloc: Global,
-    patterns: Vec<Pattern>,
-    prefix: &[u8],
-    root: &[u8],
-) -> Result<Search, Refusal>
-    requires { IsTrue (is_clean_prefix prefix.now) }
-    ensures specs { ComputesWords (λ search. search.specs)
-        (search_result (search_of prefix.now root.now (map pattern_spec patterns.items))) result }
-    ensures source { IfOk result (λ search. search.source ≡ None) }
-    ensures effort { IfOk result HasNoEffort }
+/// The specs that options ask for, under these defaults.
+///
+/// # Errors
+/// [`Refusal::Spec`], where they stand in the words; [`Refusal::Memory`].
+fn asked_specs(alloc: Global, options: Options<'_>, defaults: Defaults) -> Result<JobSpecs, Refusal>
+    requires { IsTrue (is_clean_prefix options.prefix.now) }
+    ensures specs { (viewed : OptionsView) → ShowsOptions options.entry viewed
+        → ComputesRequest (λ specs. numbered_specs (job_specs_view specs))
+        (asked_specs viewed defaults) result }
+    ensures source { IfOk result (λ specs. IfSome (search_in (job_specs_view specs))
+        (λ search. search.source ≡ None)) }
+    ensures effort { IfOk result (λ specs.
+        IfSome (search_in (job_specs_view specs)) HasNoEffort) }
 {
-    match Search::from_specs(alloc, patterns, Some(BStr::new(prefix)), BStr::new(root)) {
-        Ok(search) => Ok(search),
-        Err(error) => Err(refusal_of(error)),
+    if let Some(source) = options.source {
+        let builder = SearchBuilder::new(alloc, source, defaults, options.prefix, options.root)?;
+        return Ok(JobSpecs::FromInput(builder));
     }
-}
-
-/// The refusal for an error of a search that is made.
-fn refusal_of(error: BuildError) -> Refusal
-    ensures { RefusesBuild error result }
-{
-    match error {
-        BuildError::Spec(number, error) => Refusal::Spec(number, error),
-        BuildError::Memory => Refusal::Memory,
-    }
+    let patterns = words::parse_words(alloc, options.specs, defaults)?;
+    let search = specs::search(alloc, patterns, options.prefix, options.root)?;
+    Ok(JobSpecs::FromWords(search))
 }

@@ -4,6 +4,7 @@
 
 mod devices;
 mod environment;
+mod input;
 mod job;
 pub mod listing;
 mod options;

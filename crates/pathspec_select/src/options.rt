@@ -1,7 +1,7 @@
 //! The options of the command line, which stand before the specs.
 ghost use Rattle.std.specs.Prelude.{◌≡◌, [], ◌∷◌, map, IfOk, IfErr, MatchResult, OnErr, IsTrue, string_bytes};
 ghost use Rattle.pathspec_parts.specs.Paths.{is_clean_prefix};
-ghost use Rattle.pathspec_select.specs.Options.{Options as OptionsView, no_options, option_word, with_setting, prefix_of, with_clean_prefix, options_of};
+ghost use Rattle.pathspec_select.specs.Options.{Options as OptionsView, no_options, option_word, with_setting, prefix_of, with_clean_prefix, with_specs_once, options_of};
 ghost use Rattle.pathspec_select.specs.OptionWords.{option_view, setting_view, options_from, IsFirst, AreWrong, HasSettings, ShowsOptions, ComputesOptions};
 
 use crate::Refusal;
@@ -14,6 +14,7 @@ pub(crate) struct Options<'w> {
     pub(crate) prefix: &'w [u8],
     pub(crate) root: &'w [u8],
     pub(crate) separator: u8,
+    pub(crate) source: Option<&'w [u8]>,
     pub(crate) specs: &'w [String],
 }
 
@@ -25,6 +26,7 @@ enum OptionWord {
     NamesPrefix,
     NamesRoot,
     NamesList,
+    NamesSource,
     IsUnknown,
     BeginsSpecs,
 }
@@ -40,6 +42,8 @@ pub(crate) enum Setting<'w> {
     HasRoot(&'w [u8]),
     /// A path has this list of attributes.
     HasList(&'w [u8], &'w [u8]),
+    /// The specs stand first in the input, and their source is called so.
+    HasSource(&'w [u8]),
 }
 
 /// How words begin.
@@ -78,6 +82,10 @@ pub(crate) fn first_option(words: &[String]) -> Result<Words<'_>, Refusal>
             let (list, rest) = argument(rest)?;
             Ok(Words::After(Setting::HasList(path, list), rest))
         }
+        OptionWord::NamesSource => {
+            let (name, rest) = argument(rest)?;
+            Ok(Words::After(Setting::HasSource(name), rest))
+        }
         OptionWord::IsUnknown => Err(Refusal::Usage),
         OptionWord::BeginsSpecs => Ok(Words::Specs(words)),
     }
@@ -97,6 +105,8 @@ fn option_word(word: &[u8]) -> OptionWord
         OptionWord::NamesRoot
     } else if word == b"--attr".as_slice() {
         OptionWord::NamesList
+    } else if word == b"--specs-first".as_slice() {
+        OptionWord::NamesSource
     } else if word.starts_with(b"-") {
         OptionWord::IsUnknown
     } else {
@@ -118,15 +128,16 @@ fn argument(words: &[String]) -> Result<(&[u8], &[String]), Refusal>
 }
 
 /// What the words ask for, but for lists of attributes. Options are read up to `--`, or up to the first word that begins
-/// with no `-`; a prefix or a root that is given later takes the place of an earlier one. It copies nothing.
+/// with no `-`; a prefix, a root or a source that is given later takes the place of an earlier one. It copies nothing.
 ///
 /// # Errors
-/// [`Refusal::Usage`]: an option is unknown or lacks an argument, or the prefix isn't clean.
+/// [`Refusal::Usage`]: an option is unknown or lacks an argument, the prefix isn't clean, or specs stand in the words beside
+/// those of the input.
 pub(crate) fn options_from_words(words: &[String]) -> Result<Options<'_>, Refusal>
     ensures options { ComputesOptions (options_of (map string_bytes words.now)) result }
     ensures clean { IfOk result (λ options. IsTrue (is_clean_prefix options.prefix.now)) }
 {
-    with_clean_prefix(unchecked_options(words)?)
+    with_specs_once(with_clean_prefix(unchecked_options(words)?)?)
 }
 
 /// What the words ask for, where the prefix may be any argument.
@@ -137,6 +148,7 @@ fn unchecked_options(words: &[String]) -> Result<Options<'_>, Refusal>
         prefix: b"",
         root: b"",
         separator: b'\n',
+        source: None,
         specs: words,
     };
     loop {
@@ -170,6 +182,11 @@ fn with_setting<'w>(options: Options<'w>, setting: Setting<'w>, specs: &'w [Stri
             ..options
         },
         Setting::HasList(..) => Options { specs, ..options },
+        Setting::HasSource(name) => Options {
+            source: Some(name),
+            specs,
+            ..options
+        },
     }
 }
 
@@ -184,6 +201,18 @@ fn with_clean_prefix(options: Options<'_>) -> Result<Options<'_>, Refusal>
         return Err(Refusal::Usage);
     }
     Ok(Options { prefix, ..options })
+}
+
+/// The options, if their specs stand in one place: the words or the input.
+fn with_specs_once(options: Options<'_>) -> Result<Options<'_>, Refusal>
+    ensures options { (viewed : OptionsView) → ShowsOptions options.entry viewed
+        → ComputesOptions (with_specs_once viewed) result }
+    ensures prefix { IfOk result (λ same. same.prefix.now ≡ options.entry.prefix.now) }
+{
+    if options.source.is_some() && !options.specs.is_empty() {
+        return Err(Refusal::Usage);
+    }
+    Ok(options)
 }
 
 /// The prefix that an argument names: where it is longer than one byte, one slash at its end isn't part of it.

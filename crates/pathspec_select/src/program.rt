@@ -1,16 +1,20 @@
 //! The program, over any reader and writer.
-ghost use Rattle.std.specs.Prelude.{◌≡◌, map, string_bytes, OnOk};
-ghost use Rattle.gix_pathspec.specs.Search.{specs_of};
+ghost use Rattle.std.specs.Prelude.{◌≡◌, Some, map, string_bytes, OnOk};
+ghost use Rattle.gix_pathspec.specs.Search.{KeepsSpecs};
 ghost use Rattle.gix_pathspec.specs.SelectionLaws.{ChosenIsTest};
 ghost use Rattle.pathspec_select.specs.Environment.{words_of};
 ghost use Rattle.pathspec_select.specs.Program.{Ends, EndsJob, CountsRefusal};
 ghost use Rattle.pathspec_select.specs.Choice.{WritesRecords, WritesChosen};
-ghost use Rattle.pathspec_select.specs.Requests.{KeepsJob};
+ghost use Rattle.pathspec_select.specs.Input.{InputIsInParts};
+ghost use Rattle.pathspec_select.specs.Requests.{KeepsJob, numbered_specs};
+ghost use Rattle.pathspec_select.specs.Requests.JobSpecs.{FromWords};
 ghost use Rattle.pathspec_select.specs.Refusals.{refused_listing, refused_walk};
 
+use crate::input::Parts;
+use crate::job::specs::JobSpecs;
 use crate::listing::{self, ListingError};
 use crate::walk::{SelectError, select};
-use crate::{Environment, Job, Refusal, devices, output};
+use crate::{Environment, Job, Refusal, devices, input, output};
 use gix_pathspec::Search;
 use pathspec_parts::attributes::LookUp;
 use pathspec_parts::tree::Cursor;
@@ -18,8 +22,8 @@ use std::alloc::{AllocError, Global};
 use std::io::{Read, Write};
 
 /// Runs `pathspec-select` over a reader and a writer: reads a listing of paths, and writes the records that the words'
-/// specs choose, in their order, each with the separator after it. Its [`Refusal`] has the exit status and the line for
-/// standard error.
+/// specs choose, in their order, each with the separator after it. With `--specs-first` the specs stand before the listing.
+/// Its [`Refusal`] has the exit status and the line for standard error.
 ///
 /// The words and the environment are read by [`Job::from_words`], and [`run_with`] does the rest, with the attributes that
 /// `--attr` gives.
@@ -28,9 +32,10 @@ use std::io::{Read, Write};
 /// when it is dropped it writes what it holds, too, but then tells of no fault.
 ///
 /// # Errors
-/// The first fault, in this order: [`Refusal::Usage`]; [`Refusal::Environment`]; [`Refusal::Spec`]; [`Refusal::Read`];
-/// [`Refusal::Line`]; [`Refusal::Write`]. [`Refusal::Memory`] comes at its place among them. Nothing is written before a
-/// fault, but for a write's.
+/// The first fault, in this order: [`Refusal::Usage`]; [`Refusal::Environment`]; [`Refusal::Spec`] of a word;
+/// [`Refusal::Read`]; [`Refusal::Specs`], and [`Refusal::Spec`] of a line of the input; [`Refusal::Line`];
+/// [`Refusal::Write`]. [`Refusal::Memory`] comes at its place among them. Nothing is written before a fault, but for a
+/// write's.
 pub fn run<R: Read, W: Write>(
     alloc: Global,
     words: &[String],
@@ -52,8 +57,13 @@ pub fn run<R: Read, W: Write>(
     run_with(alloc, &mut job, reader, writer, &mut rows)
 }
 
-/// Does a job over a reader and a writer, with any look-up of attributes: reads a listing of paths, walks over its tree by
-/// [`select`], and writes the records of the chosen entries, in their order, each with the separator after it.
+/// Does a job over a reader and a writer, with any look-up of attributes: reads an input, walks over the tree of its listing
+/// by [`select`], and writes the records of the chosen entries, in their order, each with the separator after it.
+///
+/// The input is the listing. Where the job was made with `--specs-first`, it is lines of specs, the line `--` and then the
+/// listing: the specs' lines end with a line feed, or with a carriage return and one, whatever the separator, and become a
+/// search as [`Search::from_lines`] makes one, anew in each call. For example the input `a`, line feed, `--`, line feed,
+/// `a/x`, line feed, `b` has the spec `a` and the records `a/x` and `b`. Neither part is copied.
 ///
 /// It looks at each byte of the listing a fixed number of times, and asks the search about each entry at most twice. An
 /// entry takes 24 bytes and its name in the tree, 8 for the place of its record, and 8 more where it is chosen: in all about
@@ -63,8 +73,10 @@ pub fn run<R: Read, W: Write>(
 /// It doesn't flush the writer, as [`run`] doesn't.
 ///
 /// # Errors
-/// The first fault, in this order: [`Refusal::Read`]; [`Refusal::Line`]; [`Refusal::Write`]. [`Refusal::Memory`] comes
-/// at its place among them, and where the look-up fails. Nothing is written before a fault, but for a write's.
+/// The first fault, in this order: [`Refusal::Read`]; [`Refusal::Specs`] and [`Refusal::Spec`], where the specs stand in the
+/// input; [`Refusal::Line`], whose number counts the records of the listing alone; [`Refusal::Write`]. [`Refusal::Memory`]
+/// comes at its place among them, and where the look-up fails. Nothing is written before a fault, but for a write's.
+#[tactic(auto, using(crate::proofs::InputProofs::input_is_in_parts))]
 pub fn run_with<R: Read, W: Write, L: LookUp<Fault = AllocError>>(
     alloc: Global,
     job: &mut Job,
@@ -72,20 +84,56 @@ pub fn run_with<R: Read, W: Write, L: LookUp<Fault = AllocError>>(
     writer: &mut W,
     look_up: &mut L,
 ) -> Result<(), Refusal>
-    ensures ends { EndsJob (L.table look_up.old) (specs_of job.old.search.specs) job.old.separator
+    ensures ends { EndsJob (L.table look_up.old) (numbered_specs job.old.specs) job.old.separator
         (R.remaining reader.old) (W.contents writer.old) (W.contents writer.new) result }
     ensures chosen { OnOk result (WritesRecords (L.table look_up.old)
-        (specs_of job.old.search.specs) job.old.separator (R.remaining reader.old)
+        (numbered_specs job.old.specs) job.old.separator (R.remaining reader.old)
         (W.contents writer.old) (W.contents writer.new)) }
+    // An input with a line `--` is the lines of the specs, that line and the listing.
+    ensures parts { OnOk result InputIsInParts }
     ensures job { KeepsJob job.old job.new }
     ensures table_stays { L.table look_up.new ≡ L.table look_up.old }
     ensures counts { CountsRefusal (L.failures look_up.old) (L.failures look_up.new) result }
 {
     let bytes = devices::read_to_end(alloc, reader)?;
-    let listing = listing::read(alloc, bytes.as_slice(), job.separator).map_err(refused_listing)?;
+    let separator = job.separator;
+    match &mut job.specs {
+        JobSpecs::FromWords(search) => {
+            write_chosen(alloc, search, bytes.as_slice(), separator, writer, look_up)
+        }
+        JobSpecs::FromInput(builder) => {
+            let Parts { specs, listing } = input::divide(bytes.as_slice())?;
+            let mut search = builder.build(alloc, specs)?;
+            write_chosen(alloc, &mut search, listing, separator, writer, look_up)
+        }
+    }
+}
+
+/// Writes the records of a listing that a search chooses, in their order, each with the separator after it.
+///
+/// # Errors
+/// The first fault, in this order: [`Refusal::Line`]; [`Refusal::Write`]; and [`Refusal::Memory`] at its place.
+fn write_chosen<W: Write, L: LookUp<Fault = AllocError>>(
+    alloc: Global,
+    search: &mut Search,
+    listing: &[u8],
+    separator: u8,
+    writer: &mut W,
+    look_up: &mut L,
+) -> Result<(), Refusal>
+    ensures ends { EndsJob (L.table look_up.old) (FromWords search.old.specs) separator
+        (Some listing.now) (W.contents writer.old) (W.contents writer.new) result }
+    ensures search { KeepsSpecs search.old search.new }
+    ensures table_stays { L.table look_up.new ≡ L.table look_up.old }
+    ensures counts { CountsRefusal (L.failures look_up.old) (L.failures look_up.new) result }
+{
+    let listing = match listing::read(alloc, listing, separator) {
+        Ok(listing) => listing,
+        Err(error) => return Err(refused_listing(error)),
+    };
     let mut cursor = Cursor::new(alloc, listing.tree())?;
-    let given = select(alloc, &mut cursor, &mut job.search, look_up).map_err(refused_walk)?;
-    output::write_records(alloc, writer, &listing, given.as_slice(), job.separator)
+    let given = select(alloc, &mut cursor, search, look_up).map_err(refused_walk)?;
+    output::write_records(alloc, writer, &listing, given.as_slice(), separator)
 }
 
 /// The refusal for a listing that can't be read.

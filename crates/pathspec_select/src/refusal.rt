@@ -8,18 +8,22 @@ use std::alloc::AllocError;
 /// Why the program ends without having done all. Its text is the line for standard error.
 #[derive(Debug, Drop, PartialEq, Eq, thiserror::Error)]
 pub enum Refusal {
-    /// An option is unknown or lacks an argument, the prefix isn't clean, or a list of attributes can't be read.
-    #[error("usage: pathspec-select [-z] [--prefix P] [--root R] [--attr PATH LIST]... [--] [SPEC...]")]
+    /// An option is unknown or lacks an argument, the prefix isn't clean, a list of attributes can't be read, or specs stand
+    /// in the words beside the option `--specs-first`.
+    #[error("usage: pathspec-select [-z] [--prefix P] [--root R] [--attr PATH LIST]... [--specs-first NAME] [--] [SPEC...]")]
     Usage,
     /// The environment is at fault: a variable is no word of truth, or globs are both asked for and not.
     #[error("environment: {}", .0.kind())]
     Environment(Error),
-    /// A spec is at fault; specs are numbered from 0.
+    /// A spec is at fault; specs are numbered from 0, those of the input by their lines.
     #[error("spec {}: {}", .0, .1.kind())]
     Spec(usize, Error),
     /// A read failed.
     #[error("read")]
     Read,
+    /// Specs are to stand first in the input, and no line `--` ends them.
+    #[error("specs")]
+    Specs,
     /// A record is empty, begins with `/` or holds `//`; records are numbered from 1.
     #[error("line {0}")]
     Line(usize),
@@ -41,7 +45,7 @@ impl Refusal {
         match self {
             Refusal::Usage => 2,
             Refusal::Environment(_) | Refusal::Spec(..) => 3,
-            Refusal::Line(_) => 4,
+            Refusal::Specs | Refusal::Line(_) => 4,
             Refusal::Read | Refusal::Write => 5,
             Refusal::Memory => 6,
         }

@@ -147,7 +147,8 @@ fn add_setting(alloc: Global, rows: &mut Rows, setting: Setting<'_>) -> Result<(
     ensures failures { rows.new.failures ≡ rows.old.failures }
 {
     match setting {
-        Setting::EndsByNul | Setting::HasPrefix(_) | Setting::HasRoot(_) => Ok(()),
+        Setting::EndsByNul | Setting::HasPrefix(_) | Setting::HasRoot(_) | Setting::HasSource(_) =>
+            Ok(()),
         Setting::HasList(path, list) => add_row(alloc, rows, path, list),
     }
 }

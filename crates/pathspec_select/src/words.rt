@@ -2,8 +2,10 @@
 ghost use Rattle.std.specs.Prelude.{map, string_bytes};
 ghost use Rattle.gix_pathspec.specs.Patterns.{pattern_spec};
 ghost use Rattle.gix_pathspec.specs.Reading.{reading};
-ghost use Rattle.pathspec_select.specs.Words.{numbered_result, parsed_words};
-ghost use Rattle.pathspec_select.specs.Refusals.{ComputesWords, RefusesError};
+ghost use Rattle.gix_pathspec.specs.Search.{at_number};
+ghost use Rattle.gix_pathspec.specs.Lines.{readings_from};
+ghost use Rattle.pathspec_select.specs.Requests.{spec_result};
+ghost use Rattle.pathspec_select.specs.Refusals.{ComputesRequest, RefusesError};
 
 use crate::Refusal;
 use gix_pathspec::{Defaults, Error, Pattern, parse};
@@ -20,8 +22,8 @@ pub(crate) fn parse_words(
     texts: &[String],
     defaults: Defaults,
 ) -> Result<Vec<Pattern>, Refusal>
-    ensures { ComputesWords (λ ps. map pattern_spec ps.items)
-        (parsed_words defaults (map string_bytes texts.now)) result }
+    ensures { ComputesRequest (λ ps. map pattern_spec ps.items)
+        (spec_result (readings_from 0 defaults (map string_bytes texts.now))) result }
 {
     let mut patterns = Vec::new(alloc);
     for (number, text) in texts.iter().enumerate() {
@@ -40,8 +42,8 @@ fn parse_word(
     text: &String,
     defaults: Defaults,
 ) -> Result<Pattern, Refusal>
-    ensures { ComputesWords pattern_spec
-        (numbered_result number (reading defaults (string_bytes text.now))) result }
+    ensures { ComputesRequest pattern_spec
+        (spec_result (at_number number (reading defaults (string_bytes text.now)))) result }
 {
     match parse::parse(alloc, text.as_bytes(), defaults) {
         Ok(pattern) => Ok(pattern),

@@ -1,39 +1,79 @@
 //! The program `pathspec-select`: words, environment and standard streams in, a line and a status out.
 #![tactic(auto)]
 
+ghost use Rattle.std.specs.Prelude.{◌≤◌, IfOk, IfSome, vec_len};
+
 use pathspec_select::{Environment, Refusal, exit_status, run};
-use std::alloc::Global;
-use std::env::{self, VarError};
-use std::io::{self, ErrorKind};
+use std::alloc::{AllocError, Global};
+use std::env::{self, FillError, VarError};
+use std::io;
 use std::process::ExitCode;
 use std::rt::Env;
+use std::str;
 
-/// The words after the program's name.
-fn words<R: Env + Alloc<A = Global>>(rt: &R) -> Result<Vec<String>, Refusal> {
+/// How many bytes of a word are asked for at first.
+const ROOM: usize = 256;
+
+/// Why the words after the program's name can't be taken.
+#[derive(Debug, Drop)]
+enum WordsError {
+    /// The word with this number, from 1, isn't UTF-8.
+    NotUtf8(usize),
+    /// Memory ran out.
+    Memory,
+}
+
+impl From<AllocError> for WordsError {
+    fn from(_: AllocError) -> WordsError {
+        WordsError::Memory
+    }
+}
+
+/// The words after the program's name. (`env::args` doesn't tell which of them isn't UTF-8.)
+///
+/// # Errors
+/// [`WordsError`], for the first such word.
+fn words<R: Env + Alloc<A = Global>>(rt: &R) -> Result<Vec<String>, WordsError> {
     let mut words = Vec::new(rt.alloc());
-    for word in env::args(rt).map_err(|error| refused(&error))?.skip(1) {
-        words.push(word).map_err(|_| Refusal::Memory)?;
+    let mut buffer = vec![in rt.alloc(); 0; ROOM]?;
+    for number in 1..usize::MAX {
+        let Some(length) = word_into(rt, number, &mut buffer)? else {
+            break;
+        };
+        let Ok(word) = str::from_utf8(&buffer[..length]) else {
+            return Err(WordsError::NotUtf8(number));
+        };
+        words.push(String::from_str(rt.alloc(), word)?).map_err(AllocError::from)?;
     }
     Ok(words)
 }
 
-/// Words that aren't UTF-8 are a wrong use; the other cause is memory that ran out.
-fn refused(error: &io::Error) -> Refusal {
-    if error.kind() == ErrorKind::OutOfMemory {
-        Refusal::Memory
-    } else {
-        Refusal::Usage
+/// Puts the word with this number at the front of a buffer, which grows until it fits, and gives its length; or None where
+/// there is no such word.
+fn word_into<R: Env>(
+    rt: &R,
+    number: usize,
+    buffer: &mut Vec<u8>,
+) -> Result<Option<usize>, AllocError>
+    ensures { IfOk result (λ found. IfSome found (λ length. length ≤ vec_len buffer.new)) }
+{
+    for _ in 0..usize::BITS {
+        match rt.arg(number, buffer.as_mut_slice()) {
+            Ok(length) => return Ok(Some(length)),
+            Err(FillError::NotPresent) => return Ok(None),
+            Err(FillError::TooLong) => buffer.resize(buffer.len().saturating_mul(2), 0)?,
+        }
     }
+    Err(AllocError)
 }
 
 /// Runs the program over the standard streams.
-fn go(rt: &HostRuntime) -> Result<(), Refusal> {
-    let words = words(rt)?;
+fn go(rt: &HostRuntime, words: &[String]) -> Result<(), Refusal> {
     let mut var = |name: &str| -> Result<String, VarError> { env::var(rt, name) };
     let environment = Environment::read(&mut var)?;
     run(
         rt.alloc(),
-        words.as_slice(),
+        words,
         &environment,
         &mut rt.reader(),
         &mut io::writer(rt),
@@ -41,7 +81,14 @@ fn go(rt: &HostRuntime) -> Result<(), Refusal> {
 }
 
 fn main(rt: HostRuntime) -> ExitCode {
-    let ended = go(&rt);
+    let ended = match words(&rt) {
+        Ok(words) => go(&rt, words.as_slice()),
+        Err(WordsError::Memory) => Err(Refusal::Memory),
+        Err(WordsError::NotUtf8(number)) => {
+            let _ = eprintln!(rt; "word {number}: not UTF-8; use --specs-first");
+            return ExitCode::from(Refusal::Usage.status());
+        }
+    };
     if let Err(refusal) = &ended {
         let _ = eprintln!(rt; "{refusal}");
     }

@@ -29,7 +29,8 @@ use std::iter::IntoIterator;
 /// Why specs make no search.
 #[derive(Debug, Drop, PartialEq, Eq, thiserror::Error)]
 pub enum BuildError {
-    /// A spec has no normal form: its place in the list, counted from 0, and why. It is the first such spec.
+    /// A spec has no normal form, or the line of a text says no spec: its place in the list or the number of its line,
+    /// counted from 0, and why. It is the first such spec or line.
     #[error("spec {0}: {1}")]
     Spec(usize, Error),
     /// Memory ran out.
@@ -141,7 +142,7 @@ where
 }
 
 /// Makes a search of these patterns.
-fn build(
+pub(super) fn build(
     alloc: Global,
     patterns: Vec<Pattern>,
     prefix: BStr<'_>,
@@ -224,7 +225,7 @@ fn compile(
 }
 
 /// The error for an error of the spec with this number.
-fn error_at(number: usize, error: Error) -> BuildError
+pub(super) fn error_at(number: usize, error: Error) -> BuildError
     ensures { IsErrorAt number error result }
 {
     match error {

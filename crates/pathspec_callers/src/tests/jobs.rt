@@ -1,6 +1,7 @@
 //! What words and the environment ask for: jobs, rows and refusals.
 use crate::tests::attributes::ask;
 use crate::tests::support::{Row, UNSET, USAGE, Variables, assert_each, is_told, job_of};
+use bstr::BStr;
 use gix_pathspec::parse;
 use pathspec_parts::attributes::{Outcome, StateRef};
 use pathspec_select::{Job, Refusal};
@@ -41,6 +42,11 @@ fn the_first_fault_is_told(rt: HostRuntime) -> Result<(), Fail> {
         Refused("--prefix a//", UNSET, 2, USAGE),
         Refused("--prefix / x", UNSET, 2, USAGE),
         Refused("--prefix", UNSET, 2, USAGE),
+        Refused("--specs-first", UNSET, 2, USAGE),
+        Refused("--specs-first f x", UNSET, 2, USAGE),
+        Refused("--specs-first f -- :", UNSET, 2, USAGE),
+        Refused("--specs-first f --specs-first", UNSET, 2, USAGE),
+        Refused("--specs-first f --prefix ..", UNSET, 2, USAGE),
         Refused("x", GLOB_AND_NO_GLOB, 3, "environment: GlobAndNoGlob"),
         Refused("x", BAD_CASE, 3, "environment: NotTruth"),
         Refused("a :#x", UNSET, 3, "spec 1: UnimplementedShort"),
@@ -60,6 +66,8 @@ fn the_first_fault_is_told(rt: HostRuntime) -> Result<(), Fail> {
         Refused("../x :#y", UNSET, 3, "spec 1: UnimplementedShort"),
         Refused("../x :(prefix:9)y", UNSET, 3, "spec 1: InvalidPrefix"),
         Refused("a ../x ../y", UNSET, 3, "spec 1: LeavesRepository"),
+        Refused("--specs-first f :#x", BAD_CASE, 2, USAGE),
+        Refused("--specs-first f", BAD_CASE, 3, "environment: NotTruth"),
     ];
     assert_each(&rt, rt.alloc(), ROWS)
 }
@@ -92,7 +100,10 @@ fn records_end_by_nul_where_it_is_asked_for(rt: HostRuntime) -> Result<(), Fail>
 /// The long texts of a job's specs in search order, each with a space after it.
 fn texts_of(alloc: Global, job: &Job) -> Result<Vec<u8>, Fail> {
     let mut texts = Vec::new(alloc);
-    for pattern in job.search().patterns() {
+    let Some(search) = job.search() else {
+        return Err("the specs stand in the input".into());
+    };
+    for pattern in search.patterns() {
         texts.extend_from_slice(pattern.to_bstring()?.as_bytes())?;
         texts.push(b' ')?;
     }
@@ -130,6 +141,38 @@ fn specs_are_read_under_the_defaults_of_the_environment(rt: HostRuntime) -> Resu
         Specs("a", NO_CASE, ":(icase)a "),
         Specs("a*", GLOB, ":(glob)a* "),
         Specs("-- --attr", UNSET, ":()--attr "),
+    ];
+    assert_each(&rt, rt.alloc(), ROWS)
+}
+
+/// Words, and what the source of the specs is called, where they stand in the input; then there is no search.
+#[derive(Clone, Copy)]
+struct Source(&'static str, Option<&'static str>);
+
+impl Row for Source {
+    fn holds(&self, alloc: Global) -> Result<bool, Fail> {
+        let (job, _) = job_of(alloc, self.0, UNSET)??;
+        let is_source = match (job.source(), self.1) {
+            (Some(source), Some(want)) => source == BStr::new(want.as_bytes()),
+            (None, None) => true,
+            _ => false,
+        };
+        Ok(is_source && job.search().is_none() == self.1.is_some())
+    }
+}
+
+#[test]
+fn specs_stand_in_the_input_where_it_is_asked_for(rt: HostRuntime) -> Result<(), Fail> {
+    const ROWS: &[Source] = &[
+        Source("a", None),
+        Source("", None),
+        Source("--specs-first f", Some("f")),
+        Source("--specs-first f --", Some("f")),
+        Source("--specs-first f --specs-first g -z", Some("g")),
+        Source("--specs-first --specs-first", Some("--specs-first")),
+        Source("--specs-first --", Some("--")),
+        Source("-- --specs-first f", None),
+        Source("a --specs-first f", None),
     ];
     assert_each(&rt, rt.alloc(), ROWS)
 }

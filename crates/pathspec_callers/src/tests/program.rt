@@ -23,7 +23,7 @@ fn run_words(
 }
 
 /// Runs the program over a listing, with the words of a line and these variables.
-fn run_line(
+pub(super) fn run_line(
     alloc: Global,
     line: &str,
     variables: Variables,
@@ -35,7 +35,7 @@ fn run_line(
 }
 
 /// Whether a run writes just this.
-fn writes(
+pub(super) fn writes(
     alloc: Global,
     line: &str,
     variables: Variables,
@@ -265,9 +265,9 @@ fn records_hold_any_bytes(rt: HostRuntime) -> Result<(), Fail> {
 
 /// Gives its bytes one a call, and then, or at the end of them, fails in its way.
 #[derive(Drop)]
-struct Faltering<'a> {
-    bytes: &'a [u8],
-    fault: ErrorKind,
+pub(super) struct Faltering<'a> {
+    pub(super) bytes: &'a [u8],
+    pub(super) fault: ErrorKind,
 }
 
 impl<'a> Read for Faltering<'a> {
@@ -509,7 +509,7 @@ fn no_write_is_made_again_and_none_flushed(rt: HostRuntime) -> Result<(), Fail> 
 }
 
 /// Does the job of the words of a line with a look-up, and gives what it writes.
-fn written_with<L: LookUp<Fault = AllocError>>(
+pub(super) fn written_with<L: LookUp<Fault = AllocError>>(
     alloc: Global,
     job: &mut Job,
     listing: &[u8],

@@ -144,7 +144,7 @@ fn hash_of<T: Hash>(value: &T) -> u64 {
 
 /// The line of a wrong use.
 pub(super) const USAGE: &str =
-    "usage: pathspec-select [-z] [--prefix P] [--root R] [--attr PATH LIST]... [--] [SPEC...]";
+    "usage: pathspec-select [-z] [--prefix P] [--root R] [--attr PATH LIST]... [--specs-first NAME] [--] [SPEC...]";
 
 /// Whether a refusal has this status and this line.
 pub(super) fn is_told(

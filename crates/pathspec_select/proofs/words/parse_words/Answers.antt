@@ -2,7 +2,8 @@
 use Rattle.std.proofs.Common.{◌≡◌, ◌∙◌, ap, map, not, true, is_ok, string_bytes}
 use Rattle.std.proofs.lemmas.Result.{err_from_is_err_and}
 use Rattle.gix_pathspec.specs.Patterns.{pattern_spec}
-use Rattle.pathspec_select.proofs.WordProofs.{words-more, words-fail, tells-on, pushed}
+use Rattle.gix_pathspec.proofs.LineProofs.{pushed}
+use Rattle.pathspec_select.proofs.WordProofs.{words-more, words-fail, tells-on}
 use Rattle.pathspec_select.proofs.words.parse_words.Goals as goal
 
 pub returns-in_err-pattern : goal.returns-in_err-pattern

@@ -1,14 +1,13 @@
 -- Each fault in its order, and what is asked for where there is none.
 use Rattle.std.proofs.Common.{◌≡◌, ◌∙◌, sym, ap, map, string_bytes, Ok, Err}
 use Rattle.std.proofs.lemmas.Result.{err_from_is_err_and}
-use Rattle.gix_pathspec.specs.Patterns.{pattern_spec}
-use Rattle.pathspec_select.specs.WordFaults.WordFault.{Usage}
+use Rattle.pathspec_select.specs.RequestFaults.RequestFault.{Usage}
 use Rattle.pathspec_select.specs.Environment.{words_of}
-use Rattle.pathspec_select.specs.Words.{parsed_words}
-use Rattle.pathspec_select.specs.Requests.{request_of}
+use Rattle.pathspec_select.specs.Requests.{numbered_specs, request_of}
+use Rattle.pathspec_select.specs.JobForms.{job_specs_view}
 use Rattle.pathspec_select.proofs.WordProofs.{tells-on}
 use Rattle.pathspec_select.proofs.RowProofs.{rows-words}
-use Rattle.pathspec_select.proofs.RequestProofs.{tells-usage, request-options, request-rows, request-environment, request-reading, request-search, request-done}
+use Rattle.pathspec_select.proofs.RequestProofs.{tells-usage, request-options, request-rows, request-environment, request-specs, request-done}
 use Rattle.pathspec_select.proofs.job.Job.from_words.Goals as goal
 
 pub returns-in_err-options-clause-request : goal.returns-in_err-options-clause-request
@@ -34,26 +33,14 @@ returns-in_err-defaults-clause-request c =
     let r = sym (rows-words words o.0 o.1) ∙ c.in_ok-rows.ensures.rows in
     rw (p.1, p.2) (tells-on c.in_err-defaults.field-0.0 _ _ (request-environment words environment o.0 o.1 c.in_ok-rows.rows.rows r) c.in_err-defaults.ensures)
 
-pub returns-in_err-patterns-clause-request : goal.returns-in_err-patterns-clause-request
-returns-in_err-patterns-clause-request c =
-    let p = err_from_is_err_and c.from_residual-in_err-patterns.result c.from_residual-in_err-patterns.ensures.1 in
+pub returns-in_err-specs-clause-request : goal.returns-in_err-specs-clause-request
+returns-in_err-specs-clause-request c =
+    let p = err_from_is_err_and c.from_residual-in_err-specs.result c.from_residual-in_err-specs.ensures.1 in
     let words = map string_bytes c.args.words.now in
     let environment = words_of c.args.environment.now in
     let o = c.in_ok-options.ensures.options in
     let r = sym (rows-words words o.0 o.1) ∙ c.in_ok-rows.ensures.rows in
-    rw (p.1, p.2)
-    (tells-on c.in_err-patterns.field-0.0 _ _ (λ fault h. request-reading words environment o.0 o.1 c.in_ok-rows.rows.rows r c.in_ok-defaults.defaults c.in_ok-defaults.ensures fault (ap (parsed_words c.in_ok-defaults.defaults) o.2.texts ∙ h)) c.in_err-patterns.ensures)
-
-pub returns-in_err-search-clause-request : goal.returns-in_err-search-clause-request
-returns-in_err-search-clause-request c =
-    let p = err_from_is_err_and c.from_residual-in_err-search.result c.from_residual-in_err-search.ensures.1 in
-    let words = map string_bytes c.args.words.now in
-    let environment = words_of c.args.environment.now in
-    let o = c.in_ok-options.ensures.options in
-    let r = sym (rows-words words o.0 o.1) ∙ c.in_ok-rows.ensures.rows in
-    let read = ap (parsed_words c.in_ok-defaults.defaults) o.2.texts ∙ c.in_ok-patterns.ensures in
-    rw (p.1, p.2)
-    (tells-on c.in_err-search.field-0.0 _ _ (λ fault h. request-search words environment o.0 o.1 c.in_ok-rows.rows.rows r c.in_ok-defaults.defaults c.in_ok-defaults.ensures (map pattern_spec c.in_ok-patterns.patterns.items) read fault (rw (o.2.settings.prefix, o.2.settings.root) h)) c.in_err-search.ensures.specs)
+    rw (p.1, p.2) (tells-on c.in_err-specs.field-0.0 _ _ (request-specs words environment o.0 o.1 c.in_ok-rows.rows.rows r c.in_ok-defaults.defaults c.in_ok-defaults.ensures) (c.in_err-specs.ensures.specs o.0 o.2))
 
 pub returns-clause-request : goal.returns-clause-request
 returns-clause-request c =
@@ -61,6 +48,6 @@ returns-clause-request c =
     let environment = words_of c.args.environment.now in
     let o = c.in_ok-options.ensures.options in
     let r = sym (rows-words words o.0 o.1) ∙ c.in_ok-rows.ensures.rows in
-    let read = ap (parsed_words c.in_ok-defaults.defaults) o.2.texts ∙ c.in_ok-patterns.ensures in
-    request-done words environment o.0 o.1 c.in_ok-rows.rows.rows r c.in_ok-defaults.defaults c.in_ok-defaults.ensures (map pattern_spec c.in_ok-patterns.patterns.items) read c.in_ok-search.search.specs (rw (o.2.settings.prefix, o.2.settings.root) c.in_ok-search.ensures.specs)
-    ∙ ap (λ separator. Ok (record { separator = separator; rows = c.in_ok-rows.rows.rows; specs = c.in_ok-search.search.specs })) o.2.settings.separator
+    let specs = numbered_specs (job_specs_view c.in_ok-specs.specs) in
+    request-done words environment o.0 o.1 c.in_ok-rows.rows.rows r c.in_ok-defaults.defaults c.in_ok-defaults.ensures specs (c.in_ok-specs.ensures.specs o.0 o.2)
+    ∙ ap (λ separator. Ok (record { separator = separator; rows = c.in_ok-rows.rows.rows; specs = specs })) o.2.settings.separator
