@@ -6,10 +6,9 @@ ghost use Rattle.std.specs.Prelude.{◌≤◌, IfOk, IfSome, vec_len};
 use pathspec_select::{Environment, Refusal, exit_status, run};
 use std::alloc::{AllocError, Global};
 use std::env::{self, FillError, VarError};
-use std::io;
 use std::process::ExitCode;
 use std::rt::Env;
-use std::str;
+use std::{io, str};
 
 /// How many bytes of a word are asked for at first.
 const ROOM: usize = 256;
@@ -43,7 +42,9 @@ fn words<R: Env + Alloc<A = Global>>(rt: &R) -> Result<Vec<String>, WordsError> 
         let Ok(word) = str::from_utf8(&buffer[..length]) else {
             return Err(WordsError::NotUtf8(number));
         };
-        words.push(String::from_str(rt.alloc(), word)?).map_err(AllocError::from)?;
+        words
+            .push(String::from_str(rt.alloc(), word)?)
+            .map_err(AllocError::from)?;
     }
     Ok(words)
 }

@@ -1,6 +1,6 @@
 //! The examples of the repository's README.
 use bstr::BStr;
-use gix_pathspec::{Defaults, Pattern, Search};
+use gix_pathspec::{BuildError, Defaults, Pattern, Search};
 use pathspec_parts::attributes::Case;
 use pathspec_parts::glob::{Glob, Mode, Scratch};
 use std::test::Fail;
@@ -38,5 +38,21 @@ fn the_stored_spec_of_the_readme_reads_back(rt: HostRuntime) -> Result<(), Fail>
     assert!(rt; stored.as_bytes() == b":(icase,prefix:1)a/B".as_slice());
     let read = Pattern::from_bytes(alloc, stored.as_bytes(), Defaults::default())?;
     assert!(rt; read == spec);
+    Ok(())
+}
+
+#[test]
+fn the_lines_of_the_readme_are_at_fault(rt: HostRuntime) -> Result<(), Fail> {
+    let (alloc, top) = (rt.alloc(), BStr::new(b""));
+    let text = b"*.md\n:(foo)x\n";
+    let built = Search::from_lines(
+        alloc,
+        text,
+        BStr::new(b"specs"),
+        Defaults::default(),
+        None,
+        top,
+    );
+    assert!(rt; matches!(&built, Err(BuildError::Spec(1, _))));
     Ok(())
 }
