@@ -5,7 +5,7 @@ use Rattle.gix_pathspec.specs.Bytes.{is_empty}
 use Rattle.gix_pathspec.specs.Specs.{Spec, is_include, wants_directory}
 use Rattle.gix_pathspec.specs.Prefixes.{common_prefix}
 use Rattle.gix_pathspec.specs.Pruning.{agree}
-use Rattle.gix_pathspec.specs.Directories.{settles, settling_answer, takes_directory, directory_matches, ends_at_boundary, parent, non_empty, directory_of, common_directory}
+use Rattle.gix_pathspec.specs.Directories.{settles, settling_answer, allows_directory, directory_matches, ends_at_boundary, parent, non_empty, directory_of, common_directory}
 
 -- ---- what lies in the prefix
 
@@ -17,7 +17,7 @@ module _ (specs : List Spec) (d : List ℕ) (leading : Bool) where
 
   -- where the path and the common prefix agree
   pub directory_matches-agreed : {a b r : Bool} → a ≡ (is_empty specs || is_empty d) → a ≡ false → b ≡ agree d (common_prefix specs) → b ≡ true
-      → r ≡ settling_answer (find settles specs) (not (list_any is_include specs) || list_any (takes_directory d leading) specs) → r ≡ directory_matches specs d leading
+      → r ≡ settling_answer (find settles specs) (not (list_any is_include specs) || list_any (allows_directory d leading) specs) → r ≡ directory_matches specs d leading
   unfolding directory_matches
   directory_matches-agreed e h f k g = rw (sym e ∙ h, sym f ∙ k) g
 

@@ -10,7 +10,7 @@ use Rattle.std.specs.List.{list_any, list_all, before_last, after_first, positio
 use Rattle.std.specs.Char.{to_ascii_lowercase}
 use Rattle.gix_pathspec.specs.Attributes.{Table}
 use Rattle.gix_pathspec.specs.Bytes.{slash, is_empty, first_is, fold_case, is_wildcard}
-use Rattle.gix_pathspec.specs.Directories.{parent_or_self, front, agrees_in_front, settles, settling_answer, takes_directory, directory_matches, ends_at_boundary, parent, non_empty, directory_of, common_directory}
+use Rattle.gix_pathspec.specs.Directories.{parent_or_self, front, agrees_in_front, settles, settling_answer, allows_directory, directory_matches, ends_at_boundary, parent, non_empty, directory_of, common_directory}
 use Rattle.gix_pathspec.specs.DirectoryLaws.{OutsideFitsNone, OutsideIsSafe, LeadingIsWider, CommonDirectoryHoldsAll}
 use Rattle.gix_pathspec.specs.Matching.{is_in_prefix_directory, fits}
 use Rattle.gix_pathspec.specs.Paths.{is_below, IsAtOrBelow, is_slash}
@@ -181,7 +181,7 @@ settled_total specs e h w =
 pub outside_fits_none : (specs : List Spec) → OutsideFitsNone specs
 unfolding directory_matches
 outside_fits_none specs d h =
-    let takes : Spec → Bool = takes_directory d true in
+    let takes : Spec → Bool = allows_directory d true in
     let some = list_any is_include specs in
     elim (outside (is_empty specs) (is_empty d) (agree d (common_prefix specs)) (find settles specs) some (list_any takes specs) h) [
       | inl m ↦ elim (cases_Bool some) [
@@ -229,7 +229,7 @@ leading_agrees s d h =
     rw le h
 
 -- so an include that takes d takes it with leading
-leading_takes : (s : Spec) (d : List ℕ) → takes_directory d false s ≡ true → takes_directory d true s ≡ true
+leading_takes : (s : Spec) (d : List ℕ) → allows_directory d false s ≡ true → allows_directory d true s ≡ true
 leading_takes s d h =
     let p = and_parts (is_include s) (always_matches s || agrees_in_front s d false) h in
     and_from (is_include s) (always_matches s || agrees_in_front s d true) p.0 (elim (or_cases (always_matches s) (agrees_in_front s d false) p.1) [
@@ -241,8 +241,8 @@ leading_takes s d h =
 pub leading_is_wider : (specs : List Spec) → LeadingIsWider specs
 unfolding directory_matches
 leading_is_wider specs d h =
-    let narrow : Spec → Bool = takes_directory d false in
-    let wide : Spec → Bool = takes_directory d true in
+    let narrow : Spec → Bool = allows_directory d false in
+    let wide : Spec → Bool = allows_directory d true in
     widen (is_empty specs) (is_empty d) (agree d (common_prefix specs)) (find settles specs) (list_any is_include specs) (list_any narrow specs) (list_any wide specs)
     (λ n. let f = contained_where narrow specs n in list_any-contained wide specs f.0 f.1 (leading_takes f.0 d f.2)) h
 

@@ -7,7 +7,7 @@ use Rattle.gix_pathspec.specs.declared.search.found.MatchPlace.TheVariants.{Nil 
 use Rattle.std.specs.Option.{option_and_then}
 use Rattle.std.proofs.lemmas.List.{length-map}
 use Rattle.pathspec_heads.specs.Heads.{head_at, IsChainOf}
-use Rattle.pathspec_heads.specs.Groups.{CountedPlaces, IsGrouped, IsInChain, IsNext}
+use Rattle.pathspec_heads.specs.Groups.{CountedPlaces, IsGrouped, IsInChain, IsLeastFrom}
 use Rattle.pathspec_heads.proofs.CandidateProofs.{IsCandidate, candidates-next}
 use Rattle.gix_pathspec.specs.declared.search.MatchKind.{MatchKind}
 use Rattle.gix_pathspec.specs.Bytes.{is_empty, begins_with}
@@ -103,14 +103,14 @@ drop-all (x ∷ xs) zero h = absurd (omega (arith, h))
 drop-all (x ∷ xs) (suc n) h = drop-all xs n (omega (arith, h))
 
 module _ (table : Table) (path : List ℕ) (is_dir : Bool) (ns : List Numbered) (p : CountedPlaces) (grouped : IsGrouped (heads_in_order ns) p.heads p.starts p.order) (j from : ℕ) (chain : IsChainOf p.heads path j) (result : Option ℕ)
-    (n : IsNext (IsInChain p.heads p.starts p.order j) from result) where
-  candidate : IsNext (IsCandidate (heads_in_order ns) path) from result
+    (n : IsLeastFrom (IsInChain p.heads p.starts p.order j) from result) where
+  candidate : IsLeastFrom (IsCandidate (heads_in_order ns) path) from result
   candidate = candidates-next (heads_in_order ns) p.heads p.starts p.order grouped path j from result chain n
 
   -- the next place is of a spec whose head begins the path, and those before it don't matter
   pub next-candidate : (place : ℕ) → result ≡ Some place → (from ≤ place) × (place < length ns) × (begins_with path (head_at (heads_in_order ns) place) ≡ true) × (first_match table (drop from ns) path is_dir ≡ first_match table (drop place ns) path is_dir)
   next-candidate place is =
-      let next : IsNext (IsCandidate (heads_in_order ns) path) from (Some place) = subst (IsNext (IsCandidate (heads_in_order ns) path) from) is candidate in
+      let next : IsLeastFrom (IsCandidate (heads_in_order ns) path) from (Some place) = subst (IsLeastFrom (IsCandidate (heads_in_order ns) path) from) is candidate in
       let within : place < length ns = omega (arith, next.found.1.0, count-heads ns) in
       let before : (q : ℕ) → from ≤ q → q < place → begins_with path (head_at (heads_in_order ns) q) ≡ false
       = λ q a b. not_true (begins_with path (head_at (heads_in_order ns) q)) (λ h. let le = next.first q a (omega (arith, b, next.found.1.0), h) in absurd (omega (arith, le, b))) in
@@ -119,7 +119,7 @@ module _ (table : Table) (path : List ℕ) (is_dir : Bool) (ns : List Numbered) 
   -- none is left
   pub none-left : result ≡ None → from ≤ length ns → first_match table (drop from ns) path is_dir ≡ None
   none-left is l =
-      let next : IsNext (IsCandidate (heads_in_order ns) path) from None = subst (IsNext (IsCandidate (heads_in_order ns) path) from) is candidate in
+      let next : IsLeastFrom (IsCandidate (heads_in_order ns) path) from None = subst (IsLeastFrom (IsCandidate (heads_in_order ns) path) from) is candidate in
       let after : (q : ℕ) → from ≤ q → q < length ns → begins_with path (head_at (heads_in_order ns) q) ≡ false
       = λ q a b. not_true (begins_with path (head_at (heads_in_order ns) q)) (λ h. absurd (next.first q a (omega (arith, b, count-heads ns), h))) in
       skip-to table path is_dir ns from (length ns) l (omega arith) after ∙ ap (λ xs. first_match table xs path is_dir) (drop-all ns (length ns) (omega arith))

@@ -18,10 +18,10 @@ front s = if has_wildcard s then parent_or_self (stem s) else s.path
 -- With leading, a front longer than n is cut down to what stands before the last slash of the path's first n bytes, or where they have none to those bytes, if a slash follows them.
 abbrev pub leading_front : Spec → ℕ → List ℕ
 leading_front s n =
-    let within = take n s.path in
+    let first_bytes = take n s.path in
     if nat_le (length (front s)) n then front s
-    else if list_any is_slash within then before_last is_slash within
-    else if first_is is_slash (drop n s.path) then within
+    else if list_any is_slash first_bytes then before_last is_slash first_bytes
+    else if first_is is_slash (drop n s.path) then first_bytes
     else front s
 
 -- the front that counts for d
@@ -43,15 +43,15 @@ settling_answer (Some s) otherwise = has_wildcard s
 settling_answer None otherwise = otherwise
 
 -- an include that always matches, or whose front d begins with
-abbrev pub takes_directory : List ℕ → Bool → Spec → Bool
-takes_directory d leading s = is_include s && (always_matches s || agrees_in_front s d leading)
+abbrev pub allows_directory : List ℕ → Bool → Spec → Bool
+allows_directory d leading s = is_include s && (always_matches s || agrees_in_front s d leading)
 
 -- Whether d can lie in the prefix of the specs, which stand in search order. True for no specs or an empty d, and false where d and the common prefix disagree.
 unfoldable pub directory_matches : List Spec → List ℕ → Bool → Bool
 directory_matches specs d leading =
     is_empty specs || is_empty d
     || agree d (common_prefix specs)
-    && settling_answer (find settles specs) (not (list_any is_include specs) || list_any (takes_directory d leading) specs)
+    && settling_answer (find settles specs) (not (list_any is_include specs) || list_any (allows_directory d leading) specs)
 
 -- the path ends with the common prefix, or goes on after it with a slash
 abbrev pub ends_at_boundary : List ℕ → Spec → Bool

@@ -241,7 +241,7 @@ module _ (mode : Mode) (case : Case) where
       there 1 ts (λ i. e (suc i)) (λ i. s (suc i)) [] (let some = over-some mode t ts held.1 in omega arith) (closed.over 0 (omega arith) held.0 held.1) parts.1)
       ∙ rest)
 
-  -- where no place is held, none leads to a text
+  -- where no place is active, none leads to a text
   pub none-accepts : (ts : List Token) (e s : ℕ → Bool) (text : List ℕ) → ((i : ℕ) → i ≤ length ts → e i ≡ false) → ((i : ℕ) → i < length ts → s i ≡ false)
       → accepts mode case ts e s text ≡ false
   none-accepts [] e s text none stays = rw (none 0 (omega arith)) refl

@@ -7,8 +7,8 @@ use Rattle.pathspec_glob.specs.declared.Mode.TheVariants.{Shell, PathAware}
 use Rattle.pathspec_glob.specs.declared.Case.{Case}
 use Rattle.pathspec_glob.specs.declared.Case.TheVariants.{Sensitive, Fold}
 use Rattle.pathspec_glob.specs.Bytes.{slash}
-use Rattle.pathspec_glob.specs.Tokens.{Item, Single, Token}
-use Rattle.pathspec_glob.specs.Tokens.Single.{Byte, Quoted, Any, Bracket, Dead}
+use Rattle.pathspec_glob.specs.Tokens.{Item, OneByte, Token}
+use Rattle.pathspec_glob.specs.Tokens.OneByte.{Byte, Quoted, Any, Bracket, Dead}
 use Rattle.pathspec_glob.specs.Tokens.Token.{One, Star, Deep}
 use Rattle.pathspec_glob.specs.GlobRelation.{bracket_holds, items_hold, matches, passes_over, some_suffix, takes, takes_first}
 use Rattle.pathspec_glob.specs.ByteSets.{literals_below, literals, listed_single, listed}
@@ -76,7 +76,7 @@ pub holds-Fold : (case : Case) (set : ℕ → Bool) (b low up : ℕ) (r : Bool) 
 holds-Fold case set b low up r fits is l u e =
     rw (is, literals-hold 256 set (to_ascii_lowercase b) (lower-fits b fits), literals-hold 256 set (to_ascii_uppercase b) (upper-fits b fits)) (e ∙ rw (l, u) refl)
 
-takes-listed : (mode : Mode) (case : Case) (single : Single) (b : ℕ) → b < 256 → takes mode case (listed_single single) b ≡ takes mode case single b
+takes-listed : (mode : Mode) (case : Case) (single : OneByte) (b : ℕ) → b < 256 → takes mode case (listed_single single) b ≡ takes mode case single b
 takes-listed mode case (Byte x) b h = refl
 takes-listed mode case (Quoted x) b h = refl
 takes-listed mode case Any b h = refl
@@ -87,7 +87,7 @@ takes-listed mode case Dead b h = refl
 abbrev Fit : List ℕ → Type 0
 Fit text = (k : ℕ) → get_or text k 0 < 256
 
-one-listed : (mode : Mode) (case : Case) (single : Single) (f g : List ℕ → Bool) (text : List ℕ) → Fit text → ((v : List ℕ) → Fit v → f v ≡ g v)
+one-listed : (mode : Mode) (case : Case) (single : OneByte) (f g : List ℕ → Bool) (text : List ℕ) → Fit text → ((v : List ℕ) → Fit v → f v ≡ g v)
     → takes_first (takes mode case (listed_single single)) f text ≡ takes_first (takes mode case single) g text
 one-listed mode case single f g [] fit same = refl
 one-listed mode case single f g (b ∷ bs) fit same = rw (takes-listed mode case single b (fit 0), same bs (λ k. fit (suc k))) refl

@@ -13,7 +13,7 @@ use Rattle.std.specs.Int.{bit_at, bit_not}
 use Rattle.pathspec_glob.specs.Bytes.{slash}
 use Rattle.std.specs.Int.Bits.{bit_and}
 use Rattle.std.specs.Int.RustNames.{bit_or}
-use Rattle.pathspec_glob.specs.GlobCells.{Loop, Cell, keeps, within, cells_match, set_leads, further, not_free, Rules, StayAtEnds, has}
+use Rattle.pathspec_glob.specs.GlobCells.{Loop, Cell, keeps, after_kept, cells_match, set_leads, further, not_free, Rules, StayAtEnds, has}
 use Rattle.pathspec_glob.proofs.BitProofs.{has-zero, has-and, has-not, has-or, has-shl, has-shl_first, alone}
 
 -- what the place behind all cells leads to by a byte
@@ -49,7 +49,7 @@ follows mode case (c ∷ cs) last a d t l p n m g b bs rules held taken passed o
     (λ i h. once (suc i) (omega arith))
     (rw (taken 0 (omega arith), passed 0 (omega arith), come) (next-cases (n 0) (m 0) (p 0) (d 0) (t 0) (once 0 (omega arith)))) in
     rw (ih, held 0 (omega arith), sym come, rules.0, rules.1, rules.2)
-    (byte-cases a (d 0) (takes mode case c.single b) (keeps c.loop b) c.over (within (keeps c.loop) (takes mode case c.single) (cells_match mode case cs last) bs) (cells_match mode case cs last bs) (set_leads mode case cs last (λ i. d (suc i)) (b ∷ bs)))
+    (byte-cases a (d 0) (takes mode case c.single b) (keeps c.loop b) c.over (after_kept (keeps c.loop) (takes mode case c.single) (cells_match mode case cs last) bs) (cells_match mode case cs last bs) (set_leads mode case cs last (λ i. d (suc i)) (b ∷ bs)))
 
 -- where none is passed over to, since only the first may be and no byte leads to it
 pub follows-plain : (mode : Mode) (case : Case) (cs : List Cell) (last : Loop) (d t l p g : ℕ → Bool) (b : ℕ) (bs : List ℕ)
@@ -126,7 +126,7 @@ word-follows mode case cs last places taken kept overs all come over result b bs
     (once all come over cs first passed apart)
     (rw (is_come, has-shl_first (bit_and places taken), first) refl)
 
--- ---- a word of the places that aren't held, and one of the last
+-- ---- a word of the places that aren't active, and one of the last
 
 drop-cases : (x y : Bool) → not (x || y) ≡ ((not x && not y) || false)
 drop-cases true y = refl
@@ -139,7 +139,7 @@ stay-cases false true y = refl
 stay-cases false false true = refl
 stay-cases false false false = refl
 
--- the first place is held after a byte, since no bit is shifted in
+-- the first place is active after a byte, since no bit is shifted in
 pub first-held : (end freed last : ℕ) (stay : Bool) → not_free (freed * 2 ^ 1 % 2 ^ 64) (if stay then bit_and end (freed * 2 ^ 1 % 2 ^ 64) else freed * 2 ^ 1 % 2 ^ 64) last 0 ≡ true
 first-held end freed last stay =
     let none : has (freed * 2 ^ 1 % 2 ^ 64) 0 ≡ false = has-shl_first freed in
@@ -151,7 +151,7 @@ first-held end freed last stay =
       | inr e ↦ rw (e, none) refl
     ]
 
--- each other place is held after a byte where the one before was and takes it, and the last besides where it was and stays
+-- each other place is active after a byte where the one before was and takes it, and the last besides where it was and stays
 pub next-held : (free end row last : ℕ) (stay : Bool) (l : ℕ → Bool) → last < 64
     → ((i : ℕ) → 0 < i → i < last → l i ≡ false) → stay ≡ l last → (i : ℕ) → i < last
     → not_free (bit_or free row * 2 ^ 1 % 2 ^ 64) (if stay then bit_and end (bit_or free row * 2 ^ 1 % 2 ^ 64) else bit_or free row * 2 ^ 1 % 2 ^ 64) last (suc i)
@@ -179,19 +179,19 @@ begins-held places last i fits h =
     elim (cases_Bool (i == last)) [ inl e ↦ rw e same | inr e ↦ rw e same ]
 
 -- what stays at a byte, by the places that stay at a slash and at any other
-pub first-stays : (loops deeps overs last b : ℕ) (stays stays_at_slash : Bool) → StayAtEnds loops deeps overs last stays stays_at_slash
-    → has (if b == slash then deeps else loops) 0 ≡ true
-first-stays loops deeps overs last b stays stays_at_slash ends = elim (cases_Bool (b == slash)) [ inl e ↦ rw e ends.first_at_slash | inr e ↦ rw e ends.first ]
+pub first-stays : (stays stays_at_slash overs last b : ℕ) (last_stays last_stays_at_slash : Bool) → StayAtEnds stays stays_at_slash overs last last_stays last_stays_at_slash
+    → has (if b == slash then stays_at_slash else stays) 0 ≡ true
+first-stays stays stays_at_slash overs last b last_stays last_stays_at_slash ends = elim (cases_Bool (b == slash)) [ inl e ↦ rw e ends.first_at_slash | inr e ↦ rw e ends.first ]
 
-pub none-stays : (loops deeps overs last b : ℕ) (stays stays_at_slash : Bool) → StayAtEnds loops deeps overs last stays stays_at_slash
-    → (i : ℕ) → 0 < i → i < last → has (if b == slash then deeps else loops) i ≡ false
-none-stays loops deeps overs last b stays stays_at_slash ends i some below =
+pub none-stays : (stays stays_at_slash overs last b : ℕ) (last_stays last_stays_at_slash : Bool) → StayAtEnds stays stays_at_slash overs last last_stays last_stays_at_slash
+    → (i : ℕ) → 0 < i → i < last → has (if b == slash then stays_at_slash else stays) i ≡ false
+none-stays stays stays_at_slash overs last b last_stays last_stays_at_slash ends i some below =
     elim (cases_Bool (b == slash)) [ inl e ↦ rw e (ends.between_at_slash i some below) | inr e ↦ rw e (ends.between i some below) ]
 
-pub last-stays : (loops deeps overs last b : ℕ) (stays stays_at_slash : Bool) → StayAtEnds loops deeps overs last stays stays_at_slash
-    → (if b == slash then stays_at_slash else stays) ≡ has (if b == slash then deeps else loops) last
-last-stays loops deeps overs last b stays stays_at_slash ends =
-    elim (cases_Bool (b == slash)) [ inl e ↦ rw e ends.last_stays_at_slash | inr e ↦ rw e ends.last_stays ]
+pub last-stays : (stays stays_at_slash overs last b : ℕ) (last_stays last_stays_at_slash : Bool) → StayAtEnds stays stays_at_slash overs last last_stays last_stays_at_slash
+    → (if b == slash then last_stays_at_slash else last_stays) ≡ has (if b == slash then stays_at_slash else stays) last
+last-stays stays stays_at_slash overs last b last_stays last_stays_at_slash ends =
+    elim (cases_Bool (b == slash)) [ inl e ↦ rw e ends.at_last_at_slash | inr e ↦ rw e ends.at_last ]
 
 -- no place behind the first may be passed over
 pub none-passed : (overs i : ℕ) → overs / 2 ≡ 0 → has overs (suc i) ≡ false
@@ -207,7 +207,7 @@ pub leads-none : (mode : Mode) (case : Case) (cs : List Cell) (last : Loop) (f :
 leads-none mode case [] last f text none = rw (none 0) refl
 leads-none mode case (c ∷ cs) last f text none = rw (none 0) (leads-none mode case cs last (λ i. f (suc i)) text (λ i. none (suc i)))
 
--- where a text was read, or no place is held, the places lead to what is left just where the last is held
+-- where a text was read, or no place is active, the places lead to what is left just where the last is active
 pub leads-rest : (mode : Mode) (case : Case) (cs : List Cell) (last : Loop) (places read : ℕ) (text : List ℕ) → (read < length text → places ≡ 0)
     → set_leads mode case cs last (has places) (drop read text) ≡ has places (length cs)
 leads-rest mode case cs last places read text halted = elim (cases_lt read (length text)) [

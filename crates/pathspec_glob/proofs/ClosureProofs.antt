@@ -12,7 +12,7 @@ use Rattle.pathspec_glob.specs.declared.Mode.{Mode}
 use Rattle.pathspec_glob.specs.declared.places.Places.{Places}
 use Rattle.pathspec_glob.specs.Tokens.{Token}
 use Rattle.pathspec_glob.specs.GlobSteps.{TokenList, is_wide_at, may_pass_over_at}
-use Rattle.pathspec_glob.specs.GlobRows.{holds}
+use Rattle.pathspec_glob.specs.BitVecs.{holds}
 use Rattle.pathspec_glob.proofs.AcceptProofs.{over-next}
 use Rattle.pathspec_glob.proofs.BitProofs.{has-and, has-or, has-further, has-shr, has-zero}
 
@@ -331,7 +331,7 @@ carry-none index row i = rw (has-zero (i - index * 64), and-false (not (nat_lt i
 pub carry-before : (index carry : ℕ) (row : List Bool) (i : ℕ) → i < index * 64 → with_carry index carry row i ≡ holds row i
 carry-before index carry row i h = rw (lt-ltb i (index * 64) h) (or-false (holds row i))
 
--- a place that is neither come to nor stays isn't held
+-- a place that is neither come to nor stays isn't active
 pub unheld : (e s : Bool) → e ≡ false → s ≡ false → (e || s) ≡ true → ⊥
 unheld e s off none on = true≢false (sym on ∙ or_from e s off none)
 

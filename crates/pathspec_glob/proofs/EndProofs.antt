@@ -11,11 +11,11 @@ use Rattle.pathspec_glob.specs.declared.Case.{Case}
 use Rattle.pathspec_glob.specs.declared.Case.TheVariants.{Sensitive, Fold}
 use Rattle.pathspec_glob.specs.Bytes.{is_empty, slash}
 use Rattle.pathspec_glob.specs.Tokens.{Token}
-use Rattle.pathspec_glob.specs.Tokens.Single.{Byte}
+use Rattle.pathspec_glob.specs.Tokens.OneByte.{Byte}
 use Rattle.pathspec_glob.specs.Tokens.Token.{One, Star, Deep}
 use Rattle.pathspec_glob.specs.GlobRelation.{is_same_byte, takes, takes_first, matches, some_suffix, passes_over}
 use Rattle.pathspec_glob.specs.GlobSteps.{takes_byte, takes_at, is_wide_at, may_pass_over_at}
-use Rattle.pathspec_glob.specs.GlobParts.{head_of, middle_of, tail_of, plain_tokens, takes_each, tests_each, wide_takes}
+use Rattle.pathspec_glob.specs.GlobParts.{head_of, middle_of, tail_of, plain_tokens, takes_each, tests_each, first_token_takes}
 use Rattle.pathspec_glob.proofs.AcceptProofs.{from-place}
 use Rattle.pathspec_glob.proofs.GlobProofs.{passed}
 use Rattle.pathspec_glob.proofs.PartProofs.{is_single, stands, head-singles, tail-singles, tail-stands, parts-all}
@@ -241,7 +241,7 @@ module _ (mode : Mode) (case : Case) where
   star-alone [] = refl
   star-alone (b ∷ bs) = rw (star-alone bs) refl
 
-  pub wide-alone : (ts : List Token) (text : List ℕ) → length ts ≡ 1 → is_wide_at ts ≡ true → matches mode case ts text ≡ wide_takes ts text
+  pub wide-alone : (ts : List Token) (text : List ℕ) → length ts ≡ 1 → is_wide_at ts ≡ true → matches mode case ts text ≡ first_token_takes ts text
   unfolding matches
   wide-alone [] text one h = cc
   wide-alone (One s ∷ ts) text one h = cc
@@ -276,7 +276,7 @@ behind-slash case (b ∷ bs) =
 
 -- so the three take any text
 any-taken : (mode : Mode) (case : Case) (t next : Token) (ts : List Token) (text : List ℕ) → may_pass_over_at mode (t ∷ next ∷ ts) ≡ true
-    → matches mode case (t ∷ next ∷ Star ∷ []) text ≡ wide_takes (t ∷ next ∷ ts) text
+    → matches mode case (t ∷ next ∷ Star ∷ []) text ≡ first_token_takes (t ∷ next ∷ ts) text
 unfolding matches
 any-taken mode case (One s) next ts text over = cc
 any-taken mode case Star next ts text over = cc
@@ -285,7 +285,7 @@ any-taken PathAware case Deep next ts text over = rw (passed PathAware next over
 
 -- as deep alone does
 pub deep-slash_star : (mode : Mode) (case : Case) (ts : List Token) (text : List ℕ) → length ts ≡ 3 → drop 2 ts ≡ Star ∷ drop 3 ts → may_pass_over_at mode ts ≡ true
-    → matches mode case ts text ≡ wide_takes ts text
+    → matches mode case ts text ≡ first_token_takes ts text
 deep-slash_star mode case [] text three third over = cc
 deep-slash_star mode case (t ∷ []) text three third over = cc
 deep-slash_star mode case (t ∷ u ∷ []) text three third over = absurd (let no : ⊥ = omega arith in no)

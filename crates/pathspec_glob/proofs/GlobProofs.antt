@@ -8,7 +8,7 @@ use Rattle.pathspec_glob.specs.declared.Mode.TheVariants.{Shell, PathAware}
 use Rattle.pathspec_glob.specs.declared.Case.{Case}
 use Rattle.pathspec_glob.specs.Bytes.{slash}
 use Rattle.pathspec_glob.specs.Tokens.{Token}
-use Rattle.pathspec_glob.specs.Tokens.Single.{Byte, Quoted, Any, Bracket, Dead}
+use Rattle.pathspec_glob.specs.Tokens.OneByte.{Byte, Quoted, Any, Bracket, Dead}
 use Rattle.pathspec_glob.specs.Tokens.Token.{One, Star, Deep}
 use Rattle.pathspec_glob.specs.GlobRelation.{Matches, matches, some_suffix, takes, passes_over, IsPassedOver}
 use Rattle.pathspec_glob.specs.GlobRelation.Matches.{none, one, star, deep, over}

@@ -5,7 +5,7 @@ use Rattle.pathspec_glob.specs.declared.Mode.TheVariants.{Shell, PathAware}
 use Rattle.pathspec_glob.specs.declared.Case.TheVariants.{Sensitive, Fold}
 use Rattle.pathspec_glob.specs.Tokens.{tokens_from, tokens}
 use Rattle.pathspec_glob.specs.Tokens.Item.{Literal, Range, Class}
-use Rattle.pathspec_glob.specs.Tokens.Single.{Byte, Quoted, Bracket, Dead}
+use Rattle.pathspec_glob.specs.Tokens.OneByte.{Byte, Quoted, Bracket, Dead}
 use Rattle.pathspec_glob.specs.Tokens.Token.{One, Star, Deep}
 use Rattle.pathspec_glob.proofs.Asking.{globbed}
 

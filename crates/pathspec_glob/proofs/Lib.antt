@@ -10,7 +10,7 @@ pub mod EndProofs
 pub mod PlaceProofs
 pub mod AcceptProofs
 pub mod BitProofs
-pub mod RowProofs
+pub mod BitVecProofs
 pub mod ClosureProofs
 pub mod StepProofs
 pub mod CellProofs

@@ -8,7 +8,7 @@ use Rattle.pathspec_glob.specs.declared.Mode.{Mode}
 use Rattle.pathspec_glob.specs.declared.Mode.TheVariants.{Shell, PathAware}
 use Rattle.pathspec_glob.specs.declared.tokens.Token.{Token as Part}
 use Rattle.pathspec_glob.specs.Tokens.{Token}
-use Rattle.pathspec_glob.specs.Tokens.Single.{Byte}
+use Rattle.pathspec_glob.specs.Tokens.OneByte.{Byte}
 use Rattle.pathspec_glob.specs.Tokens.Token.{One, Star, Deep}
 use Rattle.pathspec_glob.specs.GlobRelation.{passes_over}
 use Rattle.pathspec_glob.specs.GlobForms.{token_view, tokens_view}

@@ -6,7 +6,7 @@ use Rattle.std.specs.List.{prefix_len}
 use Rattle.pathspec_glob.specs.declared.Mode.{Mode}
 use Rattle.pathspec_glob.specs.Bytes.{slash, star, question_mark, open_bracket, backslash, is_one_of, first_is}
 use Rattle.pathspec_glob.specs.Tokens.{Items, Token, Piece, escaped_piece, bracket_with, bracket_piece, items_from, run_piece, piece_of, token_before, tokens_from, tokens}
-use Rattle.pathspec_glob.specs.Tokens.Single.{Byte, Quoted, Any, Bracket, Dead}
+use Rattle.pathspec_glob.specs.Tokens.OneByte.{Byte, Quoted, Any, Bracket, Dead}
 use Rattle.pathspec_glob.specs.Tokens.Token.{One, Star, Deep}
 use Rattle.pathspec_glob.specs.GlobSteps.{is_wide}
 use Rattle.pathspec_glob.specs.GlobCells.{alternates_behind}

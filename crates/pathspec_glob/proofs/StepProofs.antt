@@ -8,11 +8,11 @@ use Rattle.std.specs.Int.Count.{count_trailing_zeros}
 use Rattle.pathspec_glob.specs.declared.Case.{Case}
 use Rattle.pathspec_glob.specs.GlobCells.{has}
 use Rattle.pathspec_glob.specs.declared.places.Places.{Places}
-use Rattle.pathspec_glob.specs.GlobPlaces.{arrives, is_held, stays}
-use Rattle.pathspec_glob.specs.GlobRows.{holds}
+use Rattle.pathspec_glob.specs.GlobPlaces.{arrives, is_active, stays}
+use Rattle.pathspec_glob.specs.BitVecs.{holds}
 use Rattle.pathspec_glob.specs.GlobSteps.{TokenList, token_takes, takes_at}
 use Rattle.pathspec_glob.proofs.BitProofs.{alone, has-and, has-not, has-or, has-shl, has-shl_first, has-zero, below-lowest, lowest-stands, without-lowest}
-use Rattle.pathspec_glob.proofs.RowProofs.{put-true}
+use Rattle.pathspec_glob.proofs.BitVecProofs.{put-true}
 
 -- ---- a loop over the places of a word, lowest first
 
@@ -146,10 +146,10 @@ not-of-row row place i word same off = elim (cases_lt (place + i) (length row)) 
 ]
 
 -- where two words together are 0, their rows have none of their places
-pub not-of-rows : (E S : List Bool) (place i entered staying : ℕ)
+pub not-of-bits : (E S : List Bool) (place i entered staying : ℕ)
     → (place + i < length E → has entered i ≡ holds E (place + i)) → (place + i < length S → has staying i ≡ holds S (place + i))
     → bit_or entered staying ≡ 0 → (holds E (place + i) || holds S (place + i)) ≡ false
-not-of-rows E S place i entered staying e s none =
+not-of-bits E S place i entered staying e s none =
     let off = or_parts (has entered i) (has staying i) (sym (has-or entered staying i) ∙ rw none (has-zero i)) in
     or_from (holds E (place + i)) (holds S (place + i)) (not-of-row E place i entered e off.0) (not-of-row S place i staying s off.1)
 
@@ -172,18 +172,18 @@ carried-further n carry i few h = has-or (n * 2 ^ 1 % 18446744073709551616) carr
 
 -- ---- what a byte leads to, place by place
 
--- a place before which none is held isn't led to
-pub arrives-none : (parts : TokenList) (case : Case) (places : Places) (b i : ℕ) → ((j : ℕ) → suc j ≡ i → is_held places j ≡ false) → arrives parts case places b i ≡ false
+-- a place before which none is active isn't led to
+pub arrives-none : (parts : TokenList) (case : Case) (places : Places) (b i : ℕ) → ((j : ℕ) → suc j ≡ i → is_active places j ≡ false) → arrives parts case places b i ≡ false
 arrives-none parts case places b zero none = refl
 arrives-none parts case places b (suc i) none = rw (none i refl) refl
 
--- a place that isn't held doesn't stay
-pub stays-none : (parts : TokenList) (case : Case) (places : Places) (b i : ℕ) → is_held places i ≡ false → stays parts case places b i ≡ false
+-- a place that isn't active doesn't stay
+pub stays-none : (parts : TokenList) (case : Case) (places : Places) (b i : ℕ) → is_active places i ≡ false → stays parts case places b i ≡ false
 stays-none parts case places b i none = rw none refl
 
 -- behind the tokens no place is led to
 pub arrives-behind : (parts : TokenList) (case : Case) (places : Places) (b i : ℕ) → length parts.tokens ≤ i → arrives parts case places b (suc i) ≡ false
-arrives-behind parts case places b i past = rw (behind-none parts case i b past, and_right (is_held places i) false refl) refl
+arrives-behind parts case places b i past = rw (behind-none parts case i b past, and_right (is_active places i) false refl) refl
 
 -- a place that is led to is one of the tokens or the end
 pub arrives-within : (parts : TokenList) (case : Case) (places : Places) (b i : ℕ) → arrives parts case places b i ≡ true → i ≤ length parts.tokens

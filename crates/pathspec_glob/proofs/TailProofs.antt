@@ -14,7 +14,7 @@ use Rattle.pathspec_glob.specs.declared.Case.{Case}
 use Rattle.pathspec_glob.specs.declared.Case.TheVariants.{Sensitive, Fold}
 use Rattle.pathspec_glob.specs.Bytes.{slash, star, question_mark, open_bracket, backslash, fold_case, is_wildcard}
 use Rattle.pathspec_glob.specs.Tokens.{Token, piece_of, tokens, tokens_from}
-use Rattle.pathspec_glob.specs.Tokens.Single.{Byte}
+use Rattle.pathspec_glob.specs.Tokens.OneByte.{Byte}
 use Rattle.pathspec_glob.specs.Tokens.Token.{One, Star, Deep}
 use Rattle.pathspec_glob.specs.GlobRelation.{matches, some_suffix, is_same_byte}
 use Rattle.pathspec_glob.specs.GlobParts.{plain_tokens}

@@ -5,26 +5,26 @@ use Rattle.std.specs.List.{list_all}
 use Rattle.pathspec_glob.specs.declared.Mode.{Mode}
 use Rattle.pathspec_glob.specs.declared.Case.{Case}
 use Rattle.pathspec_glob.specs.Bytes.{slash}
-use Rattle.pathspec_glob.specs.Tokens.{Single, Token}
+use Rattle.pathspec_glob.specs.Tokens.{OneByte, Token}
 use Rattle.pathspec_glob.specs.Tokens.Token.{One, Star, Deep}
 use Rattle.pathspec_glob.specs.GlobRelation.{takes, matches, some_suffix, passes_over}
-use Rattle.pathspec_glob.specs.GlobCells.{Loop, keeps, within, cells_match, cells_of, loop_behind, alternates, looped, over_at}
+use Rattle.pathspec_glob.specs.GlobCells.{Loop, keeps, after_kept, cells_match, cells_of, loop_behind, alternates, looped, over_at}
 use Rattle.pathspec_glob.specs.GlobCells.Loop.{Nothing, Names, Anything}
 
 -- the same rest behind the same cell
-pub within-same : (keep take : ℕ → Bool) (f g : List ℕ → Bool) → ((v : List ℕ) → f v ≡ g v) → (text : List ℕ) → within keep take f text ≡ within keep take g text
-within-same keep take f g same [] = refl
-within-same keep take f g same (b ∷ bs) = rw (same bs, within-same keep take f g same bs) refl
+pub after_kept-same : (keep take : ℕ → Bool) (f g : List ℕ → Bool) → ((v : List ℕ) → f v ≡ g v) → (text : List ℕ) → after_kept keep take f text ≡ after_kept keep take g text
+after_kept-same keep take f g same [] = refl
+after_kept-same keep take f g same (b ∷ bs) = rw (same bs, after_kept-same keep take f g same bs) refl
 
 -- a loop and then one token
-end-within : (mode : Mode) (case : Case) (keep : ℕ → Bool) (single : Single) (ts : List Token) (text : List ℕ)
-    → some_suffix keep (matches mode case (One single ∷ ts)) text ≡ within keep (takes mode case single) (matches mode case ts) text
+end-within : (mode : Mode) (case : Case) (keep : ℕ → Bool) (single : OneByte) (ts : List Token) (text : List ℕ)
+    → some_suffix keep (matches mode case (One single ∷ ts)) text ≡ after_kept keep (takes mode case single) (matches mode case ts) text
 unfolding matches
 end-within mode case keep single ts [] = refl
 end-within mode case keep single ts (b ∷ bs) = rw (end-within mode case keep single ts bs) refl
 
 -- nothing kept: one token takes the first byte
-nothing-within : (take : ℕ → Bool) (rest : List ℕ → Bool) (b : ℕ) (bs : List ℕ) → within (keeps Nothing) take rest (b ∷ bs) ≡ (take b && rest bs)
+nothing-within : (take : ℕ → Bool) (rest : List ℕ → Bool) (b : ℕ) (bs : List ℕ) → after_kept (keeps Nothing) take rest (b ∷ bs) ≡ (take b && rest bs)
 nothing-within take rest b bs = or-false (take b && rest bs)
 
 -- a loop at the end
@@ -38,8 +38,8 @@ all-true [] = refl
 all-true (b ∷ bs) = all-true bs
 
 -- what a loop and then one token match is a cell, before what follows
-pub looped-one : (mode : Mode) (case : Case) (loop : Loop) (single : Single) (ts : List Token) (text : List ℕ)
-    → looped mode case loop (One single ∷ ts) text ≡ (within (keeps loop) (takes mode case single) (matches mode case ts) text || (over_at mode loop single && matches mode case ts text))
+pub looped-one : (mode : Mode) (case : Case) (loop : Loop) (single : OneByte) (ts : List Token) (text : List ℕ)
+    → looped mode case loop (One single ∷ ts) text ≡ (after_kept (keeps loop) (takes mode case single) (matches mode case ts) text || (over_at mode loop single && matches mode case ts text))
 unfolding matches
 looped-one mode case Nothing single ts [] = refl
 looped-one mode case Nothing single ts (b ∷ bs) = sym (or-false _ ∙ nothing-within (takes mode case single) (matches mode case ts) b bs)
@@ -60,7 +60,7 @@ pub cells-match : (mode : Mode) (case : Case) (loop : Loop) (ts : List Token) �
 cells-match mode case loop [] h text = looped-end mode case loop text
 cells-match mode case loop (One single ∷ ts) h text =
     let ih : (v : List ℕ) → matches mode case ts v ≡ cells_match mode case (cells_of mode Nothing ts) (loop_behind Nothing ts) v = cells-match mode case Nothing ts h in
-    rw (looped-one mode case loop single ts text, within-same (keeps loop) (takes mode case single) (matches mode case ts) (cells_match mode case (cells_of mode Nothing ts) (loop_behind Nothing ts)) ih text, ih text) refl
+    rw (looped-one mode case loop single ts text, after_kept-same (keeps loop) (takes mode case single) (matches mode case ts) (cells_match mode case (cells_of mode Nothing ts) (loop_behind Nothing ts)) ih text, ih text) refl
 cells-match mode case Nothing (Star ∷ ts) h text = cells-match mode case Names ts h text
 cells-match mode case Nothing (Deep ∷ ts) h text = cells-match mode case Anything ts h text
 cells-match mode case Names (Star ∷ ts) h text = cc

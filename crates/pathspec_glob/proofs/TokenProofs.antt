@@ -9,7 +9,7 @@ use Rattle.pathspec_glob.specs.declared.Mode.TheVariants.{Shell, PathAware}
 use Rattle.pathspec_glob.specs.Bytes.{slash, star, question_mark, open_bracket, backslash, is_one_of, first_is}
 use Rattle.pathspec_glob.specs.Tokens.{Items, Front, Token, Piece, front_of, single_of, bytes_of, items_with, items_from, escaped_piece, bracket_with, bracket_piece, is_deep, run_token, run_piece, piece_of, token_before, tokens_from, tokens}
 use Rattle.pathspec_glob.specs.Tokens.Front.{Listed, Closed, Broken}
-use Rattle.pathspec_glob.specs.Tokens.Single.{Byte, Quoted, Any, Bracket, Dead}
+use Rattle.pathspec_glob.specs.Tokens.OneByte.{Byte, Quoted, Any, Bracket, Dead}
 use Rattle.pathspec_glob.specs.Tokens.Token.{One, Star, Deep}
 use Rattle.pathspec_glob.specs.GlobRelation.{items_hold}
 use Rattle.pathspec_glob.specs.ByteSets.{literals, listed, listed_piece}

@@ -160,25 +160,25 @@ kept-other (Star ∷ ts) b (suc i) h = kept-other ts b (suc i) h
 kept-other (Deep ∷ ts) b zero h = ap (λ x. x || true) (kept-other ts b 0 h)
 kept-other (Deep ∷ ts) b (suc i) h = kept-other ts b (suc i) h
 
-kept-byte : (ts : List Token) (loops deeps b i : ℕ) → has loops i ≡ kept_at ts 0 i → has deeps i ≡ kept_at ts slash i → has (if b == slash then deeps else loops) i ≡ kept_at ts b i
-kept-byte ts loops deeps b i l d = elim (cases_Bool (b == slash)) [
+kept-byte : (ts : List Token) (stays stays_at_slash b i : ℕ) → has stays i ≡ kept_at ts 0 i → has stays_at_slash i ≡ kept_at ts slash i → has (if b == slash then stays_at_slash else stays) i ≡ kept_at ts b i
+kept-byte ts stays stays_at_slash b i l d = elim (cases_Bool (b == slash)) [
   | inl e ↦ rw (e, d, eqb-true b slash e) refl
   | inr e ↦ rw (e, l) (kept-other ts b i e)
 ]
 
 -- The words of tokens are masks of their cells.
-pub masked : (parts : TokenList) (case : Case) (rows : List ℕ) (loops deeps overs : ℕ) → cell_count parts.tokens < 64 → alternates_behind false parts.tokens ≡ true
-    → IsTable parts case rows → ((i : ℕ) → i < 64 → has loops i ≡ kept_at parts.tokens 0 i) → ((i : ℕ) → i < 64 → has deeps i ≡ kept_at parts.tokens slash i)
+pub masked : (parts : TokenList) (case : Case) (rows : List ℕ) (stays stays_at_slash overs : ℕ) → cell_count parts.tokens < 64 → alternates_behind false parts.tokens ≡ true
+    → IsTable parts case rows → ((i : ℕ) → i < 64 → has stays i ≡ kept_at parts.tokens 0 i) → ((i : ℕ) → i < 64 → has stays_at_slash i ≡ kept_at parts.tokens slash i)
     → ((i : ℕ) → i < 64 → has overs i ≡ passed_at parts.mode parts.tokens i) → ((i : ℕ) → (has overs i && has overs (suc i)) ≡ false)
-    → Masked parts.mode case (cells_of parts.mode Nothing parts.tokens) (loop_behind Nothing parts.tokens) rows loops deeps overs
-masked parts case rows loops deeps overs few alternate table loops_are deeps_are overs_are apart =
+    → Masked parts.mode case (cells_of parts.mode Nothing parts.tokens) (loop_behind Nothing parts.tokens) rows stays stays_at_slash overs
+masked parts case rows stays stays_at_slash overs few alternate table stays_are stays_at_slash_are overs_are apart =
     let ts = parts.tokens in
     let size = length-cells_of parts.mode Nothing ts in
     record {
       few = omega (arith, few, size);
-      rules = λ b fits. rules-of parts.mode case Nothing ts (λ i. not (has (get_or rows b 0) i)) (has (if b == slash then deeps else loops)) (has overs) b (alternates-loop Nothing ts alternate)
+      rules = λ b fits. rules-of parts.mode case Nothing ts (λ i. not (has (get_or rows b 0) i)) (has (if b == slash then stays_at_slash else stays)) (has overs) b (alternates-loop Nothing ts alternate)
           (λ i h. ap not (table b i fits (omega (arith, few, size, h))) ∙ not-not (taken_at parts.mode case ts b i))
-          (λ i h. let low : i < 64 = omega (arith, few, size, h) in kept-byte ts loops deeps b i (loops_are i low) (deeps_are i low) ∙ sym (with_first-none (kept_at ts b) i))
+          (λ i h. let low : i < 64 = omega (arith, few, size, h) in kept-byte ts stays stays_at_slash b i (stays_are i low) (stays_at_slash_are i low) ∙ sym (with_first-none (kept_at ts b) i))
           (λ i h. overs_are i (omega (arith, few, size, h)) ∙ sym (with_first-none (passed_at parts.mode ts) i));
       apart = λ i h. apart i;
     }

@@ -1,9 +1,9 @@
 -- Brackets as sets of bytes: tokens whose brackets list each byte that they hold.
 use Rattle.std.specs.Prelude.{ℕ, zero, suc, Bool, List, [], ◌∷◌, map, if◌then◌else◌}
 use Rattle.pathspec_glob.specs.declared.Mode.{Mode}
-use Rattle.pathspec_glob.specs.Tokens.{Item, Single, Token, Piece, tokens}
+use Rattle.pathspec_glob.specs.Tokens.{Item, OneByte, Token, Piece, tokens}
 use Rattle.pathspec_glob.specs.Tokens.Item.{Literal}
-use Rattle.pathspec_glob.specs.Tokens.Single.{Byte, Quoted, Any, Bracket, Dead}
+use Rattle.pathspec_glob.specs.Tokens.OneByte.{Byte, Quoted, Any, Bracket, Dead}
 use Rattle.pathspec_glob.specs.Tokens.Token.{One, Star, Deep}
 use Rattle.pathspec_glob.specs.GlobRelation.{items_hold}
 use Rattle.pathspec_glob.specs.GlobSteps.{TokenList}
@@ -17,8 +17,8 @@ literals_below (suc end) holds = if holds end then Literal end ∷ literals_belo
 abbrev pub literals : (ℕ → Bool) → List Item
 literals holds = literals_below 256 holds
 
--- what is held to one byte, where a bracket lists each byte that its items hold
-abbrev pub listed_single : Single → Single
+-- what one byte has to be, where a bracket lists each byte that its items hold
+abbrev pub listed_single : OneByte → OneByte
 listed_single (Byte b) = Byte b
 listed_single (Quoted b) = Quoted b
 listed_single Any = Any

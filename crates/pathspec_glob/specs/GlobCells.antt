@@ -7,7 +7,7 @@ use Rattle.pathspec_glob.specs.declared.Case.{Case}
 use Rattle.pathspec_glob.specs.declared.tokens.word.step.Course.{Course}
 use Rattle.pathspec_glob.specs.declared.tokens.word.step.Course.TheVariants.{Ends, Plain, Any}
 use Rattle.pathspec_glob.specs.Bytes.{slash}
-use Rattle.pathspec_glob.specs.Tokens.{Single, Token}
+use Rattle.pathspec_glob.specs.Tokens.{OneByte, Token}
 use Rattle.pathspec_glob.specs.Tokens.Token.{One, Star, Deep}
 use Rattle.pathspec_glob.specs.GlobRelation.{takes, matches, passes_over}
 use Rattle.pathspec_glob.specs.GlobSteps.{TokenList, is_wide, may_pass_over_at}
@@ -27,24 +27,24 @@ keeps Anything b = true
 pub record Cell : Type 0 where
   pub loop : Loop
   pub over : Bool
-  pub single : Single
+  pub single : OneByte
 
 -- bytes that are kept, then one that is taken, and the rest passes
-abbrev pub within : (ℕ → Bool) → (ℕ → Bool) → (List ℕ → Bool) → List ℕ → Bool
-within keep take rest [] = false
-within keep take rest (b ∷ bs) = (take b && rest bs) || (keep b && within keep take rest bs)
+abbrev pub after_kept : (ℕ → Bool) → (ℕ → Bool) → (List ℕ → Bool) → List ℕ → Bool
+after_kept keep take rest [] = false
+after_kept keep take rest (b ∷ bs) = (take b && rest bs) || (keep b && after_kept keep take rest bs)
 
 -- whether the cells, and the loop behind them, match the whole text
 abbrev pub cells_match : Mode → Case → List Cell → Loop → List ℕ → Bool
 cells_match mode case [] last text = list_all (keeps last) text
 cells_match mode case (c ∷ cs) last text =
-    within (keeps c.loop) (takes mode case c.single) (cells_match mode case cs last) text || (c.over && cells_match mode case cs last text)
+    after_kept (keeps c.loop) (takes mode case c.single) (cells_match mode case cs last) text || (c.over && cells_match mode case cs last text)
 
 -- from some place of the set, the cells match the text
 abbrev pub set_leads : Mode → Case → List Cell → Loop → (ℕ → Bool) → List ℕ → Bool
 set_leads mode case [] last f text = f 0 && list_all (keeps last) text
 set_leads mode case (c ∷ cs) last f text =
-    (f 0 && within (keeps c.loop) (takes mode case c.single) (cells_match mode case cs last) text) || set_leads mode case cs last (λ i. f (suc i)) text
+    (f 0 && after_kept (keeps c.loop) (takes mode case c.single) (cells_match mode case cs last) text) || set_leads mode case cs last (λ i. f (suc i)) text
 
 -- the sets of places whose tokens take the byte, that may stay at it, and that may be passed over
 abbrev pub Rules : Mode → Case → List Cell → Loop → (ℕ → Bool) → (ℕ → Bool) → (ℕ → Bool) → ℕ → Type 0
@@ -57,31 +57,31 @@ abbrev pub has : ℕ → ℕ → Bool
 has n i = bit_at n i == 1
 
 -- rows of words for the cells: what doesn't take each byte, what stays, and what may be passed over, which no place directly behind another may
-pub record Masked (mode : Mode) (case : Case) (cs : List Cell) (last : Loop) (row : List ℕ) (loops deeps overs : ℕ) : Type 0 where
+pub record Masked (mode : Mode) (case : Case) (cs : List Cell) (last : Loop) (row : List ℕ) (stays stays_at_slash overs : ℕ) : Type 0 where
   pub few : length cs < 64
-  pub rules : (b : ℕ) → b < 256 → Rules mode case cs last (λ i. not (has (get_or row b 0) i)) (has (if b == slash then deeps else loops)) (has overs) b
+  pub rules : (b : ℕ) → b < 256 → Rules mode case cs last (λ i. not (has (get_or row b 0) i)) (has (if b == slash then stays_at_slash else stays)) (has overs) b
   pub apart : (i : ℕ) → i < length cs → (has overs i && has overs (suc i)) ≡ false
 
 -- Only the first place stays at every byte, the last as these say, and none between, and only the first may be passed over.
-pub record StayAtEnds (loops deeps overs last : ℕ) (stays stays_at_slash : Bool) : Type 0 where
-  pub first : has loops 0 ≡ true
-  pub first_at_slash : has deeps 0 ≡ true
-  pub between : (i : ℕ) → 0 < i → i < last → has loops i ≡ false
-  pub between_at_slash : (i : ℕ) → 0 < i → i < last → has deeps i ≡ false
-  pub last_stays : stays ≡ has loops last
-  pub last_stays_at_slash : stays_at_slash ≡ has deeps last
+pub record StayAtEnds (stays stays_at_slash overs last : ℕ) (last_stays last_stays_at_slash : Bool) : Type 0 where
+  pub first : has stays 0 ≡ true
+  pub first_at_slash : has stays_at_slash 0 ≡ true
+  pub between : (i : ℕ) → 0 < i → i < last → has stays i ≡ false
+  pub between_at_slash : (i : ℕ) → 0 < i → i < last → has stays_at_slash i ≡ false
+  pub at_last : last_stays ≡ has stays last
+  pub at_last_at_slash : last_stays_at_slash ≡ has stays_at_slash last
   pub passed : overs / 2 ≡ 0
 
 -- A word can go this way over any text.
 abbrev pub IsCourse : ℕ → ℕ → ℕ → ℕ → Course → Type 0
-IsCourse loops deeps overs last (Ends stays stays_at_slash) = StayAtEnds loops deeps overs last stays stays_at_slash
-IsCourse loops deeps overs last Plain = overs / 2 ≡ 0
-IsCourse loops deeps overs last Any = Unit {0}
+IsCourse stays stays_at_slash overs last (Ends last_stays last_stays_at_slash) = StayAtEnds stays stays_at_slash overs last last_stays last_stays_at_slash
+IsCourse stays stays_at_slash overs last Plain = overs / 2 ≡ 0
+IsCourse stays stays_at_slash overs last Any = Unit {0}
 
 -- The answer is whether the places lead to the last by the text, for cells whose words have these rows and of which only the ends stay.
 abbrev pub LeadsToLast : List ℕ → Bool → Bool → ℕ → ℕ → List ℕ → Bool → Type 0
-LeadsToLast rows stays stays_at_slash last places text answer = (mode : Mode) (case : Case) (cells : List Cell) (end : Loop) (loops deeps overs : ℕ)
-    → Masked mode case cells end rows loops deeps overs → length cells ≡ last → StayAtEnds loops deeps overs last stays stays_at_slash
+LeadsToLast rows last_stays last_stays_at_slash last places text answer = (mode : Mode) (case : Case) (cells : List Cell) (end : Loop) (stays stays_at_slash overs : ℕ)
+    → Masked mode case cells end rows stays stays_at_slash overs → length cells ≡ last → StayAtEnds stays stays_at_slash overs last last_stays last_stays_at_slash
     → has places 0 ≡ true → answer ≡ set_leads mode case cells end (has places) text
 
 -- the places that aren't free, where a word of its own says of the last whether it is
@@ -91,7 +91,7 @@ not_free free end last i = not (has (if i == last then end else free) i)
 -- ---- tokens as cells
 
 -- the cells of tokens that stand behind this loop, and the loop behind them all
-abbrev pub over_at : Mode → Loop → Single → Bool
+abbrev pub over_at : Mode → Loop → OneByte → Bool
 over_at mode Nothing single = false
 over_at mode Names single = false
 over_at mode Anything single = passes_over mode (One single)
@@ -136,7 +136,7 @@ alternates_behind wide (t ∷ ts) = not (wide && is_wide t) && alternates_behind
 
 -- ---- the places of tokens
 
--- a set with each place one further, and the first held or not
+-- a set with each place one further, and the first active or not
 abbrev pub further : Bool → (ℕ → Bool) → ℕ → Bool
 further first f zero = first
 further first f (suc i) = f i

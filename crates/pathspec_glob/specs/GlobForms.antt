@@ -8,16 +8,16 @@ use Rattle.pathspec_glob.specs.declared.brackets.Front.{Front as Seen}
 use Rattle.pathspec_glob.specs.declared.brackets.Front.TheVariants as seen
 use Rattle.pathspec_glob.specs.declared.brackets.Read.{Read}
 use Rattle.pathspec_glob.specs.declared.reading.Piece.{Piece as Taken}
-use Rattle.pathspec_glob.specs.declared.tokens.Single.{Single as Held}
-use Rattle.pathspec_glob.specs.declared.tokens.Single.TheVariants as held
+use Rattle.pathspec_glob.specs.declared.tokens.OneByte.{OneByte as Tested}
+use Rattle.pathspec_glob.specs.declared.tokens.OneByte.TheVariants as tested
 use Rattle.pathspec_glob.specs.declared.tokens.Token.{Token as Part}
 use Rattle.pathspec_glob.specs.declared.tokens.Token.TheVariants as part
-use Rattle.pathspec_glob.specs.Tokens.{Item, Front, Items, Single, Token, Piece}
+use Rattle.pathspec_glob.specs.Tokens.{Item, Front, Items, OneByte, Token, Piece}
 use Rattle.pathspec_glob.specs.Tokens.Item.{Literal, Range, Class}
 use Rattle.pathspec_glob.specs.Tokens.Front.{Listed, Closed, Broken}
-use Rattle.pathspec_glob.specs.Tokens.Single.{Byte, Quoted, Any, Bracket, Dead}
+use Rattle.pathspec_glob.specs.Tokens.OneByte.{Byte, Quoted, Any, Bracket, Dead}
 use Rattle.pathspec_glob.specs.Tokens.Token.{One, Star, Deep}
-use Rattle.pathspec_glob.specs.GlobRows.{words_hold}
+use Rattle.pathspec_glob.specs.BitVecs.{words_hold}
 use Rattle.pathspec_glob.specs.ByteSets.{literals}
 
 -- the name of a class
@@ -55,17 +55,17 @@ front_view (seen.Listed item size) = Listed (item_view item) size
 front_view seen.Closed = Closed
 front_view seen.Broken = Broken
 
--- what one byte of a text is held to
-abbrev pub single_view : Held → Single
-single_view (held.Byte byte) = Byte byte
-single_view (held.Quoted byte) = Quoted byte
-single_view held.Any = Any
-single_view (held.Bracket negated set) = Bracket negated (literals (words_hold set.words))
-single_view held.Dead = Dead
+-- what one byte of a text has to be
+abbrev pub one_byte_view : Tested → OneByte
+one_byte_view (tested.Byte byte) = Byte byte
+one_byte_view (tested.Quoted byte) = Quoted byte
+one_byte_view tested.Any = Any
+one_byte_view (tested.Bracket negated set) = Bracket negated (literals (words_hold set.words))
+one_byte_view tested.Dead = Dead
 
 -- the token that a `Token` is
 abbrev pub token_view : Part → Token
-token_view (part.One single) = One (single_view single)
+token_view (part.One single) = One (one_byte_view single)
 token_view part.Star = Star
 token_view part.Deep = Deep
 

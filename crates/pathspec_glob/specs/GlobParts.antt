@@ -5,7 +5,7 @@ use Rattle.pathspec_glob.specs.declared.Mode.{Mode}
 use Rattle.pathspec_glob.specs.declared.Case.{Case}
 use Rattle.pathspec_glob.specs.Bytes.{slash, is_empty}
 use Rattle.pathspec_glob.specs.Tokens.{Token}
-use Rattle.pathspec_glob.specs.Tokens.Single.{Byte}
+use Rattle.pathspec_glob.specs.Tokens.OneByte.{Byte}
 use Rattle.pathspec_glob.specs.Tokens.Token.{One, Star, Deep}
 use Rattle.pathspec_glob.specs.GlobRelation.{matches}
 use Rattle.pathspec_glob.specs.GlobSteps.{TokenList, is_wide, may_pass_over_at, takes_byte}
@@ -80,21 +80,21 @@ abbrev pub before_end : TokenList → List ℕ → List ℕ
 before_end parts text = take (length text - length parts.tokens) text
 
 -- the first token, which takes any number of bytes, takes all of the text
-abbrev pub wide_takes : List Token → List ℕ → Bool
-wide_takes [] text = false
-wide_takes (One single ∷ ts) text = false
-wide_takes (Star ∷ ts) text = list_all (λ b. not (b == slash)) text
-wide_takes (Deep ∷ ts) text = true
+abbrev pub first_token_takes : List Token → List ℕ → Bool
+first_token_takes [] text = false
+first_token_takes (One single ∷ ts) text = false
+first_token_takes (Star ∷ ts) text = list_all (λ b. not (b == slash)) text
+first_token_takes (Deep ∷ ts) text = true
 
 -- how many bytes of the text that token is tested on, up to one that it doesn't take
-abbrev pub wide_tests : List Token → List ℕ → ℕ
-wide_tests (Star ∷ ts) (b ∷ bs) = suc (if b == slash then 0 else wide_tests (Star ∷ ts) bs)
-wide_tests (Deep ∷ ts) (b ∷ bs) = suc (wide_tests (Deep ∷ ts) bs)
-wide_tests ts text = 0
+abbrev pub first_token_tests : List Token → List ℕ → ℕ
+first_token_tests (Star ∷ ts) (b ∷ bs) = suc (if b == slash then 0 else first_token_tests (Star ∷ ts) bs)
+first_token_tests (Deep ∷ ts) (b ∷ bs) = suc (first_token_tests (Deep ∷ ts) bs)
+first_token_tests ts text = 0
 
 -- the tokens match just the texts of which the first of them takes all
 abbrev pub MatchAsFirst : TokenList → Type 0
-MatchAsFirst parts = (case : Case) (text : List ℕ) → matches parts.mode case parts.tokens text ≡ wide_takes parts.tokens text
+MatchAsFirst parts = (case : Case) (text : List ℕ) → matches parts.mode case parts.tokens text ≡ first_token_takes parts.tokens text
 
 -- The tokens of a pattern, in their parts; the pattern has fewer than 2^64 bytes.
 pub record IsParted (mode : Mode) (pattern : List ℕ) (head middle tail : TokenList) : Type 0 where

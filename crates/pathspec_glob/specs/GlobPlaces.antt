@@ -9,7 +9,7 @@ use Rattle.pathspec_glob.specs.Tokens.{Token}
 use Rattle.pathspec_glob.specs.Tokens.Token.{One, Star, Deep}
 use Rattle.pathspec_glob.specs.GlobRelation.{matches, takes_first, some_suffix, takes}
 use Rattle.pathspec_glob.specs.GlobCells.{has}
-use Rattle.pathspec_glob.specs.GlobRows.{holds}
+use Rattle.pathspec_glob.specs.BitVecs.{holds}
 use Rattle.pathspec_glob.specs.GlobSteps.{TokenList, is_wide_at, may_pass_over_at, token_takes}
 
 -- The tokens match from within the first one: a deep token that has been come to before is no longer left out together with its slash.
@@ -49,14 +49,14 @@ abbrev pub IsLeast : Mode → List Token → (ℕ → Bool) → (ℕ → Bool) �
 IsLeast mode ts entered staying closure =
     (all : ℕ → Bool) → Includes (length ts) all entered → IsClosed mode ts all staying → Includes (length ts) all closure
 
--- what places of a word lead to without a byte is held, as far as it stands in the word: the next place, or the one behind that
+-- what places of a word lead to without a byte is active, as far as it stands in the word: the next place, or the one behind that
 pub record IsClosedWord (staying wide overs : ℕ) (places : ℕ → Bool) : Type 0 where
   pub next : (i : ℕ) → suc i < 64 → (places i || has staying i) ≡ true → has wide i ≡ true → places (suc i) ≡ true
   pub over : (i : ℕ) → suc (suc i) < 64 → places i ≡ true → has overs i ≡ true → places (suc (suc i)) ≡ true
 
--- ---- sets of places in rows
+-- ---- sets of places in bit vectors
 
--- no place before the first word or from the end on is held, in rows for so many tokens
+-- no place before the first word or from the end on is active, in bit vectors for so many tokens
 pub record HoldsWithin (tokens first end : ℕ) (entered staying : List Bool) : Type 0 where
   pub order : first ≤ end
   pub within : end * 64 ≤ tokens + 64
@@ -65,9 +65,9 @@ pub record HoldsWithin (tokens first end : ℕ) (entered staying : List Bool) : 
   pub after_entered : (i : ℕ) → end * 64 ≤ i → i ≤ tokens → holds entered i ≡ false
   pub after_staying : (i : ℕ) → end * 64 ≤ i → i < tokens → holds staying i ≡ false
 
--- a row, with places of a carry besides, the first of which stands where this word begins
+-- a bit vector, with places of a carry besides, the first of which stands where this word begins
 abbrev pub with_carry : ℕ → ℕ → List Bool → ℕ → Bool
-with_carry index carry row i = holds row i || (not (nat_lt i (index * 64)) && has carry (i - index * 64))
+with_carry index carry bits i = holds bits i || (not (nat_lt i (index * 64)) && has carry (i - index * 64))
 
 -- ---- the same of a set of places
 
@@ -98,12 +98,12 @@ abbrev pub IsBounded : ℕ → Places → Type 0
 IsBounded tokens places = HoldsWithin tokens places.first places.end places.entered places.staying
 
 -- the set holds the place
-abbrev pub is_held : Places → ℕ → Bool
-is_held places place = holds places.entered place || holds places.staying place
+abbrev pub is_active : Places → ℕ → Bool
+is_active places place = holds places.entered place || holds places.staying place
 
 -- the set holds none of the places of these many tokens
 abbrev pub HoldsNone : ℕ → Places → Type 0
-HoldsNone tokens places = (i : ℕ) → i < tokens → is_held places i ≡ false
+HoldsNone tokens places = (i : ℕ) → i < tokens → is_active places i ≡ false
 
 -- from some place of the set, the tokens match the text
 abbrev pub places_accept : TokenList → Case → Places → List ℕ → Bool
@@ -155,11 +155,11 @@ pub record IsSameBut (index : ℕ) (old new : Places) : Type 0 where
 -- the byte leads to this place from the one before
 abbrev pub arrives : TokenList → Case → Places → ℕ → ℕ → Bool
 arrives parts case places b zero = false
-arrives parts case places b (suc i) = (is_held places i && token_takes parts case i b) && not (is_wide_at (drop i parts.tokens))
+arrives parts case places b (suc i) = (is_active places i && token_takes parts case i b) && not (is_wide_at (drop i parts.tokens))
 
 -- after the byte, the token at this place may take more
 abbrev pub stays : TokenList → Case → Places → ℕ → ℕ → Bool
-stays parts case places b i = (is_held places i && token_takes parts case i b) && is_wide_at (drop i parts.tokens)
+stays parts case places b i = (is_active places i && token_takes parts case i b) && is_wide_at (drop i parts.tokens)
 
 -- the new set has what the byte leads to from the places of the old one
 pub record TakesByte (parts : TokenList) (case : Case) (old new : Places) (b : ℕ) : Type 0 where

@@ -7,9 +7,9 @@ use Rattle.pathspec_glob.specs.declared.Mode.TheVariants.{Shell, PathAware}
 use Rattle.pathspec_glob.specs.declared.Case.{Case}
 use Rattle.pathspec_glob.specs.declared.Case.TheVariants.{Sensitive, Fold}
 use Rattle.pathspec_glob.specs.Bytes.{slash, is_empty}
-use Rattle.pathspec_glob.specs.Tokens.{Item, class_of, Single, Token}
+use Rattle.pathspec_glob.specs.Tokens.{Item, class_of, OneByte, Token}
 use Rattle.pathspec_glob.specs.Tokens.Item.{Literal, Range, Class}
-use Rattle.pathspec_glob.specs.Tokens.Single.{Byte, Quoted, Any, Bracket, Dead}
+use Rattle.pathspec_glob.specs.Tokens.OneByte.{Byte, Quoted, Any, Bracket, Dead}
 use Rattle.pathspec_glob.specs.Tokens.Token.{One, Star, Deep}
 
 -- ---- one byte
@@ -44,8 +44,8 @@ abbrev pub is_barred : Mode → ℕ → Bool
 is_barred Shell b = false
 is_barred PathAware b = b == slash
 
--- What is held to one byte takes this one.
-abbrev pub takes : Mode → Case → Single → ℕ → Bool
+-- A token of one byte takes this byte.
+abbrev pub takes : Mode → Case → OneByte → ℕ → Bool
 takes mode case (Byte x) b = is_same_byte case x b
 takes mode case (Quoted x) b = is_same_byte case x b
 takes mode case Any b = not (is_barred mode b)
@@ -64,7 +64,7 @@ pub data Matches (mode : Mode) (case : Case) : List Token → List ℕ → Type 
   -- no tokens match the empty text
   none : Matches mode case [] []
   -- a token for one byte takes the first, and the others match the rest
-  one : {single : Single} {ts : List Token} {b : ℕ} {bs : List ℕ} → IsTrue (takes mode case single b) → Matches mode case ts bs → Matches mode case (One single ∷ ts) (b ∷ bs)
+  one : {single : OneByte} {ts : List Token} {b : ℕ} {bs : List ℕ} → IsTrue (takes mode case single b) → Matches mode case ts bs → Matches mode case (One single ∷ ts) (b ∷ bs)
   -- star takes any bytes without a slash
   star : {ts : List Token} {text : List ℕ} (u v : List ℕ) → text ≡ u ++ v → IsFalse (list_any (λ b. b == slash) u) → Matches mode case ts v → Matches mode case (Star ∷ ts) text
   -- deep takes any bytes

@@ -1,7 +1,7 @@
 -- What tokens are matched by.
 use Rattle.std.specs.Prelude.{◌≡◌, true}
 use Rattle.pathspec_glob.specs.declared.middle.Way.{Way}
-use Rattle.pathspec_glob.specs.declared.middle.Way.TheVariants.{First, Word, Rows}
+use Rattle.pathspec_glob.specs.declared.middle.Way.TheVariants.{First, Word, Sets}
 use Rattle.pathspec_glob.specs.GlobParts.{MatchAsFirst}
 use Rattle.pathspec_glob.specs.GlobPlaces.{IsMovesOf}
 use Rattle.pathspec_glob.specs.GlobSteps.{TokenList, is_wide_at}
@@ -16,4 +16,4 @@ pub record GoesByFirst (parts : TokenList) : Type 0 where
 abbrev pub IsWayOf : TokenList → Way → Type 0
 IsWayOf parts First = GoesByFirst parts
 IsWayOf parts (Word word) = IsWordOf parts word
-IsWayOf parts (Rows moves) = IsMovesOf parts moves
+IsWayOf parts (Sets moves) = IsMovesOf parts moves

@@ -14,8 +14,8 @@ pub record IsWordOf (parts : TokenList) (word : Word) : Type 0 where
   pub alternate : alternates_behind false parts.tokens ≡ true
   pub exact : IsTable parts Sensitive word.exact.rows.items
   pub folded : IsTable parts Fold word.folded.rows.items
-  pub loops : (i : ℕ) → i < 64 → has word.loops i ≡ kept_at parts.tokens 0 i
-  pub deeps : (i : ℕ) → i < 64 → has word.deeps i ≡ kept_at parts.tokens slash i
+  pub stays : (i : ℕ) → i < 64 → has word.stays i ≡ kept_at parts.tokens 0 i
+  pub stays_at_slash : (i : ℕ) → i < 64 → has word.stays_at_slash i ≡ kept_at parts.tokens slash i
   pub overs : (i : ℕ) → i < 64 → has word.overs i ≡ passed_at parts.mode parts.tokens i
-  pub course : IsCourse word.loops word.deeps word.overs word.last word.course
+  pub course : IsCourse word.stays word.stays_at_slash word.overs word.last word.course
   pub apart : (i : ℕ) → (has word.overs i && has word.overs (suc i)) ≡ false

@@ -6,7 +6,7 @@ pub mod GlobSteps
 pub mod GlobParts
 pub mod GlobCells
 pub mod GlobWords
-pub mod GlobRows
+pub mod BitVecs
 pub mod GlobPlaces
 pub mod GlobWays
 pub mod Globs

@@ -133,22 +133,22 @@ items_from zero first last (b ∷ bs) =
 
 -- ---- tokens
 
--- what one byte of a text is held to
-pub data Single : Type 0 where
+-- what one byte of a text has to be
+pub data OneByte : Type 0 where
   -- a byte, as it stands or after a backslash
-  Byte : (byte : ℕ) → Single
-  Quoted : (byte : ℕ) → Single
+  Byte : (byte : ℕ) → OneByte
+  Quoted : (byte : ℕ) → OneByte
   -- any byte
-  Any : Single
+  Any : OneByte
   -- a byte that the items hold, or one that they do not
-  Bracket : (negated : Bool) (items : List Item) → Single
+  Bracket : (negated : Bool) (items : List Item) → OneByte
   -- no byte
-  Dead : Single
+  Dead : OneByte
 
 -- one part of a glob
 pub data Token : Type 0 where
   -- one byte
-  One : (single : Single) → Token
+  One : (single : OneByte) → Token
   -- any bytes without `/`
   Star : Token
   -- any bytes

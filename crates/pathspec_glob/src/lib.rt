@@ -6,6 +6,7 @@ ghost use Rattle.std.specs.List.{list_any, position};
 ghost use Rattle.pathspec_glob.specs.Bytes.{is_wildcard};
 ghost use Rattle.pathspec_glob.specs.Globs.{MatchBeginsStem};
 
+mod bit_vec;
 mod brackets;
 mod counted;
 mod ends;
@@ -13,7 +14,6 @@ mod matcher;
 mod middle;
 mod places;
 mod reading;
-mod rows;
 mod scratch;
 mod sets;
 mod source;

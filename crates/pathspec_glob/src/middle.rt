@@ -3,7 +3,7 @@ ghost use Rattle.std.specs.Prelude.{◌≡◌, ◌≤◌, ◌<◌, ◌+◌, ◌*
 ghost use Rattle.pathspec_glob.specs.Counts.{KeepsCount};
 ghost use Rattle.pathspec_glob.specs.GlobRelation.{matches};
 ghost use Rattle.pathspec_glob.specs.GlobCells.{alternates_behind};
-ghost use Rattle.pathspec_glob.specs.GlobParts.{wide_takes, wide_tests};
+ghost use Rattle.pathspec_glob.specs.GlobParts.{first_token_takes, first_token_tests};
 ghost use Rattle.pathspec_glob.specs.GlobPlaces.{HasRoom, KeepsRoom};
 ghost use Rattle.pathspec_glob.specs.GlobSteps.{is_wide_at};
 
@@ -31,8 +31,8 @@ enum Way {
     First,
     /// Sets of places in one word.
     Word(Word),
-    /// Sets of places in rows.
-    Rows(EmptyMoves),
+    /// Sets of places in bit vectors.
+    Sets(EmptyMoves),
 }
 
 impl Model for Middle {
@@ -71,7 +71,7 @@ impl Middle {
 
     // Out of line, so that the loops of words have the registers to themselves.
     /// Whether the tokens match the whole of a text: by the first alone where this takes the same texts, and else by sets
-    /// of places, in one word where they fit it and else in rows. It takes no memory.
+    /// of places, in one word where they fit it and else in bit vectors. It takes no memory.
     #[inline(never)]
     pub fn matches(&self, text: &[u8], case: Case, places: &mut Places, steps: &mut Steps) -> bool
         requires room { HasRoom (length self.now.tokens) places.old }
@@ -89,7 +89,7 @@ impl Middle {
                 steps.add(tests);
                 accepted
             }
-            Way::Rows(moves) => places.run(&self.tokens, moves, text, case, steps),
+            Way::Sets(moves) => places.run(&self.tokens, moves, text, case, steps),
         }
     }
 }
@@ -97,7 +97,7 @@ impl Middle {
 impl Way {
     ghost use Rattle.pathspec_glob.specs.GlobWays.{IsWayOf};
 
-    /// The first way that the tokens can go: by the first token alone, in one word, or in rows.
+    /// The first way that the tokens can go: by the first token alone, in one word, or in bit vectors.
     ///
     /// # Errors
     /// Memory runs out.
@@ -110,7 +110,7 @@ impl Way {
         }
         Ok(match Word::of_tokens(alloc, tokens)? {
             Some(word) => Way::Word(word),
-            None => Way::Rows(EmptyMoves::of_tokens(alloc, tokens)?),
+            None => Way::Sets(EmptyMoves::of_tokens(alloc, tokens)?),
         })
     }
 }
@@ -120,8 +120,9 @@ impl Way {
 fn test_first(tokens: &CountedTokens, text: &[u8], steps: &mut Steps) -> bool
     requires wide { IsTrue (is_wide_at tokens.now.tokens) }
     requires room { steps.old.last + length text.now < 2 ^ 128 }
-    ensures answer { result ≡ wide_takes tokens.now.tokens text.now }
-    ensures tests { steps.new.last ≡ steps.old.last + wide_tests tokens.now.tokens text.now }
+    ensures answer { result ≡ first_token_takes tokens.now.tokens text.now }
+    ensures tests { steps.new.last
+        ≡ steps.old.last + first_token_tests tokens.now.tokens text.now }
     ensures most { steps.new.last ≤ steps.old.last + length text.now }
     ensures least { IsTrue result → steps.new.last ≡ steps.old.last + length text.now }
     ensures counted { KeepsCount steps.old steps.new }

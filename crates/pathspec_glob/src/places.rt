@@ -1,4 +1,4 @@
-//! Sets of places in rows: the places in a glob that the front of a text leads to.
+//! Sets of places in bit vectors: the places in a glob that the front of a text leads to.
 ghost use Rattle.std.specs.Prelude.{IsTrue, ◌≡◌, ◌≤◌, ◌<◌, ◌+◌, ◌*◌, ◌^◌, IfOk, length};
 ghost use Rattle.pathspec_glob.specs.Counts.{KeepsCount};
 ghost use Rattle.pathspec_glob.specs.GlobPlaces.{HasRoom, IsBounded, IsMadeFor, IsMovesOf, KeepsRoom, AcceptsFromStart};
@@ -9,22 +9,22 @@ pub mod moves;
 mod step;
 
 use crate::Case;
+use crate::bit_vec::BitVec;
 use crate::counted::CountedTokens;
-use crate::rows::Row;
 use crate::scratch::Steps;
 use moves::EmptyMoves;
 use std::alloc::{AllocError, Global};
 
-/// A set of places in a glob's tokens. A place is held where it is come to, or where its token stays.
+/// A set of places in a glob's tokens. A place is active where it is come to, or where its token stays.
 #[derive(Debug, Drop)]
 pub struct Places {
     /// Whether a place has just been come to. They are one more than the tokens: the last is after them all.
-    entered: Row,
+    entered: BitVec,
     /// Whether a token that takes any number of bytes has taken some, and may take more.
-    staying: Row,
-    /// No place before this word is held.
+    staying: BitVec,
+    /// No place before this word is active.
     first: usize,
-    /// No place from this word on is held.
+    /// No place from this word on is active.
     end: usize,
 }
 
@@ -36,8 +36,8 @@ impl Places {
     pub fn for_tokens(alloc: Global, tokens: usize) -> Result<Places, AllocError>
         ensures { IfOk result (λ places. IsMadeFor tokens places) }
     {
-        let staying = Row::of_len(alloc, tokens)?;
-        let entered = Row::of_len(alloc, tokens + 1)?;
+        let staying = BitVec::of_len(alloc, tokens)?;
+        let entered = BitVec::of_len(alloc, tokens + 1)?;
         Ok(Places {
             entered,
             staying,
@@ -93,7 +93,7 @@ impl Places {
     {
         self.entered.leave(tokens.len() + 1);
         self.staying.leave(tokens.len());
-        self.entered.put(0, true);
+        self.entered.set(0, true);
         self.first = 0;
         self.end = 1;
     }

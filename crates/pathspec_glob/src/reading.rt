@@ -5,10 +5,10 @@ ghost use Rattle.pathspec_glob.specs.Bytes.{first_is, is_one_of, star};
 ghost use Rattle.pathspec_glob.specs.Tokens.{escaped_piece, bracket_piece, EndsPattern, is_deep, run_token, stars_piece, piece_of, StandsBefore};
 ghost use Rattle.pathspec_glob.specs.ByteSets.{listed_piece, listed_tokens};
 ghost use Rattle.pathspec_glob.specs.Tokens.Token.{One};
-ghost use Rattle.pathspec_glob.specs.GlobForms.{single_view, token_view, tokens_view, piece_view};
+ghost use Rattle.pathspec_glob.specs.GlobForms.{one_byte_view, token_view, tokens_view, piece_view};
 
 use crate::sets::ByteSet;
-use crate::tokens::{Single, Token};
+use crate::tokens::{OneByte, Token};
 use crate::{Mode, brackets};
 use std::alloc::{AllocError, Global};
 
@@ -50,7 +50,7 @@ fn is_dead(token: &Token) -> bool
     ensures last { IsTrue result → EndsPattern (token_view token.now) }
     ensures more { IsFalse result → StandsBefore (token_view token.now) }
 {
-    matches!(token, Token::One(Single::Dead))
+    matches!(token, Token::One(OneByte::Dead))
 }
 
 /// What stands at the front of a pattern of this byte and this rest, which begins the whole or stands after a slash, or
@@ -69,16 +69,16 @@ fn first_piece(
 {
     Ok(match byte {
         b'\\' => escaped_piece(rest),
-        b'?' => single_byte(Single::Any),
+        b'?' => single_byte(OneByte::Any),
         b'[' => bracket_piece(alloc, rest)?,
         b'*' => stars_piece(mode, after_slash, rest),
-        _ => single_byte(Single::Byte(byte)),
+        _ => single_byte(OneByte::Byte(byte)),
     })
 }
 
 /// What a single byte of a pattern says.
-fn single_byte(single: Single) -> Piece
-    ensures { piece_view result ≡ record { token = One (single_view single); size = 1 } }
+fn single_byte(single: OneByte) -> Piece
+    ensures { piece_view result ≡ record { token = One (one_byte_view single); size = 1 } }
 {
     Piece {
         token: Token::One(single),
@@ -91,9 +91,9 @@ fn escaped_piece(rest: &[u8]) -> Piece
     ensures { piece_view result ≡ listed_piece (escaped_piece rest.now) }
 {
     match rest {
-        [] => single_byte(Single::Dead),
+        [] => single_byte(OneByte::Dead),
         [byte, ..] => Piece {
-            token: Token::One(Single::Quoted(*byte)),
+            token: Token::One(OneByte::Quoted(*byte)),
             size: 2,
         },
     }
@@ -106,10 +106,10 @@ fn bracket_piece(alloc: Global, rest: &[u8]) -> Result<Piece, AllocError>
     let negated = is_negated(rest);
     let listed = if negated { &rest[1..] } else { rest };
     Ok(match brackets::read_items(alloc, listed)? {
-        None => single_byte(Single::Dead),
+        None => single_byte(OneByte::Dead),
         Some(read) => Piece {
             size: rest.len() + 1 - read.rest.len(),
-            token: Token::One(Single::Bracket(negated, ByteSet::of_items(&read.items))),
+            token: Token::One(OneByte::Bracket(negated, ByteSet::of_items(&read.items))),
         },
     })
 }

@@ -2,12 +2,12 @@
 ghost use Rattle.std.specs.Prelude.{◌≡◌, ◌<◌, ◌==◌, ◌||◌, ℕ};
 ghost use Rattle.pathspec_glob.specs.GlobForms.{item_view, items_view};
 ghost use Rattle.pathspec_glob.specs.GlobRelation.{bracket_holds, item_holds, items_hold};
-ghost use Rattle.pathspec_glob.specs.GlobRows.{words_hold};
+ghost use Rattle.pathspec_glob.specs.BitVecs.{words_hold};
 ghost use Rattle.pathspec_glob.specs.ByteSets.{literals};
 
 use crate::Case;
+use crate::bit_vec::with_bit;
 use crate::brackets::{Class, Item};
-use crate::rows::with_bit;
 
 /// A set of bytes, one bit for each.
 #[derive(Debug, Drop)]

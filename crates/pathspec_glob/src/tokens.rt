@@ -3,11 +3,11 @@ ghost use Rattle.std.specs.Prelude.{◌≡◌, ◌+◌, ◌<◌, ◌≤◌, ◌^
 ghost use Rattle.std.specs.List.{prefix_len};
 ghost use Rattle.pathspec_glob.specs.Bytes.{slash};
 ghost use Rattle.pathspec_glob.specs.GlobRelation.{is_same_byte, is_barred, takes, passes_over};
-ghost use Rattle.pathspec_glob.specs.GlobForms.{single_view, token_view, tokens_view};
+ghost use Rattle.pathspec_glob.specs.GlobForms.{one_byte_view, token_view, tokens_view};
 ghost use Rattle.pathspec_glob.specs.GlobSteps.{is_deep_token, is_wide, is_wide_at, may_pass_over_at, takes_byte, token_takes};
 ghost use Rattle.pathspec_glob.specs.ByteSets.{listed_token_list};
-ghost use Rattle.pathspec_glob.specs.GlobParts.{plain_tokens, head_size, takes_each, tests_each, wide_size, wide_takes, wide_tests, MatchAsFirst};
-ghost use Rattle.pathspec_glob.specs.Tokens.Single.{Byte};
+ghost use Rattle.pathspec_glob.specs.GlobParts.{plain_tokens, head_size, takes_each, tests_each, wide_size, first_token_takes, first_token_tests, MatchAsFirst};
+ghost use Rattle.pathspec_glob.specs.Tokens.OneByte.{Byte};
 ghost use Rattle.pathspec_glob.specs.Tokens.Token.{One, Star};
 ghost use Rattle.pathspec_glob.specs.Counts.{BeginsAnew, HasNoSteps, KeepsCount};
 
@@ -19,9 +19,9 @@ use crate::{Case, Mode, reading};
 use std::alloc::{AllocError, Global};
 use std::marker::Model;
 
-/// What one byte of a text is held to.
+/// What one byte of a text has to be.
 #[derive(Debug, Drop)]
-pub enum Single {
+pub enum OneByte {
     /// This byte.
     Byte(u8),
     /// This byte, which stands after a backslash in the pattern.
@@ -38,7 +38,7 @@ pub enum Single {
 #[derive(Debug, Drop)]
 pub enum Token {
     /// One byte.
-    One(Single),
+    One(OneByte),
     /// Any bytes without `/`.
     Star,
     /// Any bytes.
@@ -240,7 +240,7 @@ impl Token {
     fn is_passed_over(&self, mode: Mode) -> bool
         ensures { result ≡ passes_over mode (token_view self.now) }
     {
-        mode == Mode::PathAware && matches!(self, Token::One(Single::Byte(b'/')))
+        mode == Mode::PathAware && matches!(self, Token::One(OneByte::Byte(b'/')))
     }
 
     /// Whether it takes any number of bytes.
@@ -255,7 +255,7 @@ impl Token {
         ensures { IfSome result (λ byte. token_view self.now ≡ One (Byte byte)) }
     {
         match self {
-            Token::One(Single::Byte(byte)) => Some(*byte),
+            Token::One(OneByte::Byte(byte)) => Some(*byte),
             _ => None,
         }
     }
@@ -266,7 +266,7 @@ impl Token {
     {
         match self {
             // The same as of other tokens for one byte, and in line.
-            Token::One(Single::Byte(own)) => is_same_byte(case, *own, byte),
+            Token::One(OneByte::Byte(own)) => is_same_byte(case, *own, byte),
             Token::One(single) => single.takes(mode, case, byte),
             Token::Star => byte != b'/',
             Token::Deep => true,
@@ -274,19 +274,19 @@ impl Token {
     }
 }
 
-impl Single {
+impl OneByte {
     /// Whether a byte is as this wants it.
     #[inline(never)]
     fn takes(&self, mode: Mode, case: Case, byte: u8) -> bool
-        ensures { result ≡ takes mode case (single_view self.now) byte }
+        ensures { result ≡ takes mode case (one_byte_view self.now) byte }
     {
         match self {
-            Single::Byte(own) | Single::Quoted(own) => is_same_byte(case, *own, byte),
-            Single::Any => !is_barred(mode, byte),
-            Single::Bracket(negated, set) => {
+            OneByte::Byte(own) | OneByte::Quoted(own) => is_same_byte(case, *own, byte),
+            OneByte::Any => !is_barred(mode, byte),
+            OneByte::Bracket(negated, set) => {
                 !is_barred(mode, byte) && set.holds(case, byte) != *negated
             }
-            Single::Dead => false,
+            OneByte::Dead => false,
         }
     }
 }

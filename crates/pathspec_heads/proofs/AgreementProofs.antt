@@ -4,7 +4,7 @@ use Rattle.std.proofs.lemmas.Bool.{cases_Bool, false≢true}
 use Rattle.std.proofs.lemmas.List.Sums.{common_prefix_len-le}
 use Rattle.std.proofs.lemmas.Bool.Decides.{nat_tests}
 use Rattle.pathspec_glob.specs.Bytes.{begins_with}
-use Rattle.pathspec_heads.specs.Agreement.{agreement, is_behind, eight}
+use Rattle.pathspec_heads.specs.Agreement.{agreement, is_behind, eight_bytes}
 
 pub agreement-more : (x y : List ℕ) (n : ℕ) → n ≤ agreement x y → n < length x → n < length y → get_or x n 0 ≡ get_or y n 0 → n + 1 ≤ agreement x y
 agreement-more [] y n h i j e = absurd (omega (arith, i))
@@ -144,9 +144,9 @@ same_fronts h x t p q =
     let shorter : length h ≤ n = squeezed (length h) h x t t (agreement-front h t e) (omega (arith, agreement-front h t e, agreement-self t, common_prefix_len-le nat_eq h t)) p q in
     begins-take h x n in_x shorter)
 
--- eight more bytes
-pub agreement-eight : (x y : List ℕ) (n : ℕ) → n ≤ agreement x y → n + 8 ≤ length x → n + 8 ≤ length y → eight x n ≡ eight y n → n + 8 ≤ agreement x y
-agreement-eight x y n h i j e =
+-- eight_bytes more bytes
+pub agreement-eight_bytes : (x y : List ℕ) (n : ℕ) → n ≤ agreement x y → n + 8 ≤ length x → n + 8 ≤ length y → eight_bytes x n ≡ eight_bytes y n → n + 8 ≤ agreement x y
+agreement-eight_bytes x y n h i j e =
     let one = agreement-more x y n h (omega (arith, i)) (omega (arith, j)) (ap (λ z. get_or z 0 0) e) in
     let two = agreement-more x y (n + 1) one (omega (arith, i)) (omega (arith, j)) (ap (λ z. get_or z 1 0) e) in
     let three = agreement-more x y (n + 2) (omega (arith, two)) (omega (arith, i)) (omega (arith, j)) (ap (λ z. get_or z 2 0) e) in

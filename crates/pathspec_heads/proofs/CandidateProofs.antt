@@ -2,7 +2,7 @@
 use Rattle.std.proofs.Common.{◌≡◌, ℕ, ◌<◌, true, false, sym, ◌∙◌, subst, List, length, Option, None, refl}
 use Rattle.pathspec_glob.specs.Bytes.{begins_with}
 use Rattle.pathspec_heads.specs.Heads.{head_at, IsLastFront, IsChainOf}
-use Rattle.pathspec_heads.specs.Groups.{IsGrouped, IsInChain, IsNext}
+use Rattle.pathspec_heads.specs.Groups.{IsGrouped, IsInChain, IsLeastFrom}
 use Rattle.pathspec_heads.proofs.NextProofs.{next-map}
 
 -- the place has a head that begins the text
@@ -10,7 +10,7 @@ abbrev pub IsCandidate : List (List ℕ) → List ℕ → ℕ → Type 0
 IsCandidate texts text p = (p < length texts) × (begins_with text (head_at texts p) ≡ true)
 
 module _ (texts heads : List (List ℕ)) (starts order : List ℕ) (g : IsGrouped texts heads starts order) (text : List ℕ) where
-  pub candidates-next : (j from : ℕ) (next : Option ℕ) → IsChainOf heads text j → IsNext (IsInChain heads starts order j) from next → IsNext (IsCandidate texts text) from next
+  pub candidates-next : (j from : ℕ) (next : Option ℕ) → IsChainOf heads text j → IsLeastFrom (IsInChain heads starts order j) from next → IsLeastFrom (IsCandidate texts text) from next
   candidates-next j from next chain n = next-map (IsInChain heads starts order j) (IsCandidate texts text) from next
       (λ p c.
       let m = g.meant c.0 p c.1 c.3 in

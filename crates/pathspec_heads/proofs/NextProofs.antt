@@ -10,7 +10,7 @@ use Rattle.std.specs.Ordering.{is_gt, ordering_reverse}
 use Rattle.pathspec_glob.specs.Bytes.{begins_with}
 use Rattle.pathspec_heads.specs.Agreement.{is_behind}
 use Rattle.pathspec_heads.specs.Heads.{head_at, IsRising, IsLastFront}
-use Rattle.pathspec_heads.specs.Groups.{start_of, end_of, IsInGroup, IsInChain, IsOrder, IsNext, earlier}
+use Rattle.pathspec_heads.specs.Groups.{start_of, end_of, IsInGroup, IsInChain, IsOrder, IsLeastFrom, earlier}
 use Rattle.pathspec_heads.proofs.AgreementProofs.{begins-between, begins-not_behind}
 use Rattle.pathspec_heads.proofs.HeadProofs.{le_split, apart_split, rises, begins-itself}
 use Rattle.pathspec_heads.proofs.PlacedProofs.{get_or-inside}
@@ -33,7 +33,7 @@ module _ (xs : List ℕ) (from at : ℕ) (up : IsNonDecreasing xs) (p : IsPartit
     ]
   ]
 
-  pub next-found : at < length xs → IsNext (Contains xs) from (Some (get_or xs at 0))
+  pub next-found : at < length xs → IsLeastFrom (Contains xs) from (Some (get_or xs at 0))
   next-found l = record {
     found = (test-ge (get_or xs at 0) from (p.1 at 0 (omega arith) l), (at, l, get_or-inside xs at (get_or xs at 0) 0 l));
     first = λ q h c.
@@ -42,7 +42,7 @@ module _ (xs : List ℕ) (from at : ℕ) (up : IsNonDecreasing xs) (p : IsPartit
         omega (arith, le, is);
   }
 
-  pub next-none : length xs ≤ at → IsNext (Contains xs) from None
+  pub next-none : length xs ≤ at → IsLeastFrom (Contains xs) from None
   next-none l = record {
     found = tt;
     first = λ q h c.
@@ -52,11 +52,11 @@ module _ (xs : List ℕ) (from at : ℕ) (up : IsNonDecreasing xs) (p : IsPartit
 
 -- ---- of one property, and of another
 
-pub next-map : (P Q : ℕ → Type 0) (from : ℕ) (next : Option ℕ) → ((p : ℕ) → P p → Q p) → ((p : ℕ) → Q p → P p) → IsNext P from next → IsNext Q from next
+pub next-map : (P Q : ℕ → Type 0) (from : ℕ) (next : Option ℕ) → ((p : ℕ) → P p → Q p) → ((p : ℕ) → Q p → P p) → IsLeastFrom P from next → IsLeastFrom Q from next
 next-map P Q from None f g n = record { found = tt; first = λ p h q. n.first p h (g p q) }
 next-map P Q from (Some x) f g n = record { found = (n.found.0, f x n.found.1); first = λ p h q. n.first p h (g p q) }
 
-pub next-earlier : (P Q : ℕ → Type 0) (from : ℕ) (a b : Option ℕ) → IsNext P from a → IsNext Q from b → IsNext (λ p. P p ⊎ Q p) from (earlier a b)
+pub next-earlier : (P Q : ℕ → Type 0) (from : ℕ) (a b : Option ℕ) → IsLeastFrom P from a → IsLeastFrom Q from b → IsLeastFrom (λ p. P p ⊎ Q p) from (earlier a b)
 next-earlier P Q from None b m n = record {
   found = right b n.found;
   first = λ p h c. elim c [ inl x ↦ absurd (m.first p h x) | inr y ↦ n.first p h y ];
@@ -134,7 +134,7 @@ module _ (heads : List (List ℕ)) (starts order : List ℕ) (o : IsOrder heads 
         part-at order s e q.0 q.1 i p inside ∙ (ap (λ m. get_or order m p) there ∙ (get_or-inside order g.at p 0 (omega (arith, g.before, q.1)) ∙ g.is)),
       )
 
-  pub group-next : (from : ℕ) (next : Option ℕ) → IsNext (Contains (slice_range order (start_of starts k) (end_of starts order k))) from next → IsNext (IsInGroup starts order k) from next
+  pub group-next : (from : ℕ) (next : Option ℕ) → IsLeastFrom (Contains (slice_range order (start_of starts k) (end_of starts order k))) from next → IsLeastFrom (IsInGroup starts order k) from next
   group-next from next n = next-map (Contains part) (IsInGroup starts order k) from next in-part of-part n
 
 -- ---- in a chain
@@ -151,7 +151,7 @@ module _ (heads : List (List ℕ)) (rising : IsRising heads) (starts order : Lis
       let more : is_behind (head_at heads k) (head_at heads j) ≡ true = ap is_gt (nat_list_cmp_total.antisymm (head_at heads k) (head_at heads j)) ∙ ap (λ o. is_gt (ordering_reverse o)) less in
       false≢true (sym (begins-not_behind (head_at heads k) (head_at heads j) h) ∙ more)
 
-  pub chain-begun : (from : ℕ) (next : Option ℕ) → IsNext (IsInGroup starts order j) from next → IsNext (IsInChainFrom heads starts order j j) from next
+  pub chain-begun : (from : ℕ) (next : Option ℕ) → IsLeastFrom (IsInGroup starts order j) from next → IsLeastFrom (IsInChainFrom heads starts order j j) from next
   chain-begun from next n = next-map (IsInGroup starts order j) (IsInChainFrom heads starts order j j) from next
       (λ p g. (j, omega arith, l, begins-itself (head_at heads j), g))
       (λ p c. elim (le_split j c.0 c.1) [
@@ -165,8 +165,8 @@ module _ (heads : List (List ℕ)) (rising : IsRising heads) (starts order : Lis
     begins_at : (k : ℕ) → k < at → begins_with (head_at heads j) (head_at heads k) ≡ true → begins_with (head_at heads at) (head_at heads k) ≡ true
     begins_at k s h = begins-between (head_at heads k) (head_at heads at) (head_at heads j) h (rises heads rising k at (omega (arith, s)) (omega (arith, before, l))) (rises heads rising at j before l)
 
-    pub chain-goes : (link from : ℕ) (a b : Option ℕ) → IsLastFront heads at (head_at heads at) (Some link) → IsNext (IsInChainFrom heads starts order at j) from a → IsNext (IsInGroup starts order link) from b
-        → begins_with (head_at heads j) (head_at heads link) ≡ true → IsNext (IsInChainFrom heads starts order link j) from (earlier a b)
+    pub chain-goes : (link from : ℕ) (a b : Option ℕ) → IsLastFront heads at (head_at heads at) (Some link) → IsLeastFrom (IsInChainFrom heads starts order at j) from a → IsLeastFrom (IsInGroup starts order link) from b
+        → begins_with (head_at heads j) (head_at heads link) ≡ true → IsLeastFrom (IsInChainFrom heads starts order link j) from (earlier a b)
     chain-goes link from a b last n m begun =
         let here = last.begins link refl in
         next-map (λ p. IsInChainFrom heads starts order at j p ⊎ IsInGroup starts order link p) (IsInChainFrom heads starts order link j) from (earlier a b)
@@ -183,7 +183,7 @@ module _ (heads : List (List ℕ)) (rising : IsRising heads) (starts order : Lis
         ])
         (next-earlier (IsInChainFrom heads starts order at j) (IsInGroup starts order link) from a b n m)
 
-    pub chain-ends : (from : ℕ) (next : Option ℕ) → IsLastFront heads at (head_at heads at) None → IsNext (IsInChainFrom heads starts order at j) from next → IsNext (IsInChain heads starts order j) from next
+    pub chain-ends : (from : ℕ) (next : Option ℕ) → IsLastFront heads at (head_at heads at) None → IsLeastFrom (IsInChainFrom heads starts order at j) from next → IsLeastFrom (IsInChain heads starts order j) from next
     chain-ends from next last n = next-map (IsInChainFrom heads starts order at j) (IsInChain heads starts order j) from next
         (λ p c. (c.0, c.2, c.3, c.4))
         (λ p c. (
@@ -207,5 +207,5 @@ module _ (heads : List (List ℕ)) (starts order : List ℕ) (o : IsOrder heads 
   pub code-ascending : IsNonDecreasing (take (b - a) (drop a xs))
   code-ascending = subst IsNonDecreasing same_part (group-ascending heads starts order o k l)
 
-  pub code-next : (from : ℕ) (next : Option ℕ) → IsNext (Contains (take (b - a) (drop a xs))) from next → IsNext (IsInGroup starts order k) from next
-  code-next from next n = group-next heads starts order o k l from next (subst (λ ys. IsNext (Contains ys) from next) (sym same_part) n)
+  pub code-next : (from : ℕ) (next : Option ℕ) → IsLeastFrom (Contains (take (b - a) (drop a xs))) from next → IsLeastFrom (IsInGroup starts order k) from next
+  code-next from next n = group-next heads starts order o k l from next (subst (λ ys. IsLeastFrom (Contains ys) from next) (sym same_part) n)

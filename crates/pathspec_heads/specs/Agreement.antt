@@ -12,7 +12,7 @@ agreement x y = common_prefix_len nat_eq x y
 abbrev pub is_behind : List ℕ → List ℕ → Bool
 is_behind x y = is_gt (slice_cmp nat_cmp x y)
 
--- the eight bytes of a text from a place on
-abbrev pub eight : List ℕ → ℕ → List ℕ
-eight x n =
+-- the eight bytes of a text from a position on
+abbrev pub eight_bytes : List ℕ → ℕ → List ℕ
+eight_bytes x n =
     get_or x n 0 ∷ get_or x (n + 1) 0 ∷ get_or x (n + 2) 0 ∷ get_or x (n + 3) 0 ∷ get_or x (n + 4) 0 ∷ get_or x (n + 5) 0 ∷ get_or x (n + 6) 0 ∷ get_or x (n + 7) 0 ∷ []

@@ -82,7 +82,7 @@ earlier (Some p) None = Some p
 earlier (Some p) (Some q) = Some (min p q)
 
 -- the least number from one on that has this property, where some has
-pub record IsNext (has : ℕ → Type 0) (from : ℕ) (next : Option ℕ) : Type 0 where
+pub record IsLeastFrom (has : ℕ → Type 0) (from : ℕ) (next : Option ℕ) : Type 0 where
   pub found : IfSome next (λ p. (from ≤ p) × has p)
   pub first : (p : ℕ) → from ≤ p → has p → IsSomeAnd next (λ q. q ≤ p)
 

@@ -47,40 +47,40 @@ struct Between {
 
 /// Where a search stands after so many comparisons.
 #[derive(Clone, Copy)]
-struct Begun {
+struct Progress {
     between: Between,
     compared: u128,
 }
 
-/// The place behind the last head that isn't behind a text, how many bytes that head agrees in, and how many heads were
+/// The index after that of the last head that isn't behind a text, how many bytes that head agrees in, and how many heads were
 /// compared.
 #[derive(Clone, Copy)]
-struct Ended {
+struct PartitionPoint {
     low: usize,
     agreed: usize,
     compared: u128,
 }
 
-/// Compares the head at the place with the text.
-fn narrowed(heads: &mut Heads, text: &[u8], between: Between, place: usize) -> Between
-    requires place { (between.low ≤ place) × (place < between.high) }
+/// Compares the head at the index with the text.
+fn narrowed(heads: &mut Heads, text: &[u8], between: Between, index: usize) -> Between
+    requires index { (between.low ≤ index) × (index < between.high) }
     requires so_far { Brackets heads.old.heads text.now between.low between.high between.agreed }
     ensures so_far { Brackets heads.old.heads text.now result.low result.high result.agreed }
-    ensures smaller { ((result.low ≡ between.low) × (result.high ≡ place))
-        ⊎ ((result.low ≡ place + 1) × (result.high ≡ between.high)) }
+    ensures smaller { ((result.low ≡ between.low) × (result.high ≡ index))
+        ⊎ ((result.low ≡ index + 1) × (result.high ≡ between.high)) }
     ensures heads { heads.new.heads ≡ heads.old.heads }
     ensures counted { Counts heads.old.compared 1 heads.new.compared }
 {
-    let comparison = heads.compare(place, text);
+    let comparison = heads.compare(index, text);
     if comparison.is_behind {
         Between {
             low: between.low,
-            high: place,
+            high: index,
             agreed: between.agreed,
         }
     } else {
         Between {
-            low: place + 1,
+            low: index + 1,
             high: between.high,
             agreed: comparison.agreed,
         }
@@ -88,7 +88,7 @@ fn narrowed(heads: &mut Heads, text: &[u8], between: Between, place: usize) -> B
 }
 
 /// Looks whether the search ends at the hint.
-fn by_hint(heads: &mut Heads, text: &[u8], hint: usize) -> Begun
+fn by_hint(heads: &mut Heads, text: &[u8], hint: usize) -> Progress
     ensures so_far { Brackets heads.old.heads text.now
         result.between.low result.between.high result.between.agreed }
     ensures heads { heads.new.heads ≡ heads.old.heads }
@@ -103,70 +103,70 @@ fn by_hint(heads: &mut Heads, text: &[u8], hint: usize) -> Begun
         agreed: 0,
     };
     if whole.high == 0 {
-        return Begun {
+        return Progress {
             between: whole,
             compared: 0,
         };
     }
     if hint == 0 || hint > whole.high {
         let between = narrowed(heads, text, whole, 0);
-        return Begun {
+        return Progress {
             between,
             compared: 1,
         };
     }
     let first = narrowed(heads, text, whole, hint - 1);
     if first.low < hint || first.high == hint {
-        return Begun {
+        return Progress {
             between: first,
             compared: 1,
         };
     }
     let between = narrowed(heads, text, first, hint);
-    Begun {
+    Progress {
         between,
         compared: 2,
     }
 }
 
-/// The place behind the last head that isn't behind the text. It looks at the hint first.
-fn sought(heads: &mut Heads, text: &[u8], hint: usize) -> Ended
+/// The index after that of the last head that isn't behind the text. It looks at the hint first.
+fn sought(heads: &mut Heads, text: &[u8], hint: usize) -> PartitionPoint
     ensures found { Brackets heads.old.heads text.now result.low result.low result.agreed }
     ensures heads { heads.new.heads ≡ heads.old.heads }
     ensures counted { Counts heads.old.compared result.compared heads.new.compared }
     ensures cost { (b : ℕ) → length heads.old.heads < 2 ^ b → result.compared ≤ b + 2 }
     ensures asked { 0 < length heads.old.heads → 1 ≤ result.compared }
 {
-    let begun = by_hint(heads, text, hint);
-    let mut between = begun.between;
-    let mut compared = begun.compared;
+    let progress = by_hint(heads, text, hint);
+    let mut between = progress.between;
+    let mut compared = progress.compared;
     while between.low < between.high {
         let middle = between.low + (between.high - between.low) / 2;
         between = narrowed(heads, text, between, middle);
         compared += 1;
     }
-    Ended {
+    PartitionPoint {
         low: between.low,
         agreed: between.agreed,
         compared,
     }
 }
 
-/// The last head at or before the place that begins the first `agreed` bytes of the head there. It takes a link for
-/// each head that it passes, and there are at most as many as the head at the place has bytes.
+/// The last head at or before the index that begins the first `agreed` bytes of the head there. It takes a link for
+/// each head that it passes, and there are at most as many as the head at the index has bytes.
 pub fn front_of(
     heads: &Texts,
     links: &[Option<usize>],
-    place: usize,
+    index: usize,
     agreed: usize,
 ) -> Option<usize>
-    requires place { (place < length links.now) × (length links.now ≤ length heads.now) }
+    requires index { (index < length links.now) × (length links.now ≤ length heads.now) }
     requires rising { IsRising heads.now }
     requires linked { IsLinked heads.now links.now }
-    ensures { IsLastFront heads.now (place + 1)
-        (take agreed (head_at heads.now place)) result }
+    ensures { IsLastFront heads.now (index + 1)
+        (take agreed (head_at heads.now index)) result }
 {
-    let mut at = place;
+    let mut at = index;
     while heads.text_len(at) > agreed {
         match links[at] {
             Some(link) => at = link,
@@ -176,18 +176,18 @@ pub fn front_of(
     Some(at)
 }
 
-/// The last head before the one at the place that begins it, by the links of the heads before it.
-fn link_of(heads: &Texts, links: &[Option<usize>], place: usize) -> Option<usize>
-    requires place { (place < length heads.now) × (length links.now ≡ place) }
+/// The last head before the one at the index that begins it, by the links of the heads before it.
+fn link_of(heads: &Texts, links: &[Option<usize>], index: usize) -> Option<usize>
+    requires index { (index < length heads.now) × (length links.now ≡ index) }
     requires rising { IsRising heads.now }
     requires linked { IsLinked heads.now links.now }
-    ensures { IsLastFront heads.now place (head_at heads.now place) result }
+    ensures { IsLastFront heads.now index (head_at heads.now index) result }
 {
-    if place == 0 {
+    if index == 0 {
         return None;
     }
-    let agreed = heads.shared_len(place - 1);
-    front_of(heads, links, place - 1, agreed)
+    let agreed = heads.shared_len(index - 1);
+    front_of(heads, links, index - 1, agreed)
 }
 
 /// The links of heads in byte order. The cost is linear in their bytes.
@@ -199,8 +199,8 @@ pub fn linked(alloc: Global, heads: &Texts) -> Result<Vec<Option<usize>>, AllocE
     ensures { IfOk result (λ links. IsChain heads.now links.items) }
 {
     let mut links = Vec::with_capacity(alloc, heads.len())?;
-    for place in 0..heads.len() {
-        links.push(link_of(heads, &links, place))?;
+    for index in 0..heads.len() {
+        links.push(link_of(heads, &links, index))?;
     }
     Ok(links)
 }
@@ -235,16 +235,16 @@ impl Chains {
         ensures cost { (b : ℕ) → length self.old.heads < 2 ^ b → result.compared ≤ b + 2 }
         ensures asked { 0 < length self.old.heads → 1 ≤ result.compared }
     {
-        let ended = sought(&mut self.heads, text, self.hint);
-        self.hint = ended.low;
-        if ended.low == 0 {
+        let point = sought(&mut self.heads, text, self.hint);
+        self.hint = point.low;
+        if point.low == 0 {
             return Deepest {
                 head: None,
-                compared: ended.compared,
+                compared: point.compared,
             };
         }
-        let head = front_of(self.heads.texts(), &self.links, ended.low - 1, ended.agreed);
-        let compared = ended.compared;
+        let head = front_of(self.heads.texts(), &self.links, point.low - 1, point.agreed);
+        let compared = point.compared;
         Deepest { head, compared }
     }
 
@@ -255,11 +255,11 @@ impl Chains {
         self.heads.compared()
     }
 
-    /// The last head before the one at the place that begins it.
-    pub fn link(&self, place: usize) -> Option<usize>
-        requires { place < length self.now.heads }
-        ensures { IsLastFront self.now.heads place (head_at self.now.heads place) result }
+    /// The last head before the one at the index that begins it.
+    pub fn link(&self, index: usize) -> Option<usize>
+        requires { index < length self.now.heads }
+        ensures { IsLastFront self.now.heads index (head_at self.now.heads index) result }
     {
-        self.links[place]
+        self.links[index]
     }
 }

@@ -2,7 +2,7 @@
 ghost use Rattle.std.specs.Prelude.{◌≡◌, ◌+◌, ◌<◌, ◌≤◌, length, map, slice_index};
 ghost use Rattle.std.specs.Int.{w64, to_le_bytes};
 ghost use Rattle.pathspec_glob.specs.Counts.{Counts};
-ghost use Rattle.pathspec_heads.specs.Agreement.{agreement, is_behind, eight};
+ghost use Rattle.pathspec_heads.specs.Agreement.{agreement, is_behind, eight_bytes};
 ghost use Rattle.pathspec_heads.specs.Heads.{CountedHeads, head_at};
 ghost use Rattle.pathspec_heads.specs.Stems.{with_slash};
 
@@ -55,20 +55,20 @@ impl Texts {
     }
 
     /// How many bytes one of them has.
-    pub fn text_len(&self, place: usize) -> usize
-        requires { place < length self.now }
-        ensures { result ≡ length (head_at self.now place) }
+    pub fn text_len(&self, index: usize) -> usize
+        requires { index < length self.now }
+        ensures { result ≡ length (head_at self.now index) }
     {
-        self.all[place].len()
+        self.all[index].len()
     }
 
     /// How many bytes one of them agrees in with the next.
-    pub fn shared_len(&self, place: usize) -> usize
-        requires { place + 1 < length self.now }
+    pub fn shared_len(&self, index: usize) -> usize
+        requires { index + 1 < length self.now }
         ensures { result
-            ≡ agreement (head_at self.now place) (head_at self.now (place + 1)) }
+            ≡ agreement (head_at self.now index) (head_at self.now (index + 1)) }
     {
-        compared(&self.all[place], &self.all[place + 1]).agreed
+        compared(&self.all[index], &self.all[index + 1]).agreed
     }
 }
 
@@ -109,19 +109,19 @@ impl Heads {
     }
 
     /// How a head compares with a text. It looks at each byte in which they agree once.
-    pub fn compare(&mut self, place: usize, text: &[u8]) -> Comparison
-        requires { place < length self.old.heads }
-        ensures agreed { result.agreed ≡ agreement (head_at self.old.heads place) text.now }
-        ensures behind { result.is_behind ≡ is_behind (head_at self.old.heads place) text.now }
+    pub fn compare(&mut self, index: usize, text: &[u8]) -> Comparison
+        requires { index < length self.old.heads }
+        ensures agreed { result.agreed ≡ agreement (head_at self.old.heads index) text.now }
+        ensures behind { result.is_behind ≡ is_behind (head_at self.old.heads index) text.now }
         ensures heads { self.new.heads ≡ self.old.heads }
         ensures counted { Counts self.old.compared 1 self.new.compared }
     {
         self.compared = self.compared.wrapping_add(1);
-        compared(&self.texts.all[place], text)
+        compared(&self.texts.all[index], text)
     }
 }
 
-/// The byte of a path and a slash at a place, in lower case where case doesn't count.
+/// The byte of a path and a slash at a position, in lower case where case doesn't count.
 pub fn byte_with_slash(path: &[u8], ignore_case: bool, at: usize) -> u8
     requires { at ≤ length path.now }
     ensures { result ≡ slice_index (with_slash ignore_case path.now) at }
@@ -167,14 +167,14 @@ impl StemTexts {
     }
 
     /// How one of them compares with a path and a slash, in lower case where case doesn't count.
-    pub fn compare_with_slash(&self, place: usize, path: &[u8], ignore_case: bool) -> Comparison
-        requires { place < length self.now }
+    pub fn compare_with_slash(&self, index: usize, path: &[u8], ignore_case: bool) -> Comparison
+        requires { index < length self.now }
         ensures agreed { result.agreed
-            ≡ agreement (head_at self.now place) (with_slash ignore_case path.now) }
+            ≡ agreement (head_at self.now index) (with_slash ignore_case path.now) }
         ensures behind { result.is_behind
-            ≡ is_behind (head_at self.now place) (with_slash ignore_case path.now) }
+            ≡ is_behind (head_at self.now index) (with_slash ignore_case path.now) }
     {
-        compared_with_slash(&self.texts.all[place], path, ignore_case)
+        compared_with_slash(&self.texts.all[index], path, ignore_case)
     }
 }
 
@@ -205,10 +205,10 @@ fn compared_with_slash(stem: &[u8], path: &[u8], ignore_case: bool) -> Compariso
     }
 }
 
-/// The eight bytes from a place on.
-fn word_at(text: &[u8], at: usize) -> u64
+/// The eight bytes from a position on.
+fn eight_bytes_at(text: &[u8], at: usize) -> u64
     requires { at + 8 ≤ length text.now }
-    ensures { to_le_bytes w64 result ≡ eight text.now at }
+    ensures { to_le_bytes w64 result ≡ eight_bytes text.now at }
 {
     u64::from_le_bytes([
         text[at],
@@ -223,11 +223,14 @@ fn word_at(text: &[u8], at: usize) -> u64
 }
 
 /// Bytes in which two texts agree, eight at a time.
-fn agreed_by_words(head: &[u8], text: &[u8]) -> usize
+fn agreed_by_eights(head: &[u8], text: &[u8]) -> usize
     ensures { result ≤ agreement head.now text.now }
 {
     let mut at = 0;
-    while head.len() - at >= 8 && text.len() - at >= 8 && word_at(head, at) == word_at(text, at) {
+    while head.len() - at >= 8
+        && text.len() - at >= 8
+        && eight_bytes_at(head, at) == eight_bytes_at(text, at)
+    {
         at += 8;
     }
     at
@@ -238,7 +241,7 @@ fn compared(head: &[u8], text: &[u8]) -> Comparison
     ensures agreed { result.agreed ≡ agreement head.now text.now }
     ensures behind { result.is_behind ≡ is_behind head.now text.now }
 {
-    for at in agreed_by_words(head, text)..head.len() {
+    for at in agreed_by_eights(head, text)..head.len() {
         if at == text.len() {
             return Comparison {
                 agreed: at,

@@ -3,7 +3,7 @@ ghost use Rattle.std.specs.Prelude.{◌≡◌, ℕ, ◌+◌, ◌^◌, ◌<◌, �
 ghost use Rattle.std.specs.List.Sorted.{IsNonDecreasing};
 ghost use Rattle.pathspec_glob.specs.Counts.{Counts};
 ghost use Rattle.pathspec_heads.specs.Heads.{IsLastFront, IsChainOf};
-ghost use Rattle.pathspec_heads.specs.Groups.{CountedPlaces, HasSameGroups, IsGrouped, IsInGroup, IsInChain, IsNext, earlier, end_of};
+ghost use Rattle.pathspec_heads.specs.Groups.{CountedPlaces, HasSameGroups, IsGrouped, IsInGroup, IsInChain, IsLeastFrom, earlier, end_of};
 
 use crate::chains::{Chains, Deepest};
 use crate::groups::{grouped, sorted};
@@ -34,7 +34,7 @@ impl Model for PlacesByHead {
 /// The least number in an ascending list from one on.
 fn next_in(places: &[usize], from: usize) -> Option<usize>
     requires { IsNonDecreasing places.now }
-    ensures { IsNext (Contains places.now) from result }
+    ensures { IsLeastFrom (Contains places.now) from result }
 {
     let at = places.partition_point(|place| *place < from);
     if at < places.len() {
@@ -110,9 +110,9 @@ impl PlacesByHead {
     }
 
     /// The least place from one on that has this head.
-    fn next_of(&self, head: usize, from: usize) -> Option<usize>
+    fn next_in_group(&self, head: usize, from: usize) -> Option<usize>
         requires { head < length self.now.heads }
-        ensures { IsNext (IsInGroup self.now.starts self.now.order head) from result }
+        ensures { IsLeastFrom (IsInGroup self.now.starts self.now.order head) from result }
     {
         let end = self.end_of(head);
         next_in(&self.order[self.starts[head]..end], from)
@@ -123,13 +123,13 @@ impl PlacesByHead {
     /// For each head that begins it, it looks at as many places as their count has binary digits. It takes no memory.
     pub fn next_place(&self, head: usize, from: usize) -> Option<usize>
         requires { head < length self.now.heads }
-        ensures { IsNext (IsInChain self.now.heads self.now.starts self.now.order head)
+        ensures { IsLeastFrom (IsInChain self.now.heads self.now.starts self.now.order head)
             from result }
     {
-        let mut next = self.next_of(head, from);
+        let mut next = self.next_in_group(head, from);
         let mut at = head;
         while let Some(link) = self.chains.link(at) {
-            next = earlier(next, self.next_of(link, from));
+            next = earlier(next, self.next_in_group(link, from));
             at = link;
         }
         next

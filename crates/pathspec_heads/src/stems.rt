@@ -29,9 +29,9 @@ impl Model for Stems {
     ghost invariant = { λ s. IsChain s.texts s.links.items };
 }
 
-/// The place behind the last stem that isn't behind a path and a slash, and how many bytes that stem agrees in.
+/// The index after that of the last stem that isn't behind a path and a slash, and how many bytes that stem agrees in.
 #[derive(Clone, Copy)]
-struct Ended {
+struct PartitionPoint {
     low: usize,
     agreed: usize,
 }
@@ -45,8 +45,8 @@ struct Found {
     deepest: Option<usize>,
 }
 
-/// The place behind the last text that isn't behind the path and a slash.
-fn sought(texts: &StemTexts, path: &[u8], ignore_case: bool) -> Ended
+/// The index after that of the last text that isn't behind the path and a slash.
+fn sought(texts: &StemTexts, path: &[u8], ignore_case: bool) -> PartitionPoint
     ensures { Brackets texts.now (with_slash ignore_case path.now)
         result.low result.low result.agreed }
 {
@@ -63,7 +63,7 @@ fn sought(texts: &StemTexts, path: &[u8], ignore_case: bool) -> Ended
             agreed = comparison.agreed;
         }
     }
-    Ended { low, agreed }
+    PartitionPoint { low, agreed }
 }
 
 impl Stems {
@@ -82,21 +82,21 @@ impl Stems {
     }
 
     /// Whether a stem lies below the path, where the search for the path and a slash ended here.
-    fn has_below(&self, path: &[u8], ignore_case: bool, ended: Ended) -> bool
+    fn has_below(&self, path: &[u8], ignore_case: bool, point: PartitionPoint) -> bool
         requires { Brackets self.now (with_slash ignore_case path.now)
-            ended.low ended.low ended.agreed }
+            point.low point.low point.agreed }
         ensures yes { IsTrue result → SomeText self.now
             (λ stem. begins_with stem (with_slash ignore_case path.now) ≡ true) }
         ensures no { IsFalse result → NoText self.now
             (λ stem. begins_with stem (with_slash ignore_case path.now) ≡ true) }
     {
-        if ended.low > 0 && ended.agreed > path.len() {
+        if point.low > 0 && point.agreed > path.len() {
             return true;
         }
-        ended.low < self.texts.texts().len()
+        point.low < self.texts.texts().len()
             && self
                 .texts
-                .compare_with_slash(ended.low, path, ignore_case)
+                .compare_with_slash(point.low, path, ignore_case)
                 .agreed
                 > path.len()
     }
@@ -111,15 +111,15 @@ impl Stems {
             (with_slash ignore_case path.now) result.deepest }
         ensures rising { IsRising self.now }
     {
-        let ended = sought(&self.texts, path, ignore_case);
-        let below = self.has_below(path, ignore_case, ended);
-        if ended.low == 0 {
+        let point = sought(&self.texts, path, ignore_case);
+        let below = self.has_below(path, ignore_case, point);
+        if point.low == 0 {
             return Found {
                 below,
                 deepest: None,
             };
         }
-        let deepest = front_of(self.texts.texts(), &self.links, ended.low - 1, ended.agreed);
+        let deepest = front_of(self.texts.texts(), &self.links, point.low - 1, point.agreed);
         Found { below, deepest }
     }
 

@@ -15,7 +15,7 @@ use Rattle.pathspec_parts.specs.Trees.{IsNested, HasBytePaths}
 use Rattle.pathspec_parts.proofs.EntryProofs.{Contains-here, Contains-later}
 use Rattle.pathspec_parts.proofs.SeenProofs.{one_of-from, from-one_of, seen_from, from_seen, next_seen-is, none-next_seen, rising-push}
 use Rattle.pathspec_parts.proofs.TreeProofs.{entries_run}
-use Rattle.pathspec_parts.specs.Cursors.{CursorContents, IsNew, number_after, next_seen, append_if, append_once, directory_count, IsDirectoryIn, IsEndOf, IsNearPath, HoldsPaths, IsCursor}
+use Rattle.pathspec_parts.specs.Cursors.{CursorContents, IsNew, number_after_place, next_seen, append_if, append_once, directory_count, IsDirectoryIn, IsEndOf, IsNearPath, HoldsPaths, IsCursor}
 
 -- ---- the start
 
@@ -40,10 +40,10 @@ starts es room entered_room nest bytes paths long = record {
 -- ---- where it stands
 
 module _ (es : List Entry) (at : Option ℕ) (next : ℕ) (path entered : List ℕ) (is_new : Bool) (room entered_room : ℕ) (h : IsCursor es at next path entered is_new room entered_room) where
-  after_le : number_after es at is_new ≤ length es
+  after_le : number_after_place es at is_new ≤ length es
   after_le = go at is_new h.here
     where
-      go : (o : Option ℕ) (b : Bool) → ((n : ℕ) → o ≡ Some n → (e : Entry) × (slice_get es n ≡ Some e) × (is_seen entered e ≡ true) × (path ≡ e.path)) → number_after es o b ≤ length es
+      go : (o : Option ℕ) (b : Bool) → ((n : ℕ) → o ≡ Some n → (e : Entry) × (slice_get es n ≡ Some e) × (is_seen entered e ≡ true) × (path ≡ e.path)) → number_after_place es o b ≤ length es
       go (Some n) b f = let r = f n refl in let w = slice_get_within es n r.0 r.1 in omega (arith, w)
       go None true f = omega arith
       go None false f = omega arith
@@ -84,8 +84,8 @@ module _ (es : List Entry) (at : Option ℕ) (next : ℕ) (path entered : List �
     holds_entered = h.holds_entered;
   }
 
-  pub ends_none : length es ≤ next → next_seen entered (number_after es at is_new) es ≡ None
-  ends_none le = none-next_seen entered (number_after es at is_new) es (λ j f a s. let w = slice_get_within es j f s in h.unseen j f a (omega (arith, w, le)) s)
+  pub ends_none : length es ≤ next → next_seen entered (number_after_place es at is_new) es ≡ None
+  ends_none le = none-next_seen entered (number_after_place es at is_new) es (λ j f a s. let w = slice_get_within es j f s in h.unseen j f a (omega (arith, w, le)) s)
 
   -- the next entry
 
@@ -124,8 +124,8 @@ module _ (es : List Entry) (at : Option ℕ) (next : ℕ) (path entered : List �
     holds_entered = h.holds_entered;
   }
 
-  pub goes_next : (e : Entry) → slice_get es next ≡ Some e → next_seen entered (number_after es at is_new) es ≡ Some next
-  goes_next e s = next_seen-is entered (number_after es at is_new) es next e (record { from = h.onward; stands = s; seen = h.seen e s; unseen = h.unseen })
+  pub goes_next : (e : Entry) → slice_get es next ≡ Some e → next_seen entered (number_after_place es at is_new) es ≡ Some next
+  goes_next e s = next_seen-is entered (number_after_place es at is_new) es next e (record { from = h.onward; stands = s; seen = h.seen e s; unseen = h.unseen })
 
 -- ---- a directory is entered
 
@@ -245,7 +245,7 @@ rising_count n (e ∷ es) (x ∷ xs) r d = elim (cases_lt n x) [
 
 -- what was entered stands at the place or before it
 pub entered_below : (es : List Entry) (at : Option ℕ) (n next : ℕ) (path entered : List ℕ) (is_new : Bool) (room entered_room : ℕ) → IsCursor es at next path entered is_new room entered_room → at ≡ Some n → (m : ℕ) → Contains entered m → m < n + 1
-entered_below es at n next path entered is_new room entered_room h e m c = subst (λ (o : Option ℕ). m < number_after es o is_new) e (h.entered_before m c)
+entered_below es at n next path entered is_new room entered_room h e m c = subst (λ (o : Option ℕ). m < number_after_place es o is_new) e (h.entered_before m c)
 
 -- a directory that has not been entered finds room
 pub room_for : (es : List Entry) (at : Option ℕ) (n next : ℕ) (path entered : List ℕ) (is_new : Bool) (room entered_room : ℕ) → IsCursor es at next path entered is_new room entered_room → at ≡ Some n → IsDirectoryIn es n

@@ -16,7 +16,7 @@ use Rattle.pathspec_parts.specs.Entries.{Call, OpenDirectory, Entry, entry_in, n
 use Rattle.pathspec_parts.specs.Entries.Call.{Open, File, Close}
 use Rattle.pathspec_parts.specs.Trees.{TreeContents, empty_tree, tree_after, tree_of_calls, IsTreeName, AreNamed}
 use Rattle.pathspec_parts.specs.Cursors.{HoldsPaths}
-use Rattle.pathspec_parts.specs.TreeLayout.{name_end_at, name_start_at, name_at, end_at, is_directory_at, directories_before, directories_above, entry_of_node, tree_of_nodes, open_end, IsEnd, path_above, LiesUnder, IsLayoutOf, IsLayout}
+use Rattle.pathspec_parts.specs.TreeLayout.{name_end_at, name_start_at, name_at, end_at, is_directory_at, directories_before, directories_above, entry_of_node, tree_of_nodes, open_end, IsEnd, path_above, IsPathOfEntry, IsLayoutOf, IsLayout}
 use Rattle.pathspec_parts.proofs.ListProofs.{snoc_cases, snoc_parts, take-snoc, count_by-push, get-front, get-set_same, get-set_other, map_range-same, filter_range-same, Contains-filter_range, filter_range-without_last}
 use Rattle.pathspec_parts.proofs.TreeProofs.{get-append, get-last, get-cases, AreOpen, IsBuilt, calls-built, empty-built}
 use Rattle.pathspec_parts.specs.declared.tree.Node.{Node}
@@ -116,8 +116,8 @@ lies_in_tree t h = elim (snoc_cases t.open_directories) [
 ]
 
 -- one more entry leaves what stands above the others
-LiesUnder-more : (es more : List Entry) (e : Entry) (name other : List ℕ) (above : ℕ) → other ≡ name → LiesUnder es e name above → LiesUnder (es ++ more) e other above
-LiesUnder-more es more e name other above same h = record {
+IsPathOfEntry-more : (es more : List Entry) (e : Entry) (name other : List ℕ) (above : ℕ) → other ≡ name → IsPathOfEntry es e name above → IsPathOfEntry (es ++ more) e other above
+IsPathOfEntry-more es more e name other above same h = record {
   front = h.front;
   path_is = h.path_is ∙ ap (λ x. h.front ++ x) (sym same);
   long = h.long;
@@ -298,10 +298,10 @@ module _ (names : List ℕ) (nodes : List Node) (stack : List ℕ) (longest dire
   entries_count : length tree.entries ≡ count
   entries_count = length-tree_of_nodes names nodes
 
-  more_paths : (i : ℕ) (m : Node) (e : Entry) → slice_get more i ≡ Some m → slice_get after.entries i ≡ Some e → LiesUnder after.entries e (name_at (names ++ name) more i) m.above
+  more_paths : (i : ℕ) (m : Node) (e : Entry) → slice_get more i ≡ Some m → slice_get after.entries i ≡ Some e → IsPathOfEntry after.entries e (name_at (names ++ name) more i) m.above
   more_paths i m e a b = elim (get-cases nodes node i m a) [
     | inl p ↦ elim (get-cases tree.entries (entry_in tree.open_directories name is_dir) i e b) [
-      | inl q ↦ LiesUnder-more tree.entries (entry_in tree.open_directories name is_dir ∷ []) e (name_at names nodes i) (name_at (names ++ name) more i) m.above (name-old i (slice_get_within nodes i m p)) (h.paths i m e p q)
+      | inl q ↦ IsPathOfEntry-more tree.entries (entry_in tree.open_directories name is_dir ∷ []) e (name_at names nodes i) (name_at (names ++ name) more i) m.above (name-old i (slice_get_within nodes i m p)) (h.paths i m e p q)
       | inr q ↦ let w = slice_get_within nodes i m p in absurd (omega (arith, w, q.0, entries_count))
     ]
     | inr p ↦ elim (get-cases tree.entries (entry_in tree.open_directories name is_dir) i e b) [
@@ -309,9 +309,9 @@ module _ (names : List ℕ) (nodes : List Node) (stack : List ℕ) (longest dire
       | inr q ↦
           let new = entry_in tree.open_directories name is_dir in
           let lies = lies_in_tree tree (made-built tree h.made_by) in
-          let here : LiesUnder tree.entries new name node.above = record { front = path_above tree.open_directories; path_is = path_of_entry tree.open_directories name; long = sym n.above; lies = lies } in
-          let there : LiesUnder after.entries new (name_at (names ++ name) more count) node.above = LiesUnder-more tree.entries (new ∷ []) new name (name_at (names ++ name) more count) node.above name-new here in
-          let P : ℕ → Node → Entry → Type 0 = λ k x y. LiesUnder after.entries y (name_at (names ++ name) more k) x.above in
+          let here : IsPathOfEntry tree.entries new name node.above = record { front = path_above tree.open_directories; path_is = path_of_entry tree.open_directories name; long = sym n.above; lies = lies } in
+          let there : IsPathOfEntry after.entries new (name_at (names ++ name) more count) node.above = IsPathOfEntry-more tree.entries (new ∷ []) new name (name_at (names ++ name) more count) node.above name-new here in
+          let P : ℕ → Node → Entry → Type 0 = λ k x y. IsPathOfEntry after.entries y (name_at (names ++ name) more k) x.above in
           subst (λ k. P k m e) (sym p.0) (subst (λ x. P count x e) p.1 (subst (λ y. P count node y) q.1 there))
     ]
   ]
@@ -513,11 +513,11 @@ module _ (names : List ℕ) (nodes : List Node) (stack : List ℕ) (longest dire
       | inr n ↦ subst (IsEnd (length closed) i) (sym (end-other i n)) (subst (λ k. IsEnd k i (end_at nodes i)) (sym long) (h.ends i (omega (arith, l, long))))
     ]
 
-    closed_paths : (i : ℕ) (m : Node) (e : Entry) → slice_get closed i ≡ Some m → slice_get (tree_of_nodes names nodes).entries i ≡ Some e → LiesUnder (tree_of_nodes names nodes).entries e (name_at names closed i) m.above
-    closed_paths i m e a b = subst (λ x. LiesUnder (tree_of_nodes names nodes).entries e x m.above) (sym (name-closed i)) (elim (cases_place i) [
+    closed_paths : (i : ℕ) (m : Node) (e : Entry) → slice_get closed i ≡ Some m → slice_get (tree_of_nodes names nodes).entries i ≡ Some e → IsPathOfEntry (tree_of_nodes names nodes).entries e (name_at names closed i) m.above
+    closed_paths i m e a b = subst (λ x. IsPathOfEntry (tree_of_nodes names nodes).entries e x m.above) (sym (name-closed i)) (elim (cases_place i) [
       | inl p ↦
           let same : record node { end = length nodes } ≡ m = same_Some (record node { end = length nodes }) m (sym get_closed ∙ (ap (slice_get closed) (sym p) ∙ a)) in
-          subst (λ (x : Node). LiesUnder (tree_of_nodes names nodes).entries e (name_at names nodes i) x.above) same (h.paths i node e (ap (slice_get nodes) p ∙ at) b)
+          subst (λ (x : Node). IsPathOfEntry (tree_of_nodes names nodes).entries e (name_at names nodes i) x.above) same (h.paths i node e (ap (slice_get nodes) p ∙ at) b)
       | inr n ↦ h.paths i m e (sym (get-set_other nodes place i (record node { end = length nodes }) n) ∙ a) b
     ])
 

@@ -8,7 +8,7 @@ use Rattle.pathspec_glob.specs.Bytes.{slash}
 use Rattle.pathspec_parts.specs.Entries.{Entry, numbers_of}
 use Rattle.pathspec_parts.specs.Trees.{TreeContents, IsNested, HasBytePaths}
 use Rattle.pathspec_parts.specs.Cursors.{IsEndOf, IsNearPath, HoldsPaths}
-use Rattle.pathspec_parts.specs.TreeLayout.{name_at, end_at, directories_above, entry_of_node, tree_of_nodes, open_end, LiesUnder, IsLayout}
+use Rattle.pathspec_parts.specs.TreeLayout.{name_at, end_at, directories_above, entry_of_node, tree_of_nodes, open_end, IsPathOfEntry, IsLayout}
 use Rattle.pathspec_parts.proofs.ListProofs.{snoc_cases, get-map_range}
 use Rattle.pathspec_parts.proofs.TreeProofs.{get-last, tree_of_calls-nested, tree_of_calls-bytes}
 use Rattle.pathspec_parts.proofs.LayoutProofs.{Contains-above, length-tree_of_nodes}
@@ -90,8 +90,8 @@ module _ (names : List ℕ) (nodes : List Node) (stack : List ℕ) (longest dire
     pub kind_is : (e : Entry) → slice_get t.entries i ≡ Some e → not (node.end == 0) ≡ e.is_dir
     kind_is e s = ap (λ k. not (k == 0)) (sym end_at_is) ∙ ap (λ (x : Entry). x.is_dir) (sym (entry_is i e s).1)
 
-    lies_under : (e : Entry) → slice_get t.entries i ≡ Some e → LiesUnder t.entries e (name_at names nodes i) node.above
-    lies_under e s = subst (λ (x : TreeContents). LiesUnder x.entries e (name_at names nodes i) node.above) view (h.paths i node e at (subst (λ (x : TreeContents). slice_get x.entries i ≡ Some e) (sym view) s))
+    lies_under : (e : Entry) → slice_get t.entries i ≡ Some e → IsPathOfEntry t.entries e (name_at names nodes i) node.above
+    lies_under e s = subst (λ (x : TreeContents). IsPathOfEntry x.entries e (name_at names nodes i) node.above) view (h.paths i node e at (subst (λ (x : TreeContents). slice_get x.entries i ≡ Some e) (sym view) s))
 
     pub length_is : (e : Entry) → slice_get t.entries i ≡ Some e → node.above + length (name_at names nodes i) ≡ length e.path
     length_is e s = let u = lies_under e s in sym (ap length u.path_is ∙ (length-append u.front (name_at names nodes i) ∙ ap (λ k. k + length (name_at names nodes i)) u.long))
@@ -105,7 +105,7 @@ module _ (names : List ℕ) (nodes : List Node) (stack : List ℕ) (longest dire
         omega (arith, l, k)
 
     -- a path near the entry is cut to what stands above its name
-    cut-near : (e : Entry) → slice_get t.entries i ≡ Some e → (path : List ℕ) → IsNearPath t.entries i path → (u : LiesUnder t.entries e (name_at names nodes i) node.above) → cut_path node.above path ≡ u.front
+    cut-near : (e : Entry) → slice_get t.entries i ≡ Some e → (path : List ℕ) → IsNearPath t.entries i path → (u : IsPathOfEntry t.entries e (name_at names nodes i) node.above) → cut_path node.above path ≡ u.front
     cut-near e s path near u = elim u.lies [
       | inl z ↦
           let none : node.above ≡ 0 = sym u.long ∙ ap length z in

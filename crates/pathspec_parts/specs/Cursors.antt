@@ -31,13 +31,13 @@ abbrev pub IsNew : CursorContents → Type 0
 IsNew c = c ≡ new_cursor c.entries
 
 -- the number after the place: 0 for a new cursor, all at the end
-abbrev pub number_after : List Entry → Option ℕ → Bool → ℕ
-number_after es (Some n) is_new = n + 1
-number_after es None is_new = if is_new then 0 else length es
+abbrev pub number_after_place : List Entry → Option ℕ → Bool → ℕ
+number_after_place es (Some n) is_new = n + 1
+number_after_place es None is_new = if is_new then 0 else length es
 
 -- the number from which a cursor goes on
 abbrev pub next_number : CursorContents → ℕ
-next_number c = number_after c.entries c.at c.is_new
+next_number c = number_after_place c.entries c.at c.is_new
 
 -- the cursor at another place
 abbrev pub cursor_at : CursorContents → Option ℕ → CursorContents
@@ -99,12 +99,12 @@ pub record IsCursor (es : List Entry) (at : Option ℕ) (next : ℕ) (path enter
   pub here : (n : ℕ) → at ≡ Some n → (e : Entry) × (slice_get es n ≡ Some e) × (is_seen entered e ≡ true) × (path ≡ e.path)
   pub nowhere : at ≡ None → path ≡ []
   pub fresh : is_new ≡ true → (at ≡ None) × (entered ≡ [])
-  pub onward : number_after es at is_new ≤ next
-  pub unseen : (j : ℕ) (f : Entry) → number_after es at is_new ≤ j → j < next → slice_get es j ≡ Some f → is_seen entered f ≡ false
+  pub onward : number_after_place es at is_new ≤ next
+  pub unseen : (j : ℕ) (f : Entry) → number_after_place es at is_new ≤ j → j < next → slice_get es j ≡ Some f → is_seen entered f ≡ false
   pub seen : (f : Entry) → slice_get es next ≡ Some f → is_seen entered f ≡ true
   pub near : (f : Entry) (m : ℕ) → slice_get es next ≡ Some f → Contains f.above m → (n : ℕ) × (e : Entry) × (at ≡ Some n) × (slice_get es n ≡ Some e) × ((m ≡ n) ⊎ Contains e.above m)
   pub rising : IsStrictlyIncreasing entered
-  pub entered_before : (m : ℕ) → Contains entered m → m < number_after es at is_new
+  pub entered_before : (m : ℕ) → Contains entered m → m < number_after_place es at is_new
   pub directories : (m : ℕ) → Contains entered m → IsDirectoryIn es m
   pub holds_paths : HoldsPaths es path_room
   pub holds_entered : directory_count es ≤ entered_room

@@ -58,7 +58,7 @@ abbrev pub path_above : List OpenDirectory → List ℕ
 path_above directories = flat_map (λ d. d.name ++ slash ∷ []) directories
 
 -- The path of an entry is its name after that of the directory that it lies in, which is so long with its slash.
-pub record LiesUnder (es : List Entry) (e : Entry) (name : List ℕ) (above : ℕ) : Type 0 where
+pub record IsPathOfEntry (es : List Entry) (e : Entry) (name : List ℕ) (above : ℕ) : Type 0 where
   pub front : List ℕ
   pub path_is : e.path ≡ front ++ name
   pub long : length front ≡ above
@@ -71,7 +71,7 @@ pub record IsLayoutOf (names : List ℕ) (nodes : List Node) (stack : List ℕ) 
   pub names_end : name_start_at nodes (length nodes) ≡ length names
   pub names_rise : (i : ℕ) → i < length nodes → (name_start_at nodes i ≤ name_end_at nodes i) × (name_end_at nodes i ≤ length names)
   pub ends : (i : ℕ) → i < length nodes → IsEnd (length nodes) i (end_at nodes i)
-  pub paths : (i : ℕ) (node : Node) (e : Entry) → slice_get nodes i ≡ Some node → slice_get t.entries i ≡ Some e → LiesUnder t.entries e (name_at names nodes i) node.above
+  pub paths : (i : ℕ) (node : Node) (e : Entry) → slice_get nodes i ≡ Some node → slice_get t.entries i ≡ Some e → IsPathOfEntry t.entries e (name_at names nodes i) node.above
   pub longest_is : HoldsPaths t.entries longest
   pub longest_fits : longest ≤ open_end
   pub directories_are : directory_count t.entries ≡ directories

@@ -18,7 +18,7 @@ pub fn at_first(bytes: &[u8], byte: u8) -> (&[u8], &[u8])
     }
 }
 
-/// The place of the first such byte.
+/// The position of the first such byte.
 fn place_of(bytes: &[u8], byte: u8) -> Option<usize>
     ensures { result ≡ position (λ b. b == byte) bytes.now }
 {

@@ -10,7 +10,7 @@ use Rattle.pathspec_parts.specs.Attributes.{Assignment}
 use Rattle.pathspec_pattern.specs.Results.{all_ok, ◌>>=◌}
 use Rattle.pathspec_pattern.specs.Faults.{Fault}
 use Rattle.pathspec_pattern.specs.Faults.Fault.{EmptyAttributes, InvalidValueByte, TrailingEscape}
-use Rattle.pathspec_pattern.specs.AttributeLists.{units_from, is_value_byte, unit_byte, value_of, assignment_of, parts, assignments_of}
+use Rattle.pathspec_pattern.specs.AttributeLists.{written_bytes, is_value_byte, byte_of_written, value_of, assignment_of, parts, assignments_of}
 
 -- values that are made, in front of those that are to come; an error that is to come stays
 abbrev pub in_front : {A E : Type 0} → List A → Result (List A) E → Result (List A) E
@@ -28,7 +28,7 @@ module _ {A E : Type 0} where
 
 -- what is to come of a value, after a backslash or not
 abbrev pub value_from : List ℕ → Bool → List ℕ → Result (List ℕ) Fault
-value_from written escaped rest = all_ok (map (unit_byte written) (units_from escaped rest))
+value_from written escaped rest = all_ok (map (byte_of_written written) (written_bytes escaped rest))
 
 -- a byte that no backslash precedes, and that is no escape
 is_plain : (b : ℕ) → (b == backslash && true) ≡ false → (b == backslash) ≡ false

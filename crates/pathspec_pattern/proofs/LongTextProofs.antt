@@ -8,12 +8,12 @@ use Rattle.std.proofs.lemmas.Option.{slice_get-map}
 use Rattle.std.proofs.lemmas.List.{take-map}
 use Rattle.pathspec_parts.specs.Bytes.{comma, space, is_empty}
 use Rattle.pathspec_parts.specs.Attributes.{Assignment}
-use Rattle.pathspec_pattern.specs.LongText.{HoldsWords, assignment_text, list_text, attributes_text, number_text, prefix_piece, prefix_text}
+use Rattle.pathspec_pattern.specs.LongText.{HoldsPieces, assignment_text, list_text, attributes_text, number_text, prefix_piece, prefix_text}
 use Rattle.pathspec_pattern.proofs.JoinProofs.{join-more}
 
 -- ---- keywords
 
--- one more after words that are there
+-- one more after pieces that are there
 join-after : (w : List ℕ) (ws : List (List ℕ)) (word : List ℕ) → join_with_byte comma ((w ∷ ws) ++ word ∷ []) ≡ join_with_byte comma (w ∷ ws) ++ comma ∷ word
 join-after w [] word = refl
 join-after w (v ∷ ws) word = ap (λ t. w ++ comma ∷ t) (join-after v ws word) ∙ sym (append_assoc w (comma ∷ join_with_byte comma (v ∷ ws)) (comma ∷ word))
@@ -30,8 +30,8 @@ join-length : (w : List ℕ) (ws : List (List ℕ)) → is_empty w ≡ false →
 join-length w [] e = filled-length w e
 join-length w (v ∷ ws) e = let l = length-append w (comma ∷ join_with_byte comma (v ∷ ws)) in let f = filled-length w e in omega (arith, l, f)
 
--- A word is written after the others, with a comma between.
-pub word-after : (old new : List ℕ) (words : List (List ℕ)) (word : List ℕ) → HoldsWords old words → is_empty word ≡ false → new ≡ (old ++ cond (nat_lt 2 (length old)) (comma ∷ []) []) ++ word → HoldsWords new (words ++ word ∷ [])
+-- A piece is written after the others, with a comma between.
+pub word-after : (old new : List ℕ) (words : List (List ℕ)) (word : List ℕ) → HoldsPieces old words → is_empty word ≡ false → new ≡ (old ++ cond (nat_lt 2 (length old)) (comma ∷ []) []) ++ word → HoldsPieces new (words ++ word ∷ [])
 word-after old new [] word h e n =
     let bare : old ≡ codes ":(" = h.join_names in
     record { join_names = n ∙ (rw bare refl); filled = filled-after [] word h.filled e }
@@ -70,17 +70,17 @@ assignment-after all n a old so_far spaced new s p w h =
     let front : (m : ℕ) → join_with_byte space (take m texts) ≡ list_text (take m all) = λ m. ap (join_with_byte space) (take-map assignment_text m all) in
     join_names-after space texts n (assignment_text a) old so_far spaced new (s ∙ ap (λ t. old ++ t) (sym (front n))) p w at ∙ ap (λ t. old ++ t) (front (n + 1))
 
--- A list of attributes is one more word.
-pub attributes-after : (all : List Assignment) (old begun listing new : List ℕ) (words : List (List ℕ)) → HoldsWords old words → is_empty all ≡ false → begun ≡ old ++ cond (nat_lt 2 (length old)) (comma ∷ []) [] → listing ≡ begun ++ codes "attr:" → new ≡ listing ++ list_text all
-    → HoldsWords new (words ++ attributes_text all)
+-- A list of attributes is one more piece.
+pub attributes-after : (all : List Assignment) (old begun listing new : List ℕ) (words : List (List ℕ)) → HoldsPieces old words → is_empty all ≡ false → begun ≡ old ++ cond (nat_lt 2 (length old)) (comma ∷ []) [] → listing ≡ begun ++ codes "attr:" → new ≡ listing ++ list_text all
+    → HoldsPieces new (words ++ attributes_text all)
 attributes-after [] old begun listing new words h f b l n = cc
 attributes-after (a ∷ rest) old begun listing new words h f b l n =
     let gap = cond (nat_lt 2 (length old)) (comma ∷ []) [] in
     word-after old new words (codes "attr:" ++ list_text (a ∷ rest)) h refl (rw (n, l, b) (append_assoc (old ++ gap) (codes "attr:") (list_text (a ∷ rest))))
 
--- A prefix length is one more word.
-pub prefix-after : (n : ℕ) (old begun named new : List ℕ) (words : List (List ℕ)) → HoldsWords old words → (n == 0) ≡ false → begun ≡ old ++ cond (nat_lt 2 (length old)) (comma ∷ []) [] → named ≡ begun ++ codes "prefix:" → new ≡ named ++ number_text n
-    → HoldsWords new (words ++ prefix_text n)
+-- A prefix length is one more piece.
+pub prefix-after : (n : ℕ) (old begun named new : List ℕ) (words : List (List ℕ)) → HoldsPieces old words → (n == 0) ≡ false → begun ≡ old ++ cond (nat_lt 2 (length old)) (comma ∷ []) [] → named ≡ begun ++ codes "prefix:" → new ≡ named ++ number_text n
+    → HoldsPieces new (words ++ prefix_text n)
 prefix-after n old begun named new words h z b l e =
     let gap = cond (nat_lt 2 (length old)) (comma ∷ []) [] in
     rw z (word-after old new words (prefix_piece n) h refl (rw (e, l, b) (append_assoc (old ++ gap) (codes "prefix:") (number_text n))))
@@ -90,5 +90,5 @@ pub map-filled : {X : Type 0} (view : X → Assignment) (xs : List X) → (lengt
 map-filled view [] h = cc
 map-filled view (x ∷ xs) h = refl
 
-pub no_words : HoldsWords (codes ":(") []
+pub no_words : HoldsPieces (codes ":(") []
 no_words = record { join_names = refl; filled = refl }

@@ -11,9 +11,9 @@ use Rattle.pathspec_pattern.specs.Results.{all_ok, ◌>>=◌}
 use Rattle.pathspec_pattern.specs.Faults.{Fault}
 use Rattle.pathspec_pattern.specs.Faults.Fault.{EmptyAttributes, InvalidName, InvalidValueByte, LiteralWithGlob, SecondAttributes, InvalidPrefix}
 use Rattle.pathspec_parts.specs.Attributes.{State, Assignment, is_attribute_name}
-use Rattle.pathspec_pattern.specs.AttributeLists.{ValueUnit, name_of, assignment_with_state, assignment_with_value, value_of, units_from, unit_byte, is_value_byte, assignment_of, assignments_of, parts}
+use Rattle.pathspec_pattern.specs.AttributeLists.{WrittenByte, name_of, assignment_with_state, assignment_with_value, value_of, written_bytes, byte_of_written, is_value_byte, assignment_of, assignments_of, parts}
 use Rattle.pathspec_parts.specs.Attributes.State.{Set, Unset, Value, Unspecified}
-use Rattle.pathspec_pattern.specs.AttributeLists.ValueUnit.{Plain, Escaped, LoneBackslash}
+use Rattle.pathspec_pattern.specs.AttributeLists.WrittenByte.{Plain, Escaped, LoneBackslash}
 use Rattle.pathspec_pattern.specs.Signatures.{signature_bits}
 use Rattle.pathspec_pattern.specs.Specs.{Spec, top, icase, exclude, must_be_dir, has, has_boundary}
 use Rattle.pathspec_parts.specs.Paths.{ends_with_slash, without_last_slash}
@@ -54,19 +54,19 @@ all_ok-passes f q p (x ∷ xs) ys w h e =
 -- ---- attributes
 
 -- a byte that a unit stands for is one of values
-byte_said : (w : List ℕ) (unit : ValueUnit) (b : ℕ) → unit_byte w unit ≡ Ok b → is_value_byte b ≡ true
+byte_said : (w : List ℕ) (unit : WrittenByte) (b : ℕ) → byte_of_written w unit ≡ Ok b → is_value_byte b ≡ true
 byte_said w (Plain c) b h = let k = cond_ok (is_value_byte c) c b (InvalidValueByte c) h in subst (λ (x : ℕ). is_value_byte x ≡ true) k.1 k.0
 byte_said w (Escaped c) b h = let k = cond_ok (is_value_byte c) c b (InvalidValueByte c) h in subst (λ (x : ℕ). is_value_byte x ≡ true) k.1 k.0
 byte_said w LoneBackslash b h = absurd (let q : ⊥ = cc in q)
 
 -- all pass a test that never fails
-all_true : (units : List ValueUnit) → list_all (λ u. true) units ≡ true
+all_true : (units : List WrittenByte) → list_all (λ u. true) units ≡ true
 all_true [] = refl
 all_true (u ∷ units) = all_true units
 
 -- so a value that is written has only such bytes
 value_said : (w v : List ℕ) → value_of w ≡ Ok v → list_all is_value_byte v ≡ true
-value_said w v h = all_ok-passes (unit_byte w) (λ u. true) is_value_byte (units_from false w) v (λ u b t e. byte_said w u b e) (all_true (units_from false w)) h
+value_said w v h = all_ok-passes (byte_of_written w) (λ u. true) is_value_byte (written_bytes false w) v (λ u b t e. byte_said w u b e) (all_true (written_bytes false w)) h
 
 -- a name with its state, where both can be said
 named_said : (state : State) (name : List ℕ) (a : Assignment) → is_expressible_state state ≡ true → (is_set state && is_empty name) ≡ false → assignment_with_state state name ≡ Ok a → is_expressible_assignment a ≡ true

@@ -12,8 +12,8 @@ use Rattle.pathspec_pattern.specs.Results.{all_ok, ◌>>=◌}
 use Rattle.pathspec_pattern.specs.Faults.{Fault}
 use Rattle.pathspec_pattern.specs.Faults.Fault.{InvalidPrefix, InvalidName, InvalidValueByte, LiteralWithGlob, SecondAttributes, EmptyAttributes}
 use Rattle.pathspec_pattern.specs.Specs.{Spec, top, icase, exclude}
-use Rattle.pathspec_pattern.specs.AttributeLists.{ValueUnit, name_of, is_value_byte, unit_byte, value_of, units_from, assignment_with_state, assignment_with_value, assignment_of, assignments_of, parts}
-use Rattle.pathspec_pattern.specs.AttributeLists.ValueUnit.{Plain, Escaped, LoneBackslash}
+use Rattle.pathspec_pattern.specs.AttributeLists.{WrittenByte, name_of, is_value_byte, byte_of_written, value_of, written_bytes, assignment_with_state, assignment_with_value, assignment_of, assignments_of, parts}
+use Rattle.pathspec_pattern.specs.AttributeLists.WrittenByte.{Plain, Escaped, LoneBackslash}
 use Rattle.pathspec_pattern.specs.Reading.{Keyword, keyword_of, Magic, with_piece, with_pieces, same_mode, long_pieces, short_bits, Cut, magic_of, spec_of, body_spec, no_magic, Reads, IsRefused, is_prefix_piece, AsksNoPrefix, PrefixIsAsked}
 use Rattle.pathspec_pattern.specs.Reading.Keyword.{Adds, Picks, Ignored, Lists, Counts, Unknown}
 use Rattle.pathspec_pattern.specs.Reading.Reads.{verbatim, nothing, plain, magic}
@@ -50,7 +50,7 @@ all_tell f (x ∷ xs) h = more_tell (f x) (map f xs) (h x) (all_tell f xs h)
 
 -- ---- lists of attributes
 
-unit_tells : (written : List ℕ) (unit : ValueUnit) → tells_prefix (unit_byte written unit) ≡ false
+unit_tells : (written : List ℕ) (unit : WrittenByte) → tells_prefix (byte_of_written written unit) ≡ false
 unit_tells written (Plain b) = cond_tells (is_value_byte b) (Ok b) (Err (InvalidValueByte b)) refl refl
 unit_tells written (Escaped b) = cond_tells (is_value_byte b) (Ok b) (Err (InvalidValueByte b)) refl refl
 unit_tells written LoneBackslash = refl
@@ -59,7 +59,7 @@ state_tells : (state : State) (name : List ℕ) → tells_prefix (assignment_wit
 state_tells state name = bind_tells (name_of name) (λ n. Ok (record { name = n; state = state })) (cond_tells (is_attribute_name name) (Ok name) (Err (InvalidName name)) refl refl) (λ n. refl)
 
 value_tells : (name written : List ℕ) → tells_prefix (assignment_with_value name written) ≡ false
-value_tells name written = bind_tells (value_of written) (λ v. assignment_with_state (Value v) name) (all_tell (unit_byte written) (units_from false written) (unit_tells written)) (λ v. state_tells (Value v) name)
+value_tells name written = bind_tells (value_of written) (λ v. assignment_with_state (Value v) name) (all_tell (byte_of_written written) (written_bytes false written) (unit_tells written)) (λ v. state_tells (Value v) name)
 
 assignment_tells : (part : List ℕ) → tells_prefix (assignment_of part) ≡ false
 unfolding assignment_of

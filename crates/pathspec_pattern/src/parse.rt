@@ -37,7 +37,7 @@ use std::alloc::Global;
 /// [`Error::InvalidKeyword`], [`Error::LiteralWithGlob`] where it picks a second mode, [`Error::SecondAttributes`]
 /// where it is a second list, the error of its list, as [`attributes`] gives it, or [`Error::InvalidPrefix`] where no
 /// digits alone follow its `prefix:`. Where all else is right, [`Error::InvalidPrefix`] for the last `prefix:` whose number
-/// is no length that a directory of the path can have: 0, the path's length, or the place of a slash. [`Error::Memory`].
+/// is no length that a directory of the path can have: 0, the path's length, or the position of a slash. [`Error::Memory`].
 pub fn parse(alloc: Global, input: &[u8], defaults: Defaults) -> Result<Pattern, Error>
     ensures reads { IfOk result (λ p. Reads defaults input.now (pattern_spec p)) }
     ensures refused { IfErr result (λ e. IsMemoryOr e (IsRefused defaults input.now)) }

@@ -11,7 +11,7 @@ use Rattle.pathspec_parts.specs.declared.tree.TreeError.TheVariants.{EmptyName, 
 use Rattle.pathspec_parts.specs.Bytes.{is_empty}
 use Rattle.pathspec_parts.specs.Trees.{TreeContents, empty_tree, tree_after, tree_of_calls}
 use Rattle.pathspec_parts.proofs.TreeProofs.{tree_has_entries}
-use Rattle.pathspec_select.specs.Listing.{records, first_bad, is_bad, record_is_dir, record_names, parent_names, open_after, implied_names, record_calls, calls_from, record_marks, marks_from, ListingContents, listing_of}
+use Rattle.pathspec_select.specs.Listing.{records, first_bad, is_bad, record_is_dir, record_names, parent_names, open_after, implied_names, record_calls, calls_from, marks_of_record, marks_from, ListingContents, listing_of}
 use Rattle.pathspec_select.specs.ListingAnswers.{directory_names, has_empty_name, RefusesNames, mark_from, RefusesRecords, refusal_of}
 use Rattle.pathspec_select.proofs.ListingProofs.{records-first}
 use Rattle.pathspec_select.proofs.NameProofs.{has_empty_name-record}
@@ -114,7 +114,7 @@ module _ (bytes : List ℕ) (separator : ℕ) (rest directory : List ℕ) (tree 
             ap (λ x. x ++ marks_from (directory_names now_open) later) marks_after
             ∙ (ap (λ x. ((map f starts ++ replicate c None) ++ Some text ∷ []) ++ marks_from x later) o
             ∙ (ap (λ x. x ++ marks_from (open_after text) later) (append_assoc (map f starts) (replicate c None) (Some text ∷ []))
-            ∙ (append_assoc (map f starts) (record_marks names text) (marks_from (open_after text) later) ∙ (sym (ap (λ x. map f starts ++ marks_from names x) records_are) ∙ read.marks_are))));
+            ∙ (append_assoc (map f starts) (marks_of_record names text) (marks_from (open_after text) later) ∙ (sym (ap (λ x. map f starts ++ marks_from names x) records_are) ∙ read.marks_are))));
         found =
             ap (λ j. position_from is_bad (j + 1) later) k
             ∙ (sym (ap (position_from is_bad (number + 1)) records_are ∙ ap (λ b. cond b (Some (number + 1)) (position_from is_bad ((number + 1) + 1) later)) good_text) ∙ read.found);

@@ -93,13 +93,13 @@ abbrev pub listing_entries : List (List ℕ) → List Entry
 listing_entries rs = entries (calls_from [] rs)
 
 -- the record, if any, that each entry of its calls is made from: the directories that are only implied have none
-abbrev pub record_marks : List (List ℕ) → List ℕ → List (Option (List ℕ))
-record_marks names r = replicate (length (implied_names names (parent_names r))) None ++ Some r ∷ []
+abbrev pub marks_of_record : List (List ℕ) → List ℕ → List (Option (List ℕ))
+marks_of_record names r = replicate (length (implied_names names (parent_names r))) None ++ Some r ∷ []
 
 -- the same for each entry of the tree of records
 abbrev pub marks_from : List (List ℕ) → List (List ℕ) → List (Option (List ℕ))
 marks_from names [] = []
-marks_from names (r ∷ rs) = record_marks names r ++ marks_from (open_after r) rs
+marks_from names (r ∷ rs) = marks_of_record names r ++ marks_from (open_after r) rs
 
 -- the record of one entry
 abbrev pub mark_at : List (Option (List ℕ)) → ℕ → Option (List ℕ)

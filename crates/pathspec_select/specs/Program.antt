@@ -95,8 +95,8 @@ abbrev pub HasFault : List (List ℕ) → Words → RequestFault → Type 0
 HasFault words environment fault = request_of words environment ≡ Err fault
 
 -- what is asked for is done
-abbrev pub EndsRequest : {A : Type 0} → Option (List ℕ) → Option (List ℕ) → Option (List ℕ) → Result A Refusal → Request → Type 0
-EndsRequest input old new result request = EndsJob (table_of request.rows) request.specs request.separator input old new result
+abbrev pub EndsAsRequested : {A : Type 0} → Option (List ℕ) → Option (List ℕ) → Option (List ℕ) → Result A Refusal → Request → Type 0
+EndsAsRequested input old new result request = EndsJob (table_of request.rows) request.specs request.separator input old new result
 
 -- it is refused for its first fault
 abbrev pub RefusesRequest : Option (List ℕ) → Option (List ℕ) → Option (List ℕ) → Refusal → Request → Type 0
@@ -119,5 +119,5 @@ Refuses words environment input old new refusal.Memory = (options_of words ≢ E
 
 -- What a run ends with, for these words and this environment, the bytes that its reader gives, and those that its writer held before and holds after it. Either what they ask for was done, or it is refused.
 abbrev pub Ends : {A : Type 0} → List (List ℕ) → Words → Option (List ℕ) → Option (List ℕ) → Option (List ℕ) → Result A Refusal → Type 0
-Ends words environment input old new (Ok done) = AsksFor words environment (EndsRequest input old new (Ok done))
+Ends words environment input old new (Ok done) = AsksFor words environment (EndsAsRequested input old new (Ok done))
 Ends words environment input old new (Err refused) = Refuses words environment input old new refused

@@ -33,7 +33,7 @@ pub(crate) fn write_records<W: Write>(
 {
     let mut buffer = Vec::with_capacity(alloc, ROOM)?;
     for entry in entries {
-        put_record(writer, &mut buffer, listing.record(*entry), separator)?;
+        write_record(writer, &mut buffer, listing.record(*entry), separator)?;
     }
     devices::write_whole(writer, buffer.as_slice())
 }
@@ -42,13 +42,13 @@ pub(crate) fn write_records<W: Write>(
 ///
 /// # Errors
 /// [`Refusal::Write`]: a beginning of all these bytes is written.
-fn put_record<W: Write>(
+fn write_record<W: Write>(
     writer: &mut W,
     buffer: &mut Vec<u8>,
     text: Option<BStr<'_>>,
     separator: u8,
 ) -> Result<(), Refusal>
-    ensures put { OnOk result (AppendsUpTo (W.contents writer.old) (W.contents writer.new)
+    ensures written { OnOk result (AppendsUpTo (W.contents writer.old) (W.contents writer.new)
         (buffer.old.items ++ written_of separator (option_map bstr_bytes text.entry))
         buffer.new.items) }
     ensures cause { IfErr result (λ e. e ≡ Refusal.Write) }
@@ -58,16 +58,20 @@ fn put_record<W: Write>(
     let Some(text) = text else {
         return Ok(());
     };
-    put(writer, buffer, text.as_bytes())?;
-    put(writer, buffer, &[separator])
+    write_buffered(writer, buffer, text.as_bytes())?;
+    write_buffered(writer, buffer, &[separator])
 }
 
 /// Puts bytes after those that a buffer holds, or writes both where they leave no room.
 ///
 /// # Errors
 /// [`Refusal::Write`]: a beginning of all these bytes is written.
-fn put<W: Write>(writer: &mut W, buffer: &mut Vec<u8>, bytes: &[u8]) -> Result<(), Refusal>
-    ensures put { OnOk result (AppendsUpTo (W.contents writer.old) (W.contents writer.new)
+fn write_buffered<W: Write>(
+    writer: &mut W,
+    buffer: &mut Vec<u8>,
+    bytes: &[u8],
+) -> Result<(), Refusal>
+    ensures written { OnOk result (AppendsUpTo (W.contents writer.old) (W.contents writer.new)
         (buffer.old.items ++ bytes.now) buffer.new.items) }
     ensures cause { IfErr result (λ e. e ≡ Refusal.Write) }
     ensures front { OnErr result (AppendsFront (W.contents writer.old) (W.contents writer.new)

@@ -66,7 +66,7 @@ pub fn run<R: Read, W: Write>(
 /// `a/x`, line feed, `b` has the spec `a` and the records `a/x` and `b`. Neither part is copied.
 ///
 /// It looks at each byte of the listing a fixed number of times, and asks the search about each entry at most twice. An
-/// entry takes 24 bytes and its name in the tree, 8 for the place of its record, and 8 more where it is chosen: in all about
+/// entry takes 24 bytes and its name in the tree, 8 for where its record begins, and 8 more where it is chosen: in all about
 /// twice the listing's bytes where paths stand in byte order, as git lists them. A directory that comes again is a further
 /// entry, so that other listings take more.
 ///

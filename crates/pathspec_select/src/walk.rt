@@ -68,8 +68,8 @@ pub fn select<L: LookUp>(
     search.nil_specs_lack_a_prefix();
     search.spec_paths_are_bytes();
     let mut given = Vec::new(alloc);
-    while let Some(place) = cursor.next() {
-        visit(cursor, search, look_up, place, &mut given)?;
+    while let Some(number) = cursor.next() {
+        visit(cursor, search, look_up, number, &mut given)?;
     }
     Ok(given)
 }
@@ -79,14 +79,14 @@ fn visit<L: LookUp>(
     cursor: &mut Cursor<'_>,
     search: &mut Search,
     look_up: &mut L,
-    place: usize,
+    number: usize,
     given: &mut Vec<usize>,
 ) -> Result<(), SelectError<L::Fault>>
     requires { path_at cursor.old ≢ [] }
     ensures given { OnOk result (given.new.items ≡ append_if
         (is_chosen (L.table look_up.old) (specs_of search.old.specs)
         (path_at cursor.old) (is_dir_at cursor.old))
-        place given.old.items) }
+        number given.old.items) }
     ensures entered { OnOk result (cursor.new ≡
         (if is_dir_at cursor.old && can_hold (specs_of search.old.specs) (path_at cursor.old)
         then after_enter cursor.old else cursor.old)) }
@@ -97,7 +97,7 @@ fn visit<L: LookUp>(
 {
     let answer = is_chosen(search, cursor.path(), cursor.is_dir(), look_up);
     let is_chosen = answer.map_err(SelectError::LookUp)?;
-    if is_chosen && given.push(place).is_err() {
+    if is_chosen && given.push(number).is_err() {
         return Err(SelectError::Memory);
     }
     if cursor.is_dir() && search.can_match_relative_path(cursor.path(), Some(true)) {

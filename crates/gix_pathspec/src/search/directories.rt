@@ -6,7 +6,7 @@ ghost use Rattle.bstr.specs.BStr.{bstr_bytes};
 ghost use Rattle.gix_pathspec.specs.Attributes.{Table};
 ghost use Rattle.gix_pathspec.specs.Paths.{is_slash};
 ghost use Rattle.gix_pathspec.specs.Specs.{wants_directory};
-ghost use Rattle.gix_pathspec.specs.Directories.{parent_or_self, parent, non_empty, front, leading_front, front_for, agrees_in_front, settles, settling_answer, takes_directory, directory_matches, ends_at_boundary, common_directory};
+ghost use Rattle.gix_pathspec.specs.Directories.{parent_or_self, parent, non_empty, front, leading_front, front_for, agrees_in_front, settles, settling_answer, allows_directory, directory_matches, ends_at_boundary, common_directory};
 ghost use Rattle.gix_pathspec.specs.DirectoryLaws.{OutsideFitsNone, OutsideIsSafe, LeadingIsWider, CommonDirectoryHoldsAll};
 
 use crate::search::Search;
@@ -59,11 +59,11 @@ impl Search {
         ensures { let specs = specs_of self.now.specs in result
             ≡ settling_answer (find settles specs)
             (not (list_any is_include specs)
-            || list_any (takes_directory path.now leading) specs) }
+            || list_any (allows_directory path.now leading) specs) }
     {
         match self.first_settling() {
             Some(spec) => spec.has_wildcard(),
-            None => !self.has_include() || self.has_taking_directory(path, leading),
+            None => !self.has_include() || self.has_allowing_include(path, leading),
         }
     }
 
@@ -75,14 +75,14 @@ impl Search {
     }
 
     /// Whether some include takes the directory.
-    fn has_taking_directory(&self, path: &[u8], leading: bool) -> bool
-        ensures { result ≡ list_any (takes_directory path.now leading)
+    fn has_allowing_include(&self, path: &[u8], leading: bool) -> bool
+        ensures { result ≡ list_any (allows_directory path.now leading)
             (specs_of self.now.specs) }
     {
         self.specs
             .as_slice()
             .iter()
-            .any(|spec| spec.takes_directory(path, leading))
+            .any(|spec| spec.allows_directory(path, leading))
     }
 
     /// A directory that every selected path lies in or is (gix-pathspec's call of this name), as long as the includes let
@@ -141,8 +141,8 @@ impl CompiledSpec {
     }
 
     /// Whether this is an include that always matches, or whose front the path begins with.
-    fn takes_directory(&self, path: &[u8], leading: bool) -> bool
-        ensures { result ≡ takes_directory path.now leading self.now.spec }
+    fn allows_directory(&self, path: &[u8], leading: bool) -> bool
+        ensures { result ≡ allows_directory path.now leading self.now.spec }
     {
         self.is_include()
             && (self.pattern().always_matches() || self.agrees_in_front(path, leading))

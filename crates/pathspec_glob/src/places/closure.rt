@@ -42,7 +42,7 @@ impl Places {
         let wide = moves.wide.word(index);
         let overs = moves.overs.word(index);
         let places = closure(come, staying, wide, overs);
-        self.entered.put_word(index, places);
+        self.entered.set_word(index, places);
         (((places | staying) & wide) >> 63) | ((places & overs) >> 62)
     }
 

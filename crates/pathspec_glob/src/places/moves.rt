@@ -1,7 +1,7 @@
 //! The moves between places that take no byte (the empty moves of an automaton).
 ghost use Rattle.std.specs.Prelude.{◌≡◌, length, IfOk};
 
-use crate::rows::Row;
+use crate::bit_vec::BitVec;
 use crate::tokens::Tokens;
 use std::alloc::{AllocError, Global};
 
@@ -9,9 +9,9 @@ use std::alloc::{AllocError, Global};
 #[derive(Debug, Drop)]
 pub struct EmptyMoves {
     /// Those before a token that takes any number of bytes lead to the next place.
-    pub(super) wide: Row,
+    pub(super) wide: BitVec,
     /// Those that may be passed over lead to the place behind the next, where they are come to.
-    pub(super) overs: Row,
+    pub(super) overs: BitVec,
     ghost one_size: { length overs ≡ length wide },
 }
 
@@ -25,11 +25,11 @@ impl EmptyMoves {
     pub fn of_tokens(alloc: Global, tokens: &Tokens) -> Result<EmptyMoves, AllocError>
         ensures { IfOk result (λ moves. IsMovesOf tokens.now moves) }
     {
-        let mut wide = Row::of_len(alloc, tokens.len())?;
-        let mut overs = Row::of_len(alloc, tokens.len())?;
+        let mut wide = BitVec::of_len(alloc, tokens.len())?;
+        let mut overs = BitVec::of_len(alloc, tokens.len())?;
         for place in 0..tokens.len() {
-            wide.put(place, tokens.is_wide(place));
-            overs.put(place, tokens.may_pass_over(place));
+            wide.set(place, tokens.is_wide(place));
+            overs.set(place, tokens.may_pass_over(place));
         }
         Ok(EmptyMoves { wide, overs })
     }

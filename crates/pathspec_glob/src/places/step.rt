@@ -2,8 +2,8 @@
 ghost use Rattle.std.specs.Prelude.{IsTrue, IsFalse, ◌≡◌, ◌≤◌, ◌<◌, ◌+◌, ◌*◌, ◌^◌, ◌&&◌, ◌||◌, ℕ, false, not, length};
 ghost use Rattle.pathspec_glob.specs.Counts.{KeepsCount};
 ghost use Rattle.pathspec_glob.specs.GlobCells.{has};
-ghost use Rattle.pathspec_glob.specs.GlobRows.{holds};
-ghost use Rattle.pathspec_glob.specs.GlobPlaces.{AcceptsAfterByte, AcceptsNothing, HasRoom, HoldsNone, IsBounded, IsMovesOf, KeepsRoom, PutsTaken, TakesByte, is_held};
+ghost use Rattle.pathspec_glob.specs.BitVecs.{holds};
+ghost use Rattle.pathspec_glob.specs.GlobPlaces.{AcceptsAfterByte, AcceptsNothing, HasRoom, HoldsNone, IsBounded, IsMovesOf, KeepsRoom, PutsTaken, TakesByte, is_active};
 ghost use Rattle.pathspec_glob.specs.GlobSteps.{token_takes};
 
 use super::Places;
@@ -13,10 +13,10 @@ use crate::counted::{CountedTokens, Tests};
 use crate::scratch::Steps;
 
 impl Places {
-    /// Goes on by a byte, and says whether a token was tested. Where none was, no place is held.
+    /// Goes on by a byte, and says whether a token was tested. Where none was, no place is active.
     ///
-    /// It tests each token at most once. It looks at no word before the first in which a place is held, nor behind the last in
-    /// which one was ever held in this match.
+    /// It tests each token at most once. It looks at no word before the first in which a place is active, nor behind the last in
+    /// which one was ever active in this match.
     pub(super) fn advance(
         &mut self,
         tokens: &CountedTokens,
@@ -43,7 +43,7 @@ impl Places {
         steps.add(tests)
     }
 
-    /// Takes a byte at each place that is held, and gives the tests of that.
+    /// Takes a byte at each place that is active, and gives the tests of that.
     fn take(&mut self, tokens: &CountedTokens, moves: &EmptyMoves, byte: u8, case: Case) -> Tests
         requires moves { IsMovesOf tokens.now moves.now }
         requires room { HasRoom (length tokens.now.tokens) self.old }
@@ -59,26 +59,27 @@ impl Places {
         let mut index = self.first;
         let mut carry = 0;
         while index < self.end {
-            let held = self.held(index);
-            let taken = taken(tokens, index * 64, held, byte, case, &mut tests);
+            let active = self.active_places(index);
+            let taken = taken(tokens, index * 64, active, byte, case, &mut tests);
             carry = self.put_taken(index, taken, moves.wide.word(index), carry);
             index += 1;
         }
         if carry != 0 {
-            self.entered.put(index * 64, true);
+            self.entered.set(index * 64, true);
             self.end = index + 1;
         }
         tests
     }
 
-    /// The places of a word that are held.
-    fn held(&self, index: usize) -> u64
+    /// The places of a word that are active.
+    fn active_places(&self, index: usize) -> u64
         requires entered { index * 64 ≤ length self.now.entered }
         requires staying { index * 64 ≤ length self.now.staying }
-        ensures held { (i : ℕ) → i < 64 → index * 64 + i < length self.now.entered
+        ensures active { (i : ℕ) → i < 64 → index * 64 + i < length self.now.entered
             → index * 64 + i < length self.now.staying → has result i
             ≡ (holds self.now.entered (index * 64 + i) || holds self.now.staying (index * 64 + i)) }
-        ensures none { result ≡ 0 → (i : ℕ) → i < 64 → is_held self.now (index * 64 + i) ≡ false }
+        ensures none { result ≡ 0 → (i : ℕ) → i < 64
+            → is_active self.now (index * 64 + i) ≡ false }
     {
         self.entered.word(index) | self.staying.word(index)
     }
@@ -94,12 +95,12 @@ impl Places {
         ensures carry { result < 2 }
     {
         let moved = taken & !wide;
-        self.staying.put_word(index, taken & wide);
-        self.entered.put_word(index, (moved << 1) | carry);
+        self.staying.set_word(index, taken & wide);
+        self.entered.set_word(index, (moved << 1) | carry);
         moved >> 63
     }
 
-    /// Skips the first words, as far as no place of them is held.
+    /// Skips the first words, as far as no place of them is active.
     fn skip_words(&mut self, tokens: usize)
         requires room { HasRoom tokens self.old }
         requires bounds { IsBounded tokens self.old }
@@ -107,7 +108,7 @@ impl Places {
         ensures entered { self.new.entered ≡ self.old.entered }
         ensures staying { self.new.staying ≡ self.old.staying }
     {
-        while self.first < self.end && self.held(self.first) == 0 {
+        while self.first < self.end && self.active_places(self.first) == 0 {
             self.first += 1;
         }
     }
@@ -117,7 +118,7 @@ impl Places {
 fn taken(
     tokens: &CountedTokens,
     from: usize,
-    held: u64,
+    active: u64,
     byte: u8,
     case: Case,
     tests: &mut Tests,
@@ -127,16 +128,16 @@ fn taken(
     requires tests { tests.old.count ≤ from }
     requires alone { tests.old.tokens ≡ 1 }
     ensures taken { (i : ℕ) → i < 64
-        → has result i ≡ (has held i && token_takes tokens.now case (from + i) byte) }
+        → has result i ≡ (has active i && token_takes tokens.now case (from + i) byte) }
     ensures none { tests.new.count ≡ tests.old.count → (i : ℕ) → i < 64
-        → from + i < length tokens.now.tokens → has held i ≡ false }
+        → from + i < length tokens.now.tokens → has active i ≡ false }
     ensures rises { tests.old.count ≤ tests.new.count }
     ensures most { tests.new.count ≤ from + 64 }
     ensures within { tests.new.count ≤ length tokens.now.tokens }
     ensures alone { tests.new.tokens ≡ 1 }
 {
     let mut taken = 0;
-    let mut open = held;
+    let mut open = active;
     while open != 0 {
         let bit = open.trailing_zeros() as usize;
         if from + bit >= tokens.len() {

@@ -24,8 +24,8 @@ pub struct Word {
     /// The same without case.
     folded: Table,
     /// The places that may stay at a byte, and at a slash.
-    loops: u64,
-    deeps: u64,
+    stays: u64,
+    stays_at_slash: u64,
     /// The places that may be passed over.
     overs: u64,
     /// The last place.
@@ -54,16 +54,16 @@ impl Word {
         if last == 0 || last > 63 || !states::are_apart(overs) {
             return Ok(None);
         }
-        let loops = states::kept(tokens, 0);
-        let deeps = states::kept(tokens, b'/');
+        let stays = states::kept(tokens, 0);
+        let stays_at_slash = states::kept(tokens, b'/');
         Ok(Some(Word {
             exact: table_of(alloc, tokens, Case::Sensitive)?,
             folded: table_of(alloc, tokens, Case::Fold)?,
-            loops,
-            deeps,
+            stays,
+            stays_at_slash,
             overs,
             last,
-            course: Course::of_word(loops, deeps, overs, last),
+            course: Course::of_word(stays, stays_at_slash, overs, last),
         }))
     }
 
@@ -83,8 +83,8 @@ impl Word {
         step::run(
             table,
             self.course,
-            self.loops,
-            self.deeps,
+            self.stays,
+            self.stays_at_slash,
             self.overs,
             self.last,
             text,

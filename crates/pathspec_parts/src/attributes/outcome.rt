@@ -61,7 +61,7 @@ impl Outcome {
         self.places.is_empty()
     }
 
-    /// The name at a place.
+    /// The attribute's name at a place.
     pub fn name(&self, place: usize) -> BStr<'_>
         requires { place < length self.now }
         ensures { Some (bstr_bytes result) ≡ slice_get (names_of self.now) place }

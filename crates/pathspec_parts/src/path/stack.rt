@@ -72,11 +72,11 @@ impl<'a> Stack<'a> {
         self.names.is_empty()
     }
 
-    /// The component at a place, the lowest at 0.
-    pub fn get(&self, place: usize) -> Option<BStr<'a>>
-        ensures { option_map bstr_bytes result ≡ slice_get self.now.names place }
+    /// The component with an index, the lowest at 0.
+    pub fn get(&self, index: usize) -> Option<BStr<'a>>
+        ensures { option_map bstr_bytes result ≡ slice_get self.now.names index }
     {
-        self.names.get(place).copied()
+        self.names.get(index).copied()
     }
 
     /// From now on the least height counts anew, this moment included.

@@ -9,12 +9,13 @@ ghost use Rattle.pathspec_parts.specs.Cursors.{next_seen, IsNew, new_cursor, nex
 use super::Tree;
 use bstr::BStr;
 use std::alloc::{AllocError, Global};
+use std::fmt;
 use std::marker::Model;
 
 /// A walk over the entries of a tree, which its caller steers: it goes into those directories that are entered.
 ///
 /// It is the only way to the entries, so what it never gave was never looked at: its trail, [`Cursor::entered`], tells
-/// which directories were entered. It can't be copied.
+/// which directories were entered. It can't be copied. What is printed of it is where it stands and its trail.
 #[derive(Drop)]
 pub struct Cursor<'a> {
     tree: &'a Tree,
@@ -25,6 +26,17 @@ pub struct Cursor<'a> {
     path: Vec<u8>,
     entered: Vec<usize>,
     is_new: bool,
+}
+
+impl fmt::Debug for Cursor<'_> {
+    fn fmt<W: fmt::Write>(&self, f: &mut fmt::Formatter<W>) -> fmt::Result {
+        f.debug_struct("Cursor")
+            .field("at", &self.at)
+            .field("path", &BStr::new(&self.path))
+            .field("entered", &self.entered)
+            .field("is_new", &self.is_new)
+            .finish()
+    }
 }
 
 impl<'a> Model for Cursor<'a> {
@@ -75,18 +87,18 @@ impl<'a> Cursor<'a> {
         ensures nested { IsNested self.old.entries }
         ensures bytes { HasBytePaths self.old.entries }
     {
-        let place = self.next;
+        let number = self.next;
         let tree = self.tree;
         self.is_new = false;
-        if place >= tree.len() {
+        if number >= tree.len() {
             self.at = None;
             self.path.clear();
             return None;
         }
-        tree.write_path(place, &mut self.path);
-        self.at = Some(place);
-        self.next = tree.end_of(place);
-        Some(place)
+        tree.write_path(number, &mut self.path);
+        self.at = Some(number);
+        self.next = tree.end_of(number);
+        Some(number)
     }
 
     /// The path of the entry, its names joined by slashes; empty where no entry stands.
@@ -101,7 +113,7 @@ impl<'a> Cursor<'a> {
         ensures { result ≡ is_dir_at self.now }
     {
         match self.at {
-            Some(place) => self.tree.is_dir(place),
+            Some(number) => self.tree.is_dir(number),
             None => false,
         }
     }
@@ -112,14 +124,14 @@ impl<'a> Cursor<'a> {
         ensures entered { self.new ≡ after_enter self.old }
         ensures is_dir { result ≡ is_dir_at self.old }
     {
-        let Some(place) = self.at else {
+        let Some(number) = self.at else {
             return false;
         };
-        if !self.tree.is_dir(place) {
+        if !self.tree.is_dir(number) {
             return false;
         }
-        push_once(&mut self.entered, place);
-        self.next = place + 1;
+        push_once(&mut self.entered, number);
+        self.next = number + 1;
         true
     }
 

@@ -3,7 +3,7 @@ ghost use Rattle.std.specs.Prelude.{◌≡◌, IfNone, IfSome, MatchOption, ◌=
 ghost use Rattle.pathspec_parts.specs.Bytes.{comma, backslash};
 ghost use Rattle.pathspec_pattern.specs.Reading.{IsOnlyPiece, IsFirstPiece, IsFirstCut};
 
-/// The place of the first comma that an even number of backslashes precedes directly: it cuts.
+/// The position of the first comma that an even number of backslashes precedes directly: it cuts.
 fn place_of_cut(long: &[u8]) -> Option<usize>
     ensures { MatchOption result (IsOnlyPiece long.now long.now) (IsFirstCut long.now) }
 {

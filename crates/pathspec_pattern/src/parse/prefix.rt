@@ -60,7 +60,7 @@ fn digits_of(piece: &[u8]) -> &[u8]
     &piece[start..]
 }
 
-/// Whether the length is 0, that of the path, or the place of a slash.
+/// Whether the length is 0, that of the path, or the position of a slash.
 fn is_boundary(path: &[u8], length: usize) -> bool
     ensures { result ≡ is_boundary path.now length }
 {

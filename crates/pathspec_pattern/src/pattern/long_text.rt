@@ -7,7 +7,7 @@ ghost use Rattle.pathspec_parts.specs.AttributeStates.{assignment_view};
 ghost use Rattle.pathspec_pattern.specs.Errors.{IsMemory};
 ghost use Rattle.pathspec_pattern.specs.Signatures.{signature_bits};
 ghost use Rattle.pathspec_pattern.specs.Reading.{Reads, no_defaults};
-ghost use Rattle.pathspec_pattern.specs.LongText.{long_text, opening, bit_text, mode_text, prefix_text, number_text, attributes_text, list_text, assignment_text, with_escapes, printed_text, AddsWords, AddsBytes};
+ghost use Rattle.pathspec_pattern.specs.LongText.{long_text, opening, bit_text, mode_text, prefix_text, number_text, attributes_text, list_text, assignment_text, with_escapes, printed_text, AddsPieces, AddsBytes};
 ghost use Rattle.pathspec_pattern.specs.NormalForm.{NormalFormKeepsMagic};
 ghost use Rattle.pathspec_pattern.specs.RoundTrips.{IsExpressiblePattern, RoundTripIsExact, LongTextIsInjective, ParsedIsExpressible, ParsedRoundTrips, NormalFormIsExpressible, NormalFormRoundTrips};
 
@@ -85,33 +85,33 @@ impl Pattern {
         &self,
         text: &mut Vec<u8>,
         flag: MagicSignature,
-        word: &[u8],
+        piece: &[u8],
     ) -> Result<(), AllocError>
-        requires { IsFalse (is_empty word.now) }
-        ensures { AddsWords text.old.items text.new.items
-            (bit_text (signature_bits flag) (pattern_spec self.now).signature word.now) result }
+        requires { IsFalse (is_empty piece.now) }
+        ensures { AddsPieces text.old.items text.new.items
+            (bit_text (signature_bits flag) (pattern_spec self.now).signature piece.now) result }
     {
         if !self.signature.contains(flag) {
             return Ok(());
         }
-        write_word(text, word)
+        write_piece(text, piece)
     }
 }
 
 /// Writes the keyword of a mode, if it has one.
 fn write_mode(text: &mut Vec<u8>, mode: SearchMode) -> Result<(), AllocError>
-    ensures { AddsWords text.old.items text.new.items (mode_text mode) result }
+    ensures { AddsPieces text.old.items text.new.items (mode_text mode) result }
 {
     match mode {
         SearchMode::ShellGlob => Ok(()),
-        SearchMode::Literal => write_word(text, b"literal"),
-        SearchMode::PathAwareGlob => write_word(text, b"glob"),
+        SearchMode::Literal => write_piece(text, b"literal"),
+        SearchMode::PathAwareGlob => write_piece(text, b"glob"),
     }
 }
 
 /// Writes `prefix:` and a length, unless it is 0.
 fn write_prefix(text: &mut Vec<u8>, length: usize) -> Result<(), AllocError>
-    ensures { AddsWords text.old.items text.new.items (prefix_text length) result }
+    ensures { AddsPieces text.old.items text.new.items (prefix_text length) result }
 {
     if length == 0 {
         return Ok(());
@@ -133,13 +133,13 @@ fn write_number(text: &mut Vec<u8>, number: usize) -> Result<(), AllocError>
     Ok(())
 }
 
-/// Writes a keyword after those before it.
-fn write_word(text: &mut Vec<u8>, word: &[u8]) -> Result<(), AllocError>
-    requires { IsFalse (is_empty word.now) }
-    ensures { AddsWords text.old.items text.new.items (word.now ∷ []) result }
+/// Writes a piece of long magic after those before it.
+fn write_piece(text: &mut Vec<u8>, piece: &[u8]) -> Result<(), AllocError>
+    requires { IsFalse (is_empty piece.now) }
+    ensures { AddsPieces text.old.items text.new.items (piece.now ∷ []) result }
 {
     write_comma(text)?;
-    text.extend_from_slice(word)?;
+    text.extend_from_slice(piece)?;
     Ok(())
 }
 
@@ -156,7 +156,7 @@ fn write_comma(text: &mut Vec<u8>) -> Result<(), AllocError>
 
 /// Writes `attr:` and the assignments, with a space between each two, if there are any.
 fn write_attributes(text: &mut Vec<u8>, assignments: &[Assignment]) -> Result<(), AllocError>
-    ensures { AddsWords text.old.items text.new.items
+    ensures { AddsPieces text.old.items text.new.items
         (attributes_text (map assignment_view assignments.now)) result }
 {
     if assignments.is_empty() {
@@ -172,19 +172,19 @@ fn write_assignments(text: &mut Vec<u8>, assignments: &[Assignment]) -> Result<(
     ensures { AddsBytes text.old.items text.new.items
         (list_text (map assignment_view assignments.now)) result }
 {
-    for (place, assignment) in assignments.iter().enumerate() {
-        write_space(text, place)?;
+    for (index, assignment) in assignments.iter().enumerate() {
+        write_space(text, index)?;
         write_assignment(text, assignment)?;
     }
     Ok(())
 }
 
 /// Writes a space, unless it would stand in front of the first.
-fn write_space(text: &mut Vec<u8>, place: usize) -> Result<(), AllocError>
+fn write_space(text: &mut Vec<u8>, index: usize) -> Result<(), AllocError>
     ensures { AddsBytes text.old.items text.new.items
-        (if place == 0 then [] else space ∷ []) result }
+        (if index == 0 then [] else space ∷ []) result }
 {
-    if place > 0 {
+    if index > 0 {
         text.push(b' ')?;
     }
     Ok(())

@@ -360,7 +360,7 @@ fn push_component<'p>(stack: &mut Stack<'p>, component: BStr<'p>) -> Result<bool
     Ok(true)
 }
 
-/// Writes the names on a stack from one place to another after those before them, with a slash between each two.
+/// Writes the names on a stack from one index to another after those before them, with a slash between each two.
 fn write_names(
     path: &mut Vec<u8>,
     stack: &Stack<'_>,
@@ -372,20 +372,20 @@ fn write_names(
     requires before { path.old.items ≡ join_names (take first stack.now.names) }
     ensures { OnOk result (path.new.items ≡ join_names (take end stack.now.names)) }
 {
-    for place in first..end {
-        if let Some(name) = stack.get(place) {
-            write_name(path, place, name)?;
+    for index in first..end {
+        if let Some(name) = stack.get(index) {
+            write_name(path, index, name)?;
         }
     }
     Ok(())
 }
 
-/// Writes the name that has this place, with a slash in front where it isn't the first.
-fn write_name(path: &mut Vec<u8>, place: usize, name: BStr<'_>) -> Result<(), AllocError>
+/// Writes the name that has this index, with a slash in front where it isn't the first.
+fn write_name(path: &mut Vec<u8>, index: usize, name: BStr<'_>) -> Result<(), AllocError>
     ensures { AddsBytes path.old.items path.new.items
-        (if place == 0 then bstr_bytes name.entry else slash ∷ bstr_bytes name.entry) result }
+        (if index == 0 then bstr_bytes name.entry else slash ∷ bstr_bytes name.entry) result }
 {
-    if place > 0 {
+    if index > 0 {
         path.push(b'/')?;
     }
     path.extend_from_slice(name.as_bytes())?;

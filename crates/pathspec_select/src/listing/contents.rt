@@ -26,7 +26,7 @@ pub enum ListingError {
 
 /// A listing that was read: its tree, and the record of each entry that has one.
 ///
-/// An entry takes a number for the place of its record, beside what its tree takes.
+/// An entry takes a number for where its record begins, beside what its tree takes.
 #[derive(Debug, Drop)]
 pub struct Listing<'a> {
     bytes: &'a [u8],

@@ -15,7 +15,7 @@ use pathspec_parts::tree::{Tree, TreeError};
 /// Where the record of an entry without a record begins.
 pub(super) const NO_RECORD: usize = usize::MAX;
 
-/// Adds the entries of a record that begins at a place of the listing, where a directory is open. It gives the path of
+/// Adds the entries of a record that begins at an offset of the listing, where a directory is open. It gives the path of
 /// the directory that is open then.
 ///
 /// # Errors

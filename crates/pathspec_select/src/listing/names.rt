@@ -17,8 +17,8 @@ pub(super) fn split_name(text: &[u8]) -> (&[u8], &[u8])
     ensures name { own_names text.now ≡ without_last_slash result.1.now ∷ [] }
     ensures kind { ends_with_slash result.1.now ≡ record_is_dir text.now }
 {
-    let within = &text[..text.len() - 1];
-    let length = match within.rfind_byte(b'/') {
+    let before_last = &text[..text.len() - 1];
+    let length = match before_last.rfind_byte(b'/') {
         Some(slash) => slash + 1,
         None => 0,
     };

@@ -76,7 +76,7 @@ pub fn overs(tokens: &Tokens) -> u64
     word
 }
 
-/// A word with each place one further, and the first held or not.
+/// A word with each place one further, and the first active or not.
 fn further(word: u64, first: bool) -> u64
     ensures { (i : ℕ) → i < 64 → has result i ≡ further first (has word) i }
 {

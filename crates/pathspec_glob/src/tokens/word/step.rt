@@ -11,10 +11,14 @@ use crate::counted::{Table, Tests};
 /// How a word goes over a text, which is told once, when the word is made.
 #[derive(Debug, Clone, Copy)]
 pub enum Course {
-    /// By its ends: the first place stays at every byte, and none between it and the last stays at any; the last does at a byte
-    /// other than a slash where the first of these says so, and at a slash where the second does. No place but the first may be
-    /// passed over.
-    Ends(bool, bool),
+    /// By its ends: the first place stays at every byte, and none between it and the last stays at any. No place but the first
+    /// may be passed over.
+    Ends {
+        /// Whether the last place stays at a byte other than a slash.
+        last_stays: bool,
+        /// Whether it stays at a slash.
+        last_stays_at_slash: bool,
+    },
     /// By all its places, of which the first stays at every byte, and no other may be passed over.
     Plain,
     /// By all its places.
@@ -38,34 +42,38 @@ struct Progress {
 
 impl Course {
     /// The course of a word.
-    pub fn of_word(loops: u64, deeps: u64, overs: u64, last: usize) -> Course
+    pub fn of_word(stays: u64, stays_at_slash: u64, overs: u64, last: usize) -> Course
         requires { last < 64 }
-        ensures { IsCourse loops deeps overs last result }
+        ensures { IsCourse stays stays_at_slash overs last result }
     {
-        if !is_plain(loops, deeps, overs) {
+        if !is_plain(stays, stays_at_slash, overs) {
             Course::Any
-        } else if none_between(loops | deeps, last) {
-            Course::Ends(holds(loops, last), holds(deeps, last))
+        } else if none_between(stays | stays_at_slash, last) {
+            Course::Ends {
+                last_stays: holds(stays, last),
+                last_stays_at_slash: holds(stays_at_slash, last),
+            }
         } else {
             Course::Plain
         }
     }
 }
 
-/// Runs through a text, up to a byte before which no place is held.
+/// Runs through a text, up to a byte before which no place is active.
 pub fn run(
     table: &Table,
     course: Course,
-    loops: u64,
-    deeps: u64,
+    stays: u64,
+    stays_at_slash: u64,
     overs: u64,
     last: usize,
     text: &[u8],
 ) -> Answer
     requires { last < 64 }
     ensures answer { (mode : Mode) (case : Case) (cells : List Cell) (end : Loop)
-        → IsCourse loops deeps overs last course
-        → Masked mode case cells end table.now.rows.items loops deeps overs → length cells ≡ last
+        → IsCourse stays stays_at_slash overs last course
+        → Masked mode case cells end table.now.rows.items stays stays_at_slash overs
+        → length cells ≡ last
         → result.accepted ≡ cells_match mode case cells end text.now }
     ensures tokens { result.tests.tokens ≡ table.now.tokens }
     ensures most { result.tests.count ≤ length text.now }
@@ -73,12 +81,17 @@ pub fn run(
 {
     let from = enter(1, overs);
     let Progress { places, tests } = match course {
-        Course::Ends(stays, stays_at_slash) => {
-            return accepts(from, table, stays, stays_at_slash, last, text);
+        Course::Ends {
+            last_stays,
+            last_stays_at_slash,
+        } => {
+            return accepts(from, table, last_stays, last_stays_at_slash, last, text);
         }
-        Course::Plain if loops == deeps => reach(from, table, loops, loops, 0, false, text),
-        Course::Plain => reach(from, table, loops, deeps, 0, false, text),
-        Course::Any => reach(from, table, loops, deeps, overs, true, text),
+        Course::Plain if stays == stays_at_slash => reach(
+            from, table, stays, stays, 0, false, text,
+        ),
+        Course::Plain => reach(from, table, stays, stays_at_slash, 0, false, text),
+        Course::Any => reach(from, table, stays, stays_at_slash, overs, true, text),
     };
     Answer {
         accepted: holds(places, last),
@@ -94,13 +107,13 @@ fn holds(word: u64, place: usize) -> bool
     (word >> place) & 1 == 1
 }
 
-/// Whether the first place stays at every byte, so that some place is always held, and no other may be passed over.
-fn is_plain(loops: u64, deeps: u64, overs: u64) -> bool
+/// Whether the first place stays at every byte, so that some place is always active, and no other may be passed over.
+fn is_plain(stays: u64, stays_at_slash: u64, overs: u64) -> bool
     ensures passed { IsTrue result → overs / 2 ≡ 0 }
-    ensures first { IsTrue result → has loops 0 ≡ true }
-    ensures first_at_slash { IsTrue result → has deeps 0 ≡ true }
+    ensures first { IsTrue result → has stays 0 ≡ true }
+    ensures first_at_slash { IsTrue result → has stays_at_slash 0 ≡ true }
 {
-    overs <= 1 && holds(loops & deeps, 0)
+    overs <= 1 && holds(stays & stays_at_slash, 0)
 }
 
 /// Whether a word holds no place between the first and the last.
@@ -116,41 +129,41 @@ fn none_between(word: u64, last: usize) -> bool
 fn accepts(
     places: u64,
     table: &Table,
-    stays: bool,
-    stays_at_slash: bool,
+    last_stays: bool,
+    last_stays_at_slash: bool,
     last: usize,
     text: &[u8],
 ) -> Answer
     requires { last < 64 }
-    ensures leads { LeadsToLast table.now.rows.items stays stays_at_slash last places text.now
-        result.accepted }
+    ensures leads { LeadsToLast table.now.rows.items last_stays last_stays_at_slash last places
+        text.now result.accepted }
     ensures tokens { result.tests.tokens ≡ table.now.tokens }
     ensures bytes { result.tests.count ≡ length text.now }
 {
-    if stays && stays_at_slash {
+    if last_stays && last_stays_at_slash {
         leads_to_last(places, table, true, true, last, text)
-    } else if stays {
+    } else if last_stays {
         leads_to_last(places, table, true, false, last, text)
     } else {
-        leads_to_last(places, table, false, stays_at_slash, last, text)
+        leads_to_last(places, table, false, last_stays_at_slash, last, text)
     }
 }
 
 // In line, so that each call has a loop of its own. A place is free where its bit is 1, so that the shift leaves the first
-// one held, and the chain of a byte is two instructions.
+// one active, and the chain of a byte is two instructions.
 /// What `accepts` says, byte by byte.
 #[inline(always)]
 fn leads_to_last(
     places: u64,
     table: &Table,
-    stays: bool,
-    stays_at_slash: bool,
+    last_stays: bool,
+    last_stays_at_slash: bool,
     last: usize,
     text: &[u8],
 ) -> Answer
     requires { last < 64 }
-    ensures leads { LeadsToLast table.now.rows.items stays stays_at_slash last places text.now
-        result.accepted }
+    ensures leads { LeadsToLast table.now.rows.items last_stays last_stays_at_slash last places
+        text.now result.accepted }
     ensures tokens { result.tests.tokens ≡ table.now.tokens }
     ensures bytes { result.tests.count ≡ length text.now }
 {
@@ -160,7 +173,7 @@ fn leads_to_last(
     for position in 0..text.len() {
         let byte = text[position];
         free = (free | table.refused(byte, &mut tests)) << 1;
-        end = if of_byte(byte, stays, stays_at_slash) {
+        end = if of_byte(byte, last_stays, last_stays_at_slash) {
             end & free
         } else {
             free
@@ -173,20 +186,21 @@ fn leads_to_last(
 }
 
 // In line, so that each call has a loop of its own, which tests only what that call leaves open.
-/// The places that a text leads to from others, or none, where it halts at a byte before which none is held. Whether the
+/// The places that a text leads to from others, or none, where it halts at a byte before which none is active. Whether the
 /// first place may be passed over makes no difference, since no byte leads to it.
 #[inline(always)]
 fn reach(
     from: u64,
     table: &Table,
-    loops: u64,
-    deeps: u64,
+    stays: u64,
+    stays_at_slash: u64,
     overs: u64,
     halts: bool,
     text: &[u8],
 ) -> Progress
     ensures leads { (mode : Mode) (case : Case) (cells : List Cell) (end : Loop) (all : ℕ)
-        → Masked mode case cells end table.now.rows.items loops deeps all → overs / 2 ≡ all / 2
+        → Masked mode case cells end table.now.rows.items stays stays_at_slash all
+        → overs / 2 ≡ all / 2
         → set_leads mode case cells end (has result.places) (drop result.tests.count text.now)
         ≡ set_leads mode case cells end (has from) text.now }
     ensures tokens { result.tests.tokens ≡ table.now.tokens }
@@ -203,7 +217,7 @@ fn reach(
         places = advance(
             places,
             !table.refused(byte, &mut tests),
-            of_byte(byte, loops, deeps),
+            of_byte(byte, stays, stays_at_slash),
             overs,
         );
     }

@@ -5,8 +5,8 @@ use Rattle.pathspec_heads.proofs.chains.front_of.Given as goal
 
 abbrev pub invariant-loop-link : goal.invariant-loop-link
 invariant-loop-link l =
-    (l.at ≤ l.place) × (begins_with (head_at l.heads l.place) (head_at l.heads l.at) ≡ true)
-    × ((k : ℕ) → l.at < k → k < l.place + 1 → begins_with (take l.agreed (head_at l.heads l.place)) (head_at l.heads k) ≡ false)
+    (l.at ≤ l.index) × (begins_with (head_at l.heads l.index) (head_at l.heads l.at) ≡ true)
+    × ((k : ℕ) → l.at < k → k < l.index + 1 → begins_with (take l.agreed (head_at l.heads l.index)) (head_at l.heads k) ≡ false)
 
 abbrev pub decreases-loop-link : goal.decreases-loop-link
 decreases-loop-link l = l.at

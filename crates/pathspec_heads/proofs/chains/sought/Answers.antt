@@ -4,7 +4,7 @@ use Rattle.pathspec_heads.proofs.SearchProofs.{halved, half_left, counts-more}
 use Rattle.pathspec_heads.proofs.chains.sought.Goals as goal
 
 pub overflow_add-compared : goal.overflow_add-compared
-overflow_add-compared c = let few = c.loop-between.invariant.cost 64 c.by_hint-begun.ensures.count in omega (arith, few.2)
+overflow_add-compared c = let few = c.loop-between.invariant.cost 64 c.by_hint-progress.ensures.count in omega (arith, few.2)
 
 pub loop-between-preserved : goal.loop-between-preserved
 loop-between-preserved c =

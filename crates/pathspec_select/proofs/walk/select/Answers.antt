@@ -45,8 +45,8 @@ finish table specs none spec_bytes es c d given e nested bytes h next m =
 nearer_as : (specs : List Spec) (c d : CursorContents) (n : ℕ) → c.entries ≡ d.entries → Some n ≡ next_seen c.entered (next_number c) c.entries → d ≡ after_visit specs (cursor_at c (Some n)) → length d.entries - next_number d < length c.entries - next_number c
 nearer_as specs c d n e next v = subst (λ (es : List Entry). length es - next_number d < length c.entries - next_number c) e (nearer specs c d n next v)
 
-pub loop-place-init : goal.loop-place-init
-loop-place-init g c = record {
+pub loop-number-init : goal.loop-number-init
+loop-number-init g c = record {
   course = start_as (g.L.LookUp.table c.args.look_up.now) (specs_of c.args.search.now.specs) c.args.cursor.now c.requires c.new-given.result.items c.new-given.ensures.items;
   tree = refl;
   search = refl;
@@ -58,30 +58,30 @@ loop-place-init g c = record {
 pub visit-requires : goal.visit-requires
 visit-requires g c =
     let e = c.in-Some.ensures in
-    λ q. path_some c.loop-place.cursor c.in-Some.place e.nested e.next (ap path_at (sym e.place) ∙ q)
+    λ q. path_some c.loop-number.cursor c.in-Some.number e.nested e.next (ap path_at (sym e.place) ∙ q)
 
-pub loop-place-smaller : goal.loop-place-smaller
-loop-place-smaller g c =
+pub loop-number-smaller : goal.loop-number-smaller
+loop-number-smaller g c =
     let e = c.in-Some.ensures in
     let v = c.in_ok-visit.ensures in
-    let specs = specs_of c.loop-place.search.specs in
-    nearer_as specs c.loop-place.cursor c.visit.new.cursor c.in-Some.place (sym (v.tree ∙ ap (λ (x : CursorContents). x.entries) e.place)) e.next (v.entered ∙ ap (after_visit specs) e.place)
+    let specs = specs_of c.loop-number.search.specs in
+    nearer_as specs c.loop-number.cursor c.visit.new.cursor c.in-Some.number (sym (v.tree ∙ ap (λ (x : CursorContents). x.entries) e.place)) e.next (v.entered ∙ ap (after_visit specs) e.place)
 
-pub loop-place-preserved : goal.loop-place-preserved
-loop-place-preserved g c =
-    let at = c.loop-place.cursor in
-    let i = c.loop-place.invariant in
+pub loop-number-preserved : goal.loop-number-preserved
+loop-number-preserved g c =
+    let at = c.loop-number.cursor in
+    let i = c.loop-number.invariant in
     let e = c.in-Some.ensures in
     let v = c.in_ok-visit.ensures in
     let table = g.L.LookUp.table c.args.look_up.now in
-    let before = g.L.LookUp.table c.loop-place.look_up in
+    let before = g.L.LookUp.table c.loop-number.look_up in
     let specs = specs_of c.args.search.now.specs in
-    let now = specs_of c.loop-place.search.specs in
+    let now = specs_of c.loop-number.search.specs in
     let same = ap specs_of i.search in
     record {
-      course = step table specs c.nil_specs_lack_a_prefix.ensures c.args.cursor.now.entries at c.visit.new.cursor c.loop-place.given.items c.visit.new.given.items i.tree e.nested i.course c.in-Some.place e.next
-          (given_is table before specs now at c.next.new.self c.in-Some.place c.loop-place.given.items c.visit.new.given.items e.place i.table same v.given)
-          (visit_is specs now at c.next.new.self c.visit.new.cursor c.in-Some.place e.place same v.entered);
+      course = step table specs c.nil_specs_lack_a_prefix.ensures c.args.cursor.now.entries at c.visit.new.cursor c.loop-number.given.items c.visit.new.given.items i.tree e.nested i.course c.in-Some.number e.next
+          (given_is table before specs now at c.next.new.self c.in-Some.number c.loop-number.given.items c.visit.new.given.items e.place i.table same v.given)
+          (visit_is specs now at c.next.new.self c.visit.new.cursor c.in-Some.number e.place same v.entered);
       tree = v.tree ∙ (ap (λ (x : CursorContents). x.entries) e.place ∙ i.tree);
       search = v.search.specs ∙ i.search;
       source = v.search.source ∙ i.source;
@@ -91,15 +91,15 @@ loop-place-preserved g c =
 
 pub returns-clause-walk : goal.returns-clause-walk
 returns-clause-walk g c =
-    let i = c.loop-place.invariant in
+    let i = c.loop-number.invariant in
     let e = c.in_default.ensures in
-    (finish (g.L.LookUp.table c.args.look_up.now) (specs_of c.args.search.now.specs) c.nil_specs_lack_a_prefix.ensures c.spec_paths_are_bytes.ensures c.args.cursor.now.entries c.loop-place.cursor c.next.new.self c.loop-place.given.items i.tree e.nested e.bytes i.course e.next e.place).0
+    (finish (g.L.LookUp.table c.args.look_up.now) (specs_of c.args.search.now.specs) c.nil_specs_lack_a_prefix.ensures c.spec_paths_are_bytes.ensures c.args.cursor.now.entries c.loop-number.cursor c.next.new.self c.loop-number.given.items i.tree e.nested e.bytes i.course e.next e.place).0
 
 pub returns-clause-entered : goal.returns-clause-entered
 returns-clause-entered g c =
-    let i = c.loop-place.invariant in
+    let i = c.loop-number.invariant in
     let e = c.in_default.ensures in
-    (finish (g.L.LookUp.table c.args.look_up.now) (specs_of c.args.search.now.specs) c.nil_specs_lack_a_prefix.ensures c.spec_paths_are_bytes.ensures c.args.cursor.now.entries c.loop-place.cursor c.next.new.self c.loop-place.given.items i.tree e.nested e.bytes i.course e.next e.place).1
+    (finish (g.L.LookUp.table c.args.look_up.now) (specs_of c.args.search.now.specs) c.nil_specs_lack_a_prefix.ensures c.spec_paths_are_bytes.ensures c.args.cursor.now.entries c.loop-number.cursor c.next.new.self c.loop-number.given.items i.tree e.nested e.bytes i.course e.next e.place).1
 
 -- ---- the laws
 

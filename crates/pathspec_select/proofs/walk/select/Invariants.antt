@@ -4,8 +4,8 @@ use Rattle.gix_pathspec.specs.Search.{specs_of}
 use Rattle.pathspec_select.specs.Walks.{HasChosen}
 use Rattle.pathspec_select.proofs.walk.select.Given as goal
 
-abbrev pub invariant-loop-place : goal.invariant-loop-place
-invariant-loop-place g l = record {
+abbrev pub invariant-loop-number : goal.invariant-loop-number
+invariant-loop-number g l = record {
   course : HasChosen (g.L.LookUp.table l.fn.look_up) (specs_of l.fn.search.specs) l.fn.cursor.entries (next_number l.cursor) l.given.items l.cursor.entered;
   tree : l.cursor.entries ≡ l.fn.cursor.entries;
   search : l.search.specs ≡ l.fn.search.specs;
@@ -14,5 +14,5 @@ invariant-loop-place g l = record {
   count : g.L.LookUp.failures l.look_up ≡ g.L.LookUp.failures l.fn.look_up;
 }
 
-abbrev pub decreases-loop-place : goal.decreases-loop-place
-decreases-loop-place g l = length l.cursor.entries - next_number l.cursor
+abbrev pub decreases-loop-number : goal.decreases-loop-number
+decreases-loop-number g l = length l.cursor.entries - next_number l.cursor

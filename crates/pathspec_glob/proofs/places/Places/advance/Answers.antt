@@ -1,6 +1,6 @@
 use Rattle.std.proofs.Common.{◌≡◌, ◌*◌, suc, ◌∷◌, sym, ◌∙◌, arith}
 use Rattle.std.proofs.lemmas.Bool.{ltb-false}
-use Rattle.pathspec_glob.specs.GlobRows.{holds}
+use Rattle.pathspec_glob.specs.BitVecs.{holds}
 use Rattle.pathspec_glob.proofs.AcceptProofs.{closure-accepts, step-accepts, none-accepts}
 use Rattle.pathspec_glob.proofs.StepProofs.{arrives-none, stays-none}
 use Rattle.pathspec_glob.proofs.places.Places.advance.Goals as goal

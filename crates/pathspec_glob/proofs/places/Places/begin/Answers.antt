@@ -1,6 +1,6 @@
 use Rattle.std.proofs.Common.{◌≡◌, ℕ, ◌<◌, Bool, true, false, List, take, replicate, sym, ◌∙◌, ap, length, arith, get_or}
 use Rattle.std.proofs.lemmas.List.{get_or-take, get_or-replicate, get_or-set_same, get_or-set_other}
-use Rattle.pathspec_glob.specs.GlobRows.{holds}
+use Rattle.pathspec_glob.specs.BitVecs.{holds}
 use Rattle.pathspec_glob.proofs.AcceptProofs.{begin-accepts}
 use Rattle.pathspec_glob.proofs.places.Places.begin.Goals as goal
 
@@ -13,7 +13,7 @@ returns-clause-accepts c case text =
     let tokens = c.args.tokens.now.tokens in
     let row = c.leave.new.self in
     let long : 0 < length row = omega (arith, c.requires.entered, c.leave.ensures.len) in
-    begin-accepts c.args.tokens.now.mode case tokens (holds c.put.new.self) (holds c.leave-2.new.self) text
-    (rw c.put.ensures (get_or-set_same row 0 true false long))
-    (λ i some h. rw c.put.ensures (get_or-set_other row 0 i true false (λ e. omega arith) ∙ left _ i row c.leave.ensures.left (omega (arith, c.len.ensures))))
+    begin-accepts c.args.tokens.now.mode case tokens (holds c.set.new.self) (holds c.leave-2.new.self) text
+    (rw c.set.ensures (get_or-set_same row 0 true false long))
+    (λ i some h. rw c.set.ensures (get_or-set_other row 0 i true false (λ e. omega arith) ∙ left _ i row c.leave.ensures.left (omega (arith, c.len.ensures))))
     (λ i h. left _ i c.leave-2.new.self c.leave-2.ensures.left (omega (arith, c.len-2.ensures)))

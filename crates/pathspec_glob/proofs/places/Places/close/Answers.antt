@@ -1,7 +1,7 @@
 use Rattle.std.proofs.Common.{◌≡◌, ◌≤◌, ◌<◌, ◌*◌, ℕ, suc, true, length, sym, ◌∙◌, add-one, arith, inl, inr, refl}
 use Rattle.std.specs.Prelude.{◌⊎◌}
 use Rattle.std.proofs.lemmas.Bool.{cases_lt, or_left}
-use Rattle.pathspec_glob.specs.GlobRows.{holds}
+use Rattle.pathspec_glob.specs.BitVecs.{holds}
 use Rattle.pathspec_glob.specs.GlobPlaces.{with_carry}
 use Rattle.pathspec_glob.proofs.AcceptProofs.{over-next}
 use Rattle.pathspec_glob.proofs.ClosureProofs.{carry-none, carry-before, unheld}

@@ -1,6 +1,6 @@
 use Rattle.std.proofs.Common.{◌≡◌, ◌≤◌, ◌<◌, ◌+◌, ◌-◌, ◌*◌, ℕ, false, length}
 use Rattle.pathspec_glob.specs.GlobSteps.{TokenList}
-use Rattle.pathspec_glob.specs.GlobRows.{holds}
+use Rattle.pathspec_glob.specs.BitVecs.{holds}
 use Rattle.pathspec_glob.specs.GlobPlaces.{with_carry, Includes, IsClosedBefore, IsLeast, IsMovesOf}
 use Rattle.pathspec_glob.proofs.places.Places.close.Given as goal
 

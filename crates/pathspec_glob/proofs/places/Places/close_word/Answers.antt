@@ -6,13 +6,13 @@ use Rattle.pathspec_glob.proofs.places.Places.close_word.Goals as goal
 pub returns-clause-closes : goal.returns-clause-closes
 returns-clause-closes c parts moves =
     let old = c.args.self.now in
-    let new : Places = record { entered = c.put_word.new.self; staying = old.staying; first = old.first; end = old.end } in
+    let new : Places = record { entered = c.set_word.new.self; staying = old.staying; first = old.first; end = old.end } in
     let rows = c.args.moves.now in
     let closure = c.closure-places.ensures in
-    let put = c.put_word.ensures in
+    let put = c.set_word.ensures in
     closes-word parts c.args.index c.args.carry (bit_or c.word.result c.args.carry) c.word-staying.result c.word-wide.result c.word-overs.result c.closure-places.result old new
     (word-closes parts c.args.index c.args.carry c.word.result c.word-staying.result c.word-wide.result c.word-overs.result c.closure-places.result
-    old.entered c.put_word.new.self old.staying rows.wide rows.overs
+    old.entered c.set_word.new.self old.staying rows.wide rows.overs
     (omega (arith, moves.len, c.requires.room.entered)) (omega (arith, moves.len, c.requires.room.staying)) moves.len rows.one_size
     c.ranges.carry.fits c.word-wide.type_inv c.word-overs.type_inv
     moves.wide moves.overs

@@ -1,5 +1,5 @@
 use Rattle.std.proofs.Common.{◌≡◌, ◌+◌, ◌-◌, ◌*◌, ◌∙◌, refl, sym, ap, arith, bit_and, suc}
-use Rattle.pathspec_glob.specs.GlobRows.{holds}
+use Rattle.pathspec_glob.specs.BitVecs.{holds}
 use Rattle.pathspec_glob.proofs.BitProofs.{has-and, has-shr}
 use Rattle.pathspec_glob.proofs.StepProofs.{has-but, carried-first, carried-further}
 use Rattle.pathspec_glob.proofs.places.Places.put_taken.Goals as goal
@@ -8,11 +8,11 @@ pub returns-clause-puts : goal.returns-clause-puts
 returns-clause-puts c =
     let place = c.args.index * 64 in
     let moved = bit_and c.args.taken (18446744073709551615 - c.args.wide) in
-    let staying = c.put_word.ensures in
-    let entered = c.put_word-2.ensures in
+    let staying = c.set_word.ensures in
+    let entered = c.set_word-2.ensures in
     let same : place + 0 ≡ place = omega arith in
     record {
-      first = λ within. sym (ap (holds c.put_word-2.new.self) same) ∙ entered.there 0 (omega arith) (omega (arith, within)) ∙ carried-first moved c.args.carry;
+      first = λ within. sym (ap (holds c.set_word-2.new.self) same) ∙ entered.there 0 (omega arith) (omega (arith, within)) ∙ carried-first moved c.args.carry;
       entered = λ i h within. entered.there (suc i) h within ∙ carried-further moved c.args.carry i c.requires.carry h
           ∙ has-but c.args.taken c.args.wide i (omega (arith, c.ranges.wide.fits)) (omega (arith, h));
       staying = λ i h within. staying.there i h within ∙ has-and c.args.taken c.args.wide i;

@@ -1,5 +1,5 @@
 use Rattle.std.proofs.Common.{[], sym, ◌∙◌}
-use Rattle.pathspec_glob.specs.GlobRows.{holds}
+use Rattle.pathspec_glob.specs.BitVecs.{holds}
 use Rattle.pathspec_glob.proofs.AcceptProofs.{closure-accepts, end-accepts}
 use Rattle.pathspec_glob.proofs.places.Places.reach_end.Goals as goal
 

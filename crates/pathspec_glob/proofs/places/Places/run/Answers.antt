@@ -4,7 +4,7 @@ use Rattle.std.proofs.Math.ListN.{drop_of_length-le}
 use Rattle.std.proofs.Math.Nat.{mul-le-mul_left, mul-suc}
 use Rattle.pathspec_glob.specs.GlobRelation.{matches}
 use Rattle.pathspec_glob.specs.GlobPlaces.{accepts}
-use Rattle.pathspec_glob.specs.GlobRows.{holds}
+use Rattle.pathspec_glob.specs.BitVecs.{holds}
 use Rattle.pathspec_glob.proofs.places.Places.run.Goals.{Then-not-advance}
 use Rattle.pathspec_glob.proofs.places.Places.run.Goals as goal
 
@@ -45,7 +45,7 @@ loop-position-preserved c =
       room = record { entered = advance.room.entered ∙ invariant.room.entered; staying = advance.room.staying ∙ invariant.room.staying };
     }
 
--- where no place is held, the text does not match
+-- where no place is active, the text does not match
 no-match : (c : Then-not-advance) → false ≡ matches c.args.tokens.now.mode c.args.case c.args.tokens.now.tokens c.args.text.now
 no-match c =
     let position = c.loop-position.position in

@@ -2,7 +2,7 @@ use Rattle.std.proofs.Common.{◌≡◌, ◌+◌, ◌*◌, ◌≤◌, length, dr
 use Rattle.pathspec_glob.specs.GlobRelation.{matches}
 use Rattle.pathspec_glob.specs.Counts.{KeepsCount}
 use Rattle.pathspec_glob.specs.GlobPlaces.{accepts, HoldsWithin, KeepsRoom}
-use Rattle.pathspec_glob.specs.GlobRows.{holds}
+use Rattle.pathspec_glob.specs.BitVecs.{holds}
 use Rattle.pathspec_glob.proofs.places.Places.run.Given as goal
 
 abbrev pub invariant-loop-position : goal.invariant-loop-position

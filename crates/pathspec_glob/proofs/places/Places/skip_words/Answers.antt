@@ -1,6 +1,6 @@
 use Rattle.std.proofs.Common.{◌≡◌, ◌+◌, ◌-◌, ◌*◌, ◌<◌, ℕ, false, arith, sym, ap, ◌∙◌, inl, inr}
 use Rattle.std.proofs.lemmas.Bool.{cases_lt, or_parts}
-use Rattle.pathspec_glob.specs.GlobRows.{holds}
+use Rattle.pathspec_glob.specs.BitVecs.{holds}
 use Rattle.pathspec_glob.proofs.places.Places.skip_words.Goals as goal
 
 pub loop-self-preserved : goal.loop-self-preserved
@@ -14,7 +14,7 @@ loop-self-preserved c =
       | inr g ↦
           let there : first * 64 + (i - first * 64) ≡ i = omega (arith, g) in
           let off = or_parts (holds entered (first * 64 + (i - first * 64))) (holds staying (first * 64 + (i - first * 64)))
-          (c.held.ensures.none c.if-held-eq0.true (i - first * 64) (omega (arith, g, h))) in
+          (c.active_places.ensures.none c.if-active_places-eq0.true (i - first * 64) (omega (arith, g, h))) in
           (sym (ap (holds entered) there) ∙ off.0, sym (ap (holds staying) there) ∙ off.1)
     ] in
     record {

@@ -2,9 +2,9 @@ use Rattle.std.proofs.Common.{◌≡◌, ◌≤◌, ◌<◌, ◌+◌, ◌-◌, �
 use Rattle.std.proofs.lemmas.Bool.{and_left, and_right, cases_eq, cases_lt, or_from}
 use Rattle.std.proofs.lemmas.List.{get_or-set_same, get_or-set_other}
 use Rattle.pathspec_glob.specs.GlobCells.{has}
-use Rattle.pathspec_glob.specs.GlobRows.{holds}
+use Rattle.pathspec_glob.specs.BitVecs.{holds}
 use Rattle.pathspec_glob.specs.GlobSteps.{is_wide_at, token_takes}
-use Rattle.pathspec_glob.specs.GlobPlaces.{arrives, is_held, stays}
+use Rattle.pathspec_glob.specs.GlobPlaces.{arrives, is_active, stays}
 use Rattle.pathspec_glob.proofs.StepProofs.{behind-none, arrives-none, arrives-behind, arrives-within, stays-none}
 use Rattle.pathspec_glob.proofs.places.Places.take.Goals as goal
 
@@ -33,10 +33,10 @@ loop-index-preserved c =
     let puts = c.put_taken-carry.ensures.puts in
     let took = c.taken-taken.ensures in
     let inside : from ≤ n = omega (arith, c.loop-index-test.true, invariant.end, c.requires.bounds.within) in
-    let held : (j : ℕ) → j < 64 → from + j < n → has c.held-held.result j ≡ is_held old (from + j) = λ j low short.
-    c.held-held.ensures.held j low (omega (arith, short, c.requires.room.entered, invariant.room.entered)) (omega (arith, short, c.requires.room.staying, invariant.room.staying))
+    let held : (j : ℕ) → j < 64 → from + j < n → has c.active_places-active.result j ≡ is_active old (from + j) = λ j low short.
+    c.active_places-active.ensures.active j low (omega (arith, short, c.requires.room.entered, invariant.room.entered)) (omega (arith, short, c.requires.room.staying, invariant.room.staying))
     ∙ rw (invariant.behind_entered (from + j) (omega arith), invariant.behind_staying (from + j) (omega arith)) refl in
-    let taken : (j : ℕ) → j < 64 → from + j < n → has c.taken-taken.result j ≡ (is_held old (from + j) && token_takes tokens case (from + j) b) = λ j low short.
+    let taken : (j : ℕ) → j < 64 → from + j < n → has c.taken-taken.result j ≡ (is_active old (from + j) && token_takes tokens case (from + j) b) = λ j low short.
     took.taken j low ∙ ap (λ h. h && token_takes tokens case (from + j) b) (held j low short) in
     let wide : (j : ℕ) → j < 64 → from + j < n → has c.word.result j ≡ is_wide_at (drop (from + j) tokens.tokens) = λ j low short.
     c.word.ensures j low (omega (arith, short, c.requires.moves.len)) ∙ c.requires.moves.wide (from + j) short in
@@ -48,7 +48,7 @@ loop-index-preserved c =
     let next : (has c.taken-taken.result 63 && not (has c.word.result 63)) ≡ arrives tokens case old b (suc (from + 63)) = elim (cases_lt (from + 63) n) [
       | inl l ↦ moves 63 (omega arith) l
       | inr g ↦
-          and_left _ _ (took.taken 63 (omega arith) ∙ rw (behind-none tokens case (from + 63) b g) (and_right (has c.held-held.result 63) false refl))
+          and_left _ _ (took.taken 63 (omega arith) ∙ rw (behind-none tokens case (from + 63) b g) (and_right (has c.active_places-active.result 63) false refl))
           ∙ sym (arrives-behind tokens case old b (from + 63) g)
     ] in
     record {
@@ -70,7 +70,7 @@ loop-index-preserved c =
         | inl l ↦ invariant.none (omega (arith, took.rises)) i l k
         | inr g ↦
             let at : from + (i - from) ≡ i = omega arith in
-            subst (λ p. is_held old p ≡ false) at (sym (held (i - from) (omega arith) (omega arith)) ∙ took.none (omega (arith, took.rises)) (i - from) (omega arith) (omega arith))
+            subst (λ p. is_active old p ≡ false) at (sym (held (i - from) (omega arith) (omega arith)) ∙ took.none (omega (arith, took.rises)) (i - from) (omega arith) (omega arith))
       ];
       most = omega (arith, took.most);
       within = took.within;
@@ -99,13 +99,13 @@ returns-then-carry-ne0-clause-takes c =
     let n = length tokens.tokens in
     let row = c.loop-index.self.entered in
     let past : old.end ≤ index = omega (arith, c.loop-index-test.false, invariant.end) in
-    let unheld : (i : ℕ) → from ≤ i → i < n → is_held old i ≡ false = λ i g h.
+    let unheld : (i : ℕ) → from ≤ i → i < n → is_active old i ≡ false = λ i g h.
     or_from _ _ (bounds.after_entered i (omega (arith, past)) (omega arith)) (bounds.after_staying i (omega (arith, past)) h) in
     let on : true ≡ arrives tokens case old b from = let one : c.loop-index.carry ≡ 1 = omega (arith, c.if-carry-ne0.true, invariant.small) in rw one at invariant.carry in
     let within : from ≤ n = arrives-within tokens case old b from (sym on) in
     let inside : from < length row = omega (arith, c.requires.room.entered, invariant.room.entered) in
     record {
-      entered = λ i h. rw c.put.ensures (elim (cases_lt i from) [
+      entered = λ i h. rw c.set.ensures (elim (cases_lt i from) [
         | inl l ↦ get_or-set_other row from i true false (λ e. omega (arith, l, e)) ∙ invariant.entered i l h
         | inr g ↦ elim (cases_eq i from) [
           | inl e ↦ rw e (get_or-set_same row from true false inside ∙ on)

@@ -1,7 +1,7 @@
 use Rattle.std.proofs.Common.{◌≡◌, ◌≤◌, ◌<◌, ◌-◌, ◌*◌, ℕ, false, length}
 use Rattle.pathspec_glob.specs.GlobCells.{has}
-use Rattle.pathspec_glob.specs.GlobRows.{holds}
-use Rattle.pathspec_glob.specs.GlobPlaces.{arrives, is_held, stays, KeepsRoom}
+use Rattle.pathspec_glob.specs.BitVecs.{holds}
+use Rattle.pathspec_glob.specs.GlobPlaces.{arrives, is_active, stays, KeepsRoom}
 use Rattle.pathspec_glob.proofs.places.Places.take.Given as goal
 
 abbrev pub invariant-loop-index : goal.invariant-loop-index
@@ -10,7 +10,7 @@ invariant-loop-index l = record {
   staying : (i : ℕ) → i < l.index * 64 → i < length l.tokens.tokens → holds l.self.staying i ≡ stays l.tokens l.case l.fn.self l.byte i;
   carry : has l.carry 0 ≡ arrives l.tokens l.case l.fn.self l.byte (l.index * 64);
   small : l.carry < 2;
-  none : l.tests.count ≡ 0 → (i : ℕ) → i < l.index * 64 → i < length l.tokens.tokens → is_held l.fn.self i ≡ false;
+  none : l.tests.count ≡ 0 → (i : ℕ) → i < l.index * 64 → i < length l.tokens.tokens → is_active l.fn.self i ≡ false;
   most : l.tests.count ≤ l.index * 64;
   within : l.tests.count ≤ length l.tokens.tokens;
   alone : l.tests.tokens ≡ 1;

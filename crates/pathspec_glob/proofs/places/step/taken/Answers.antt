@@ -10,8 +10,8 @@ use Rattle.pathspec_glob.proofs.places.step.taken.Goals.{then-test, else-test, I
 use Rattle.pathspec_glob.proofs.places.step.taken.Goals as goal
 
 -- the place that comes next
-the-next : (c : In-loop-open) → IsNext c.args.held (count_trailing_zeros 64 c.loop-open.«open») c.loop-open.«open» (count_trailing_zeros 64 c.loop-open.«open»)
-the-next c = next-open c.args.held (count_trailing_zeros 64 c.loop-open.«open») c.loop-open.«open» (omega (arith, c.loop-open-test.true)) (omega (arith, c.loop-open.auto.open-fits)) c.loop-open.invariant.opened
+the-next : (c : In-loop-open) → IsNext c.args.active (count_trailing_zeros 64 c.loop-open.«open») c.loop-open.«open» (count_trailing_zeros 64 c.loop-open.«open»)
+the-next c = next-open c.args.active (count_trailing_zeros 64 c.loop-open.«open») c.loop-open.«open» (omega (arith, c.loop-open-test.true)) (omega (arith, c.loop-open.auto.open-fits)) c.loop-open.invariant.opened
 
 pub overflow_add-from : goal.overflow_add-from
 overflow_add-from c =
@@ -22,7 +22,7 @@ pub returns-then-from-bit-clause-taken : goal.returns-then-from-bit-clause-taken
 returns-then-from-bit-clause-taken c =
     let next = the-next (goal.at.returns-then-from-bit-clause-taken c).In-loop-open in
     let parts = c.args.tokens.now in
-    all-taken c.args.held (count_trailing_zeros 64 c.loop-open.«open») c.loop-open.«open» (count_trailing_zeros 64 c.loop-open.«open») c.loop-open.taken c.args.from (length parts.tokens)
+    all-taken c.args.active (count_trailing_zeros 64 c.loop-open.«open») c.loop-open.«open» (count_trailing_zeros 64 c.loop-open.«open») c.loop-open.taken c.args.from (length parts.tokens)
     (λ i. token_takes parts c.args.case (c.args.from + i) c.args.byte) next c.loop-open.invariant.taken
     (λ i past. behind-none parts c.args.case (c.args.from + i) c.args.byte past) (omega (arith, c.if-from-bit.true, c.len.ensures))
 
@@ -41,8 +41,8 @@ test-requires-clause-room c =
 
 pub loop-open-init : goal.loop-open-init
 loop-open-init c =
-    let held = c.args.held in
-    let fits : held < 2 ^ 64 = omega (arith, c.ranges.held.fits) in
+    let held = c.args.active in
+    let fits : held < 2 ^ 64 = omega (arith, c.ranges.active.fits) in
     let takes : ℕ → Bool = λ i. token_takes c.args.tokens.now c.args.case (c.args.from + i) c.args.byte in
     record {
       opened = open-lowest held 0 held fits (omega arith) (first-open held);
@@ -57,7 +57,7 @@ loop-open-init c =
 pub loop-open-preserved : goal.loop-open-preserved
 loop-open-preserved c =
     let next = the-next (goal.at.loop-open-preserved c).In-loop-open in
-    let held = c.args.held in
+    let held = c.args.active in
     let rest = c.loop-open.«open» in
     let bit = count_trailing_zeros 64 rest in
     let left = bit_and rest (rest - 1) in

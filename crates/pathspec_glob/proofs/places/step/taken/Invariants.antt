@@ -8,13 +8,13 @@ use Rattle.pathspec_glob.proofs.places.step.taken.Given as goal
 -- the places before the lowest that is left are done
 abbrev pub invariant-loop-open : goal.invariant-loop-open
 invariant-loop-open l = record {
-  opened : IsOpen l.held (count_trailing_zeros 64 l.«open») l.«open»;
-  taken : IsTaken l.held (λ i. token_takes l.tokens l.case (l.from + i) l.byte) (count_trailing_zeros 64 l.«open») l.taken;
+  opened : IsOpen l.active (count_trailing_zeros 64 l.«open») l.«open»;
+  taken : IsTaken l.active (λ i. token_takes l.tokens l.case (l.from + i) l.byte) (count_trailing_zeros 64 l.«open») l.taken;
   rises : l.fn.tests.count ≤ l.tests.count;
   most : l.tests.count ≤ l.from + count_trailing_zeros 64 l.«open»;
   within : l.tests.count ≤ length l.tokens.tokens;
   alone : l.tests.tokens ≡ 1;
-  none : l.tests.count ≡ l.fn.tests.count → (i : ℕ) → i < count_trailing_zeros 64 l.«open» → has l.held i ≡ false;
+  none : l.tests.count ≡ l.fn.tests.count → (i : ℕ) → i < count_trailing_zeros 64 l.«open» → has l.active i ≡ false;
 }
 
 -- each round has a place less

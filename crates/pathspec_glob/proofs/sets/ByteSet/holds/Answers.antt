@@ -1,7 +1,7 @@
 -- Without case the lower form is asked for, and then the upper.
 use Rattle.std.proofs.Common.{◌∙◌, sym, refl}
 use Rattle.std.specs.Char.{to_ascii_uppercase}
-use Rattle.pathspec_glob.specs.GlobRows.{words_hold}
+use Rattle.pathspec_glob.specs.BitVecs.{words_hold}
 use Rattle.pathspec_glob.proofs.ByteSetProofs.{holds-Sensitive, holds-Fold}
 use Rattle.pathspec_glob.proofs.sets.ByteSet.holds.Goals as goal
 

@@ -1,6 +1,6 @@
 use Rattle.std.proofs.Common.{◌≡◌, ℕ, ◌&&◌, ◌||◌, nat_lt}
 use Rattle.std.specs.Prelude.{nat_le}
-use Rattle.pathspec_glob.specs.GlobRows.{words_hold}
+use Rattle.pathspec_glob.specs.BitVecs.{words_hold}
 use Rattle.pathspec_glob.proofs.sets.ByteSet.insert_range.Given as goal
 
 abbrev pub invariant-loop-byte : goal.invariant-loop-byte

@@ -1,6 +1,6 @@
 use Rattle.std.proofs.Common.{◌≡◌, ◌∷◌, sym, ◌∙◌, ap, arith, drop, get_or, length}
 use Rattle.std.proofs.lemmas.List.{get_or_default}
-use Rattle.pathspec_glob.specs.declared.tokens.Single.TheVariants.{Byte}
+use Rattle.pathspec_glob.specs.declared.tokens.OneByte.TheVariants.{Byte}
 use Rattle.pathspec_glob.specs.declared.tokens.Token.{Token as Part}
 use Rattle.pathspec_glob.specs.declared.tokens.Token.TheVariants.{One as Alone}
 use Rattle.pathspec_glob.specs.GlobSteps.{is_wide_at}

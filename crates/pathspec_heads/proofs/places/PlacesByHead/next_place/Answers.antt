@@ -1,6 +1,6 @@
 use Rattle.std.proofs.Common.{arith, subst, Some, None, sym, refl, ◌<◌, length}
 use Rattle.pathspec_heads.specs.Heads.{head_at, IsRising, IsLastFront}
-use Rattle.pathspec_heads.specs.Groups.{CountedPlaces, IsNext}
+use Rattle.pathspec_heads.specs.Groups.{CountedPlaces, IsLeastFrom}
 use Rattle.pathspec_heads.proofs.AgreementProofs.{begins-through}
 use Rattle.pathspec_heads.proofs.HeadProofs.{begins-itself}
 use Rattle.pathspec_heads.proofs.NextProofs.{IsInChainFrom, chain-begun, chain-goes, chain-ends}
@@ -13,11 +13,11 @@ loop-link-init c =
     record {
       before = omega arith;
       begins = begins-itself (head_at v.heads c.args.head);
-      next = chain-begun v.heads rising v.starts v.order c.args.head c.requires c.args.from c.next_of-next.result c.next_of-next.ensures;
+      next = chain-begun v.heads rising v.starts v.order c.args.head c.requires c.args.from c.next_in_group-next.result c.next_in_group-next.ensures;
     }
 
-pub next_of-requires : goal.next_of-requires
-next_of-requires c =
+pub next_in_group-requires : goal.next_in_group-requires
+next_in_group-requires c =
     subst (λ (v : CountedPlaces). c.in-Some.link < length v.heads) c.self.view_is
     (omega (arith, (c.link.ensures.begins c.in-Some.link c.in-Some.is).0, c.loop-link.invariant.before, subst (λ (v : CountedPlaces). c.args.head < length v.heads) (sym c.self.view_is) c.requires))
 
@@ -36,8 +36,8 @@ loop-link-preserved c =
     record {
       before = omega (arith, here.0, i.before);
       begins = begins;
-      next = subst (λ o. IsNext (IsInChainFrom v.heads v.starts v.order c.in-Some.link c.args.head) c.args.from o) (sym c.earlier-next.ensures)
-          (chain-goes v.heads rising v.starts v.order c.args.head c.requires c.loop-link.at i.before i.begins c.in-Some.link c.args.from c.loop-link.next c.next_of.result last i.next c.next_of.ensures begins);
+      next = subst (λ o. IsLeastFrom (IsInChainFrom v.heads v.starts v.order c.in-Some.link c.args.head) c.args.from o) (sym c.earlier-next.ensures)
+          (chain-goes v.heads rising v.starts v.order c.args.head c.requires c.loop-link.at i.before i.begins c.in-Some.link c.args.from c.loop-link.next c.next_in_group.result last i.next c.next_in_group.ensures begins);
     }
 
 pub returns : goal.returns

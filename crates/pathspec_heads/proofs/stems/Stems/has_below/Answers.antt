@@ -4,42 +4,42 @@ use Rattle.pathspec_heads.specs.Heads.{head_at, IsRising}
 use Rattle.pathspec_heads.specs.Stems.{with_slash}
 use Rattle.pathspec_heads.proofs.StemProofs.{below-found, above-found, none-found, length-with_slash, test-true, test-false}
 use Rattle.pathspec_heads.proofs.stems.Stems.has_below.Goals as goal
-use Rattle.pathspec_heads.proofs.stems.Stems.has_below.Goals.{else-ended-gt0-via-then-ended-gt0+else-ended-path, else-ended-gt0-via-else-ended-gt0}
+use Rattle.pathspec_heads.proofs.stems.Stems.has_below.Goals.{else-point-gt0-via-then-point-gt0+else-point-path, else-point-gt0-via-else-point-gt0}
 
-pub returns-then-ended-path-clause-yes : goal.returns-then-ended-path-clause-yes
-returns-then-ended-path-clause-yes c = λ h.
-    below-found c.args.self.now (with_slash c.args.ignore_case c.args.path.now) c.args.ended.low c.args.ended.agreed c.requires c.if-ended-gt0.true
-    (omega (arith, c.if-ended-path.true, length-with_slash c.args.ignore_case c.args.path.now))
+pub returns-then-point-path-clause-yes : goal.returns-then-point-path-clause-yes
+returns-then-point-path-clause-yes c = λ h.
+    below-found c.args.self.now (with_slash c.args.ignore_case c.args.path.now) c.args.point.low c.args.point.agreed c.requires c.if-point-gt0.true
+    (omega (arith, c.if-point-path.true, length-with_slash c.args.ignore_case c.args.path.now))
 
-pub returns-then-ended-len-clause-yes : goal.returns-then-ended-len-clause-yes
-returns-then-ended-len-clause-yes c = λ h.
+pub returns-then-point-len-clause-yes : goal.returns-then-point-len-clause-yes
+returns-then-point-len-clause-yes c = λ h.
     let t = with_slash c.args.ignore_case c.args.path.now in
-    let same : c.compare_with_slash.result.agreed ≡ agreement (head_at c.args.self.now c.args.ended.low) t = c.compare_with_slash.ensures.agreed ∙ ap (λ (ts : List (List ℕ)). agreement (head_at ts c.args.ended.low) t) c.self.view_is in
+    let same : c.compare_with_slash.result.agreed ≡ agreement (head_at c.args.self.now c.args.point.low) t = c.compare_with_slash.ensures.agreed ∙ ap (λ (ts : List (List ℕ)). agreement (head_at ts c.args.point.low) t) c.self.view_is in
     let more : length c.args.path.now < c.compare_with_slash.result.agreed = test-true (length c.args.path.now) c.compare_with_slash.result.agreed h in
-    above-found c.args.self.now t c.args.ended.low c.args.ended.agreed c.requires (omega (arith, c.if-ended-len.true, c.len.ensures, ap length c.texts.ensures, ap length c.self.view_is))
+    above-found c.args.self.now t c.args.point.low c.args.point.agreed c.requires (omega (arith, c.if-point-len.true, c.len.ensures, ap length c.texts.ensures, ap length c.self.view_is))
     (omega (arith, more, same, length-with_slash c.args.ignore_case c.args.path.now))
 
-pub returns-then-ended-len-clause-no : goal.returns-then-ended-len-clause-no
-returns-then-ended-len-clause-no c = λ h.
+pub returns-then-point-len-clause-no : goal.returns-then-point-len-clause-no
+returns-then-point-len-clause-no c = λ h.
     let t = with_slash c.args.ignore_case c.args.path.now in
     let rising : IsRising c.args.self.now = subst IsRising c.self.view_is c.self.invariant.rising in
-    let same : c.compare_with_slash.result.agreed ≡ agreement (head_at c.args.self.now c.args.ended.low) t = c.compare_with_slash.ensures.agreed ∙ ap (λ (ts : List (List ℕ)). agreement (head_at ts c.args.ended.low) t) c.self.view_is in
+    let same : c.compare_with_slash.result.agreed ≡ agreement (head_at c.args.self.now c.args.point.low) t = c.compare_with_slash.ensures.agreed ∙ ap (λ (ts : List (List ℕ)). agreement (head_at ts c.args.point.low) t) c.self.view_is in
     let n = length-with_slash c.args.ignore_case c.args.path.now in
-    none-found c.args.self.now t c.args.ended.low c.args.ended.agreed c.requires rising
-    (λ p l. elim c.else-ended-gt0.branch [
-      | else-ended-gt0-via-then-ended-gt0+else-ended-path w ↦ absurd (omega (arith, w.if-ended-path.false, l, n))
-      | else-ended-gt0-via-else-ended-gt0 w ↦ absurd (omega (arith, w.if-ended-gt0.false, p))
+    none-found c.args.self.now t c.args.point.low c.args.point.agreed c.requires rising
+    (λ p l. elim c.else-point-gt0.branch [
+      | else-point-gt0-via-then-point-gt0+else-point-path w ↦ absurd (omega (arith, w.if-point-path.false, l, n))
+      | else-point-gt0-via-else-point-gt0 w ↦ absurd (omega (arith, w.if-point-gt0.false, p))
     ])
     (λ i l. absurd (omega (arith, test-false (length c.args.path.now) c.compare_with_slash.result.agreed h, l, n, same)))
 
-pub returns-else-ended-len-clause-no : goal.returns-else-ended-len-clause-no
-returns-else-ended-len-clause-no c = λ h.
+pub returns-else-point-len-clause-no : goal.returns-else-point-len-clause-no
+returns-else-point-len-clause-no c = λ h.
     let t = with_slash c.args.ignore_case c.args.path.now in
     let rising : IsRising c.args.self.now = subst IsRising c.self.view_is c.self.invariant.rising in
     let n = length-with_slash c.args.ignore_case c.args.path.now in
-    none-found c.args.self.now t c.args.ended.low c.args.ended.agreed c.requires rising
-    (λ p l. elim c.else-ended-gt0.branch [
-      | else-ended-gt0-via-then-ended-gt0+else-ended-path w ↦ absurd (omega (arith, w.if-ended-path.false, l, n))
-      | else-ended-gt0-via-else-ended-gt0 w ↦ absurd (omega (arith, w.if-ended-gt0.false, p))
+    none-found c.args.self.now t c.args.point.low c.args.point.agreed c.requires rising
+    (λ p l. elim c.else-point-gt0.branch [
+      | else-point-gt0-via-then-point-gt0+else-point-path w ↦ absurd (omega (arith, w.if-point-path.false, l, n))
+      | else-point-gt0-via-else-point-gt0 w ↦ absurd (omega (arith, w.if-point-gt0.false, p))
     ])
-    (λ i l. absurd (omega (arith, test-false c.args.ended.low c.len.result h, i, c.len.ensures, ap length c.texts.ensures, ap length c.self.view_is)))
+    (λ i l. absurd (omega (arith, test-false c.args.point.low c.len.result h, i, c.len.ensures, ap length c.texts.ensures, ap length c.self.view_is)))

@@ -6,7 +6,7 @@ use Rattle.pathspec_parts.specs.AttributeStates.{assignment_view}
 use Rattle.pathspec_pattern.proofs.LongTextProofs.{assignment-after}
 use Rattle.pathspec_pattern.proofs.pattern.long_text.write_assignments.Goals as goal
 
-pub loop-place-preserved : goal.loop-place-preserved
-loop-place-preserved c =
-    let here = slice_get-map assignment_view c.args.assignments.now c.loop-place.place ∙ ap (option_map assignment_view) (slice_get_read c.args.assignments.now _ c.loop-place.place c.index-assignments-place.result refl c.loop-place-test.true c.index-assignments-place.is) in
-    assignment-after (map assignment_view c.args.assignments.now) c.loop-place.place (assignment_view c.index-assignments-place.result) _ _ _ _ c.loop-place.invariant c.in_ok-write_space.ensures c.in_ok-write_assignment.ensures here
+pub loop-index-preserved : goal.loop-index-preserved
+loop-index-preserved c =
+    let here = slice_get-map assignment_view c.args.assignments.now c.loop-index.index ∙ ap (option_map assignment_view) (slice_get_read c.args.assignments.now _ c.loop-index.index c.index-assignments-index.result refl c.loop-index-test.true c.index-assignments-index.is) in
+    assignment-after (map assignment_view c.args.assignments.now) c.loop-index.index (assignment_view c.index-assignments-index.result) _ _ _ _ c.loop-index.invariant c.in_ok-write_space.ensures c.in_ok-write_assignment.ensures here

@@ -3,5 +3,5 @@ use Rattle.pathspec_parts.specs.AttributeStates.{assignment_view}
 use Rattle.pathspec_pattern.specs.LongText.{list_text}
 use Rattle.pathspec_pattern.proofs.pattern.long_text.write_assignments.Given as goal
 
-abbrev pub invariant-loop-place : goal.invariant-loop-place
-invariant-loop-place l = l.text.items ≡ l.fn.text.items ++ list_text (take l.place (map assignment_view l.assignments))
+abbrev pub invariant-loop-index : goal.invariant-loop-index
+invariant-loop-index l = l.text.items ≡ l.fn.text.items ++ list_text (take l.index (map assignment_view l.assignments))

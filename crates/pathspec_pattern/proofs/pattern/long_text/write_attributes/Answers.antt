@@ -1,4 +1,4 @@
--- A comma, where words stand already, and the list.
+-- A comma, where pieces stand already, and the list.
 use Rattle.std.proofs.Common.{◌∙◌, sym, map}
 use Rattle.std.proofs.lemmas.Result.{on_ok_weaker}
 use Rattle.pathspec_parts.specs.AttributeStates.{assignment_view}

@@ -1,4 +1,4 @@
--- A comma, where words stand already, and the length.
+-- A comma, where pieces stand already, and the length.
 use Rattle.std.proofs.lemmas.Bool.{ne_eqb}
 use Rattle.std.proofs.lemmas.Result.{on_ok_weaker}
 use Rattle.pathspec_pattern.proofs.LongTextProofs.{prefix-after}

@@ -2,7 +2,7 @@
 use Rattle.std.proofs.Common.{◌≡◌, ℕ, ◌+◌, ◌<◌, Bool, false, List, length, set, drop, arith, ap, ◌∙◌, inl, inr}
 use Rattle.std.proofs.lemmas.Bool.{cases_eq}
 use Rattle.std.proofs.lemmas.List.{length-set, get_or-set_same, get_or-set_other}
-use Rattle.pathspec_glob.specs.GlobRows.{holds}
+use Rattle.pathspec_glob.specs.BitVecs.{holds}
 use Rattle.pathspec_glob.specs.GlobSteps.{is_wide_at, may_pass_over_at}
 use Rattle.pathspec_glob.proofs.places.moves.EmptyMoves.of_tokens.Goals as goal
 
@@ -20,10 +20,10 @@ loop-place-preserved c =
     let before = c.loop-place.invariant in
     let within : place < length tokens.tokens = omega (arith, c.loop-place-test.true, c.len-place-end.ensures) in
     record {
-      wide_len = ap length c.put.ensures ∙ length-set c.loop-place.wide place c.is_wide.result ∙ before.wide_len;
-      overs_len = ap length c.put-in-loop-place.ensures ∙ length-set c.loop-place.overs place c.may_pass_over.result ∙ before.overs_len;
-      wide = λ i low. ap (λ row. holds row i) c.put.ensures
+      wide_len = ap length c.set.ensures ∙ length-set c.loop-place.wide place c.is_wide.result ∙ before.wide_len;
+      overs_len = ap length c.set-in-loop-place.ensures ∙ length-set c.loop-place.overs place c.may_pass_over.result ∙ before.overs_len;
+      wide = λ i low. ap (λ row. holds row i) c.set.ensures
           ∙ one-more c.loop-place.wide place c.is_wide.result (λ j. is_wide_at (drop j tokens.tokens)) (omega (arith, within, before.wide_len)) c.is_wide.ensures before.wide i low;
-      overs = λ i low. ap (λ row. holds row i) c.put-in-loop-place.ensures
+      overs = λ i low. ap (λ row. holds row i) c.set-in-loop-place.ensures
           ∙ one-more c.loop-place.overs place c.may_pass_over.result (λ j. may_pass_over_at tokens.mode (drop j tokens.tokens)) (omega (arith, within, before.overs_len)) c.may_pass_over.ensures.over before.overs i low;
     }

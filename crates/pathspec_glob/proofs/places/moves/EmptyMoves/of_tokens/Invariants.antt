@@ -1,5 +1,5 @@
 use Rattle.std.proofs.Common.{◌≡◌, ℕ, ◌<◌, length, drop}
-use Rattle.pathspec_glob.specs.GlobRows.{holds}
+use Rattle.pathspec_glob.specs.BitVecs.{holds}
 use Rattle.pathspec_glob.specs.GlobSteps.{is_wide_at, may_pass_over_at}
 use Rattle.pathspec_glob.proofs.places.moves.EmptyMoves.of_tokens.Given as goal
 

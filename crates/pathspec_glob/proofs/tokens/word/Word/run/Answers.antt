@@ -16,6 +16,6 @@ returns-clause-answer c parts is =
     ] in
     let few : cell_count parts.tokens < 64 = omega (arith, is.last, word.last_within) in
     c.run.ensures.answer parts.mode c.args.case (cells_of parts.mode Nothing parts.tokens) (loop_behind Nothing parts.tokens) is.course
-    (masked parts c.args.case rows word.loops word.deeps word.overs few is.alternate table is.loops is.deeps is.overs is.apart)
+    (masked parts c.args.case rows word.stays word.stays_at_slash word.overs few is.alternate table is.stays is.stays_at_slash is.overs is.apart)
     (length-cells_of parts.mode Nothing parts.tokens ∙ sym is.last)
     ∙ sym (cells-match parts.mode c.args.case Nothing parts.tokens (alternates-loop Nothing parts.tokens is.alternate) c.args.text.now)

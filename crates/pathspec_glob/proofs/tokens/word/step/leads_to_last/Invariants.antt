@@ -8,9 +8,9 @@ abbrev pub invariant-loop-position : goal.invariant-loop-position
 invariant-loop-position l = record {
   bytes : l.tests.count ≡ l.position;
   tokens : l.tests.tokens ≡ l.table.tokens;
-  leads : (mode : Mode) (case : Case) (cells : List Cell) (end : Loop) (loops deeps overs : ℕ)
-      → Masked mode case cells end l.table.rows.items loops deeps overs → length cells ≡ l.last
-      → StayAtEnds loops deeps overs l.last l.stays l.stays_at_slash → has l.places 0 ≡ true → record {
+  leads : (mode : Mode) (case : Case) (cells : List Cell) (end : Loop) (stays stays_at_slash overs : ℕ)
+      → Masked mode case cells end l.table.rows.items stays stays_at_slash overs → length cells ≡ l.last
+      → StayAtEnds stays stays_at_slash overs l.last l.last_stays l.last_stays_at_slash → has l.places 0 ≡ true → record {
         first : not_free l.free l.end l.last 0 ≡ true;
         leads : set_leads mode case cells end (not_free l.free l.end l.last) (drop l.position l.text) ≡ set_leads mode case cells end (has l.places) l.text;
       };

@@ -19,7 +19,7 @@ loop-position-preserved c = record {
       let row = c.refused.result in
       let taken : (i : ℕ) → i < length cells → not (has row i) ≡ has (18446744073709551615 - row) i =
       λ i h. sym (has-not row i c.refused.type_inv (omega (arith, h, masked.few))) in
-      let kept = has (if byte == slash then c.args.deeps else c.args.loops) in
+      let kept = has (if byte == slash then c.args.stays_at_slash else c.args.stays) in
       let rules = rules-same mode case cells end (λ i. not (has row i)) (has (18446744073709551615 - row)) kept (has all) byte taken (rw (sym c.refused.ensures.answer) at (masked.rules byte fits)) in
       c.advance-places.ensures mode case cells end all byte (drop (position + 1) text) masked.few (rw c.of_byte.ensures rules) masked.apart same
       ∙ ap (set_leads mode case cells end (has c.loop-position.places)) (sym next)

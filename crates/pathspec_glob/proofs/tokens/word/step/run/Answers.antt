@@ -9,10 +9,10 @@ pub returns-in-Ends-clause-answer : goal.returns-in-Ends-clause-answer
 returns-in-Ends-clause-answer c mode case cells end course masked size =
     let overs = c.args.overs in
     let over = bit_and 1 overs * 2 % 18446744073709551616 in
-    let ends : StayAtEnds c.args.loops c.args.deeps overs c.args.last c.in-Ends.stays c.in-Ends.stays_at_slash = rw c.in-Ends.is at course in
+    let ends : StayAtEnds c.args.stays c.args.stays_at_slash overs c.args.last c.in-Ends.last_stays c.in-Ends.last_stays_at_slash = rw c.in-Ends.is at course in
     let first : has c.enter-from.result 0 ≡ true = rw c.enter-from.ensures (has-or 1 over 0) in
-    c.accepts.ensures.leads mode case cells end c.args.loops c.args.deeps overs masked size ends first
-    ∙ set-begins mode case cells end (λ i. not (has (get_or c.args.table.now.rows.items 0 0) i)) c.args.loops overs over c.enter-from.result 0 c.args.text.now masked.few (masked.rules 0 (omega arith)) masked.apart refl c.enter-from.ensures
+    c.accepts.ensures.leads mode case cells end c.args.stays c.args.stays_at_slash overs masked size ends first
+    ∙ set-begins mode case cells end (λ i. not (has (get_or c.args.table.now.rows.items 0 0) i)) c.args.stays overs over c.enter-from.result 0 c.args.text.now masked.few (masked.rules 0 (omega arith)) masked.apart refl c.enter-from.ensures
 
 pub returns-clause-answer : goal.returns-clause-answer
 returns-clause-answer c mode case cells end course masked size =
@@ -26,11 +26,11 @@ returns-clause-answer c mode case cells end course masked size =
     let leads : set_leads mode case cells end (has reached.places) (drop reached.tests.count text) ≡ set_leads mode case cells end (has c.enter-from.result) text = elim c.match-course.branch [
       | in-Plain w ↦
           let passed : c.args.overs / 2 ≡ 0 = rw w.in-Plain.is at course in
-          rw w.places-is (w.reach.ensures.leads mode case cells end c.args.overs (rw w.if-loops-deeps.true (rw w.if-loops-deeps.true at masked)) (sym passed))
+          rw w.places-is (w.reach.ensures.leads mode case cells end c.args.overs (rw w.if-stays-stays_at_slash.true (rw w.if-stays-stays_at_slash.true at masked)) (sym passed))
       | in-Plain-2 w ↦
           let passed : c.args.overs / 2 ≡ 0 = rw w.in-Plain-2.is at course in
           rw w.places-is (w.reach-in-Plain-2.ensures.leads mode case cells end c.args.overs masked (sym passed))
       | in-Any w ↦ rw w.places-is (w.reach-in-Any.ensures.leads mode case cells end c.args.overs masked refl)
     ] in
-    let begins = set-begins mode case cells end (λ i. not (has (get_or c.args.table.now.rows.items 0 0) i)) c.args.loops c.args.overs (bit_and 1 c.args.overs * 2 % 18446744073709551616) c.enter-from.result 0 text masked.few (masked.rules 0 (omega arith)) masked.apart refl c.enter-from.ensures in
+    let begins = set-begins mode case cells end (λ i. not (has (get_or c.args.table.now.rows.items 0 0) i)) c.args.stays c.args.overs (bit_and 1 c.args.overs * 2 % 18446744073709551616) c.enter-from.result 0 text masked.few (masked.rules 0 (omega arith)) masked.apart refl c.enter-from.ensures in
     c.holds.ensures ∙ rw (sym size) (sym (leads-rest mode case cells end reached.places reached.tests.count text halted) ∙ leads ∙ begins)

@@ -5,16 +5,16 @@ use Rattle.pathspec_parts.proofs.tree.cursor.Cursor.enter.Goals as goal
 pub push_once-requires-clause-below : goal.push_once-requires-clause-below
 push_once-requires-clause-below c =
     let s = c.self.inside in
-    entered_below s.tree.now.entries s.at c.in-Some.place s.next s.path.items s.entered.items s.is_new _ _ c.self.invariant c.in-Some.is
+    entered_below s.tree.now.entries s.at c.in-Some.number s.next s.path.items s.entered.items s.is_new _ _ c.self.invariant c.in-Some.is
 
 pub push_once-requires-clause-room : goal.push_once-requires-clause-room
 push_once-requires-clause-room c =
     let s = c.self.inside in
-    let r = c.self.invariant.here c.in-Some.place c.in-Some.is in
-    room_for s.tree.now.entries s.at c.in-Some.place s.next s.path.items s.entered.items s.is_new _ _ c.self.invariant c.in-Some.is (r.0, r.1, sym (c.is_dir.ensures r.0 r.1) ∙ c.if-not-is_dir.false)
+    let r = c.self.invariant.here c.in-Some.number c.in-Some.is in
+    room_for s.tree.now.entries s.at c.in-Some.number s.next s.path.items s.entered.items s.is_new _ _ c.self.invariant c.in-Some.is (r.0, r.1, sym (c.is_dir.ensures r.0 r.1) ∙ c.if-not-is_dir.false)
 
 pub invariant_of-self : goal.invariant_of-self
 invariant_of-self c =
     let s = c.self.inside in
-    let r = c.self.invariant.here c.in-Some.place c.in-Some.is in
-    enters_as s.tree.now.entries s.at c.in-Some.place s.next s.path.items s.entered.items s.is_new _ _ c.self.invariant c.in-Some.is (r.0, r.1, sym (c.is_dir.ensures r.0 r.1) ∙ c.if-not-is_dir.false) _ c.push_once.ensures.room c.push_once.new.numbers.items c.push_once.ensures.items
+    let r = c.self.invariant.here c.in-Some.number c.in-Some.is in
+    enters_as s.tree.now.entries s.at c.in-Some.number s.next s.path.items s.entered.items s.is_new _ _ c.self.invariant c.in-Some.is (r.0, r.1, sym (c.is_dir.ensures r.0 r.1) ∙ c.if-not-is_dir.false) _ c.push_once.ensures.room c.push_once.new.numbers.items c.push_once.ensures.items

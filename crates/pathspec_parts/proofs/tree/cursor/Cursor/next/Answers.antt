@@ -17,12 +17,12 @@ entry_there es n k e l = elim (slice_get_cases es n).1 [
 pub invariant_of-self : goal.invariant_of-self
 invariant_of-self c =
     let s = c.self.inside in
-    ends_as s.tree.now.entries s.at s.next s.path.items s.entered.items _ _ _ c.self.invariant (omega (arith, c.if-place-len.true, c.len.ensures)) _ c.clear.ensures.capacity c.clear.new.self.items c.clear.ensures.items
+    ends_as s.tree.now.entries s.at s.next s.path.items s.entered.items _ _ _ c.self.invariant (omega (arith, c.if-number-len.true, c.len.ensures)) _ c.clear.ensures.capacity c.clear.new.self.items c.clear.ensures.items
 
-pub returns-then-place-len-clause-next : goal.returns-then-place-len-clause-next
-returns-then-place-len-clause-next c =
+pub returns-then-number-len-clause-next : goal.returns-then-number-len-clause-next
+returns-then-number-len-clause-next c =
     let s = c.self.inside in
-    let none = ends_none s.tree.now.entries s.at s.next s.path.items s.entered.items _ _ _ c.self.invariant (omega (arith, c.if-place-len.true, c.len.ensures)) in
+    let none = ends_none s.tree.now.entries s.at s.next s.path.items s.entered.items _ _ _ c.self.invariant (omega (arith, c.if-number-len.true, c.len.ensures)) in
     subst (λ (x : CursorContents). None ≡ next_seen x.entered (next_number x) x.entries) c.self.view_is (sym none)
 
 pub write_path-requires-clause-near : goal.write_path-requires-clause-near
@@ -33,12 +33,12 @@ write_path-requires-clause-near c =
 pub invariant_of-self-2 : goal.invariant_of-self-2
 invariant_of-self-2 c =
     let s = c.self.inside in
-    let e = entry_there s.tree.now.entries s.next c.len.result c.len.ensures c.if-place-len.false in
+    let e = entry_there s.tree.now.entries s.next c.len.result c.len.ensures c.if-number-len.false in
     goes s.tree.now.entries s.at s.next s.path.items s.entered.items _ _ _ c.self.invariant e.0 e.1 c.write_path.new.path.items (c.write_path.ensures.path e.0 e.1) c.end_of-self-inside.result c.end_of-self-inside.ensures _ c.write_path.ensures.room
 
 pub returns-clause-next : goal.returns-clause-next
 returns-clause-next c =
     let s = c.self.inside in
-    let e = entry_there s.tree.now.entries s.next c.len.result c.len.ensures c.if-place-len.false in
+    let e = entry_there s.tree.now.entries s.next c.len.result c.len.ensures c.if-number-len.false in
     let some = goes_next s.tree.now.entries s.at s.next s.path.items s.entered.items _ _ _ c.self.invariant e.0 e.1 in
     subst (λ (x : CursorContents). Some s.next ≡ next_seen x.entered (next_number x) x.entries) c.self.view_is (sym some)

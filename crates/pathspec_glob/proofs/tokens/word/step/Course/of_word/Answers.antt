@@ -6,16 +6,16 @@ use Rattle.pathspec_glob.proofs.tokens.word.step.Course.of_word.Goals as goal
 
 pub returns-then-none_between : goal.returns-then-none_between
 returns-then-none_between c =
-    let loops = c.args.loops in
-    let deeps = c.args.deeps in
-    let between : (i : ℕ) → 0 < i → i < c.args.last → (has loops i || has deeps i) ≡ false =
-    λ i some below. sym (has-or loops deeps i) ∙ c.none_between.ensures c.if-none_between.true i some below in
+    let stays = c.args.stays in
+    let stays_at_slash = c.args.stays_at_slash in
+    let between : (i : ℕ) → 0 < i → i < c.args.last → (has stays i || has stays_at_slash i) ≡ false =
+    λ i some below. sym (has-or stays stays_at_slash i) ∙ c.none_between.ensures c.if-none_between.true i some below in
     record {
       first = c.is_plain.ensures.first c.if-not-is_plain.false;
       first_at_slash = c.is_plain.ensures.first_at_slash c.if-not-is_plain.false;
-      between = λ i some below. (or_parts (has loops i) (has deeps i) (between i some below)).0;
-      between_at_slash = λ i some below. (or_parts (has loops i) (has deeps i) (between i some below)).1;
-      last_stays = c.holds.ensures;
-      last_stays_at_slash = c.holds-then-none_between.ensures;
+      between = λ i some below. (or_parts (has stays i) (has stays_at_slash i) (between i some below)).0;
+      between_at_slash = λ i some below. (or_parts (has stays i) (has stays_at_slash i) (between i some below)).1;
+      at_last = c.holds.ensures;
+      at_last_at_slash = c.holds-then-none_between.ensures;
       passed = c.is_plain.ensures.passed c.if-not-is_plain.false;
     }
