@@ -6,9 +6,10 @@ ghost use Rattle.std.specs.Prelude.{◌≤◌, IfOk, IfSome, vec_len};
 use pathspec_select::{Environment, Refusal, exit_status, run};
 use std::alloc::{AllocError, Global};
 use std::env::{self, FillError, VarError};
+use std::io::{self, ErrorKind, Write};
 use std::process::ExitCode;
 use std::rt::Env;
-use std::{io, str};
+use std::str;
 
 /// How many bytes of a word are asked for at first.
 const ROOM: usize = 256;
@@ -68,22 +69,41 @@ fn word_into<R: Env>(
     Err(AllocError)
 }
 
-/// Runs the program over the standard streams.
-fn go(rt: &HostRuntime, words: &[String]) -> Result<(), Refusal> {
+/// A writer, and whether its reader went away, as `head -1` does.
+#[derive(Drop)]
+struct Output<W> {
+    writer: W,
+    is_closed: bool,
+}
+
+impl<W: Write> Write for Output<W> {
+    fn write(&mut self, buf: &[u8]) -> io::Result<usize> {
+        let written = self.writer.write(buf);
+        if let Err(error) = &written {
+            self.is_closed = error.kind() == ErrorKind::BrokenPipe;
+        }
+        written
+    }
+
+    fn flush(&mut self) -> io::Result<()> {
+        self.writer.flush()
+    }
+}
+
+/// Runs the program over standard input and a writer.
+fn go<W: Write>(rt: &HostRuntime, words: &[String], writer: &mut W) -> Result<(), Refusal> {
     let mut var = |name: &str| -> Result<String, VarError> { env::var(rt, name) };
     let environment = Environment::read(&mut var)?;
-    run(
-        rt.alloc(),
-        words,
-        &environment,
-        &mut rt.reader(),
-        &mut io::writer(rt),
-    )
+    run(rt.alloc(), words, &environment, &mut rt.reader(), writer)
 }
 
 fn main(rt: HostRuntime) -> ExitCode {
+    let mut output = Output {
+        writer: io::writer(&rt),
+        is_closed: false,
+    };
     let ended = match words(&rt) {
-        Ok(words) => go(&rt, words.as_slice()),
+        Ok(words) => go(&rt, words.as_slice(), &mut output),
         Err(WordsError::Memory) => Err(Refusal::Memory),
         Err(WordsError::NotUtf8(number)) => {
             let _ = eprintln!(rt; "word {number}: not UTF-8; use --specs-first");
@@ -91,7 +111,9 @@ fn main(rt: HostRuntime) -> ExitCode {
         }
     };
     if let Err(refusal) = &ended {
-        let _ = eprintln!(rt; "{refusal}");
+        if !output.is_closed {
+            let _ = eprintln!(rt; "{refusal}");
+        }
     }
     ExitCode::from(exit_status(&ended))
 }

@@ -118,7 +118,7 @@ fn outcome(alloc: Global) -> Result<Outcome, Fail> {
 }
 
 /// Whether an outcome has these states.
-fn has_states(found: &Outcome, want: &[StateRef<'_>]) -> bool {
+pub(super) fn has_states(found: &Outcome, want: &[StateRef<'_>]) -> bool {
     for (place, state) in want.iter().enumerate() {
         if place >= found.len() || found.state(place) != *state {
             return false;

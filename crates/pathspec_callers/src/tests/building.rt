@@ -1,8 +1,6 @@
 //! Searches that are made of specs, and specs that make none.
-use crate::tests::look_ups::Marks;
 use crate::tests::support::{Row, assert_each, build, build_from, pattern_of, search_of};
 use bstr::{BStr, BString};
-use gix_pathspec::search::{MatchKind, MatchPlace};
 use gix_pathspec::{BuildError, Error, MagicSignature, Pattern, Search, SearchMode};
 use std::alloc::Global;
 use std::test::Fail;
@@ -72,7 +70,7 @@ fn no_specs_stand_for_the_prefix(rt: HostRuntime) -> Result<(), Fail> {
 }
 
 /// Whether two searches are of equal specs, and come from the same place.
-fn are_same(search: &Search, other: &Search) -> bool {
+pub(super) fn are_same(search: &Search, other: &Search) -> bool {
     for (pattern, other) in search.patterns().zip(other.patterns()) {
         if pattern != other {
             return false;
@@ -82,7 +80,7 @@ fn are_same(search: &Search, other: &Search) -> bool {
 }
 
 /// A clone, or the error.
-fn clone_of(alloc: Global, search: &Search) -> Result<Box<Search>, Error> {
+pub(super) fn clone_of(alloc: Global, search: &Search) -> Result<Box<Search>, Error> {
     match Box::new(alloc, search.try_clone()?) {
         Ok(copy) => Ok(copy),
         Err(_) => Err(Error::Memory),
@@ -113,50 +111,5 @@ fn ten_thousand_specs_make_a_search(rt: HostRuntime) -> Result<(), Fail> {
     let search = build_from(rt.alloc(), many(rt.alloc(), 10_000)?, "")??;
     assert!(rt; search.patterns().len() == 10_000);
     assert!(rt; search.common_prefix() == BStr::new(b"a/b"));
-    Ok(())
-}
-
-/// The search of some specs, or the first error.
-fn some(alloc: Global) -> Result<Box<Search>, BuildError> {
-    let mut patterns = Vec::new(alloc);
-    for text in [":!(attr:b)a/b", "a", "a/b", "a/*.c", ":(icase)A/B", "a/b"] {
-        match pattern_of(alloc, text) {
-            Ok(pattern) => patterns.push(pattern)?,
-            Err(error) => return Err(BuildError::Spec(0, error)),
-        }
-    }
-    let search = Search::from_specs(alloc, patterns, None, BStr::new(b"/r"))?;
-    Ok(Box::new(alloc, search)?)
-}
-
-/// Whether the search answers of a path that its second spec matches, by one question.
-fn answers(search: &mut Search) -> Result<bool, Fail> {
-    let found = search.find_match(BStr::new(b"a/x.c"), Some(false), &mut Marks::new())?;
-    let want = MatchPlace::Spec {
-        place: 1,
-        kind: MatchKind::Prefix,
-    };
-    Ok(found == Some(want) && search.last_tested() == 1)
-}
-
-/// Whether a clone answers as the search does, or memory ran out and the search answers still.
-fn is_cloned(alloc: Global, mut search: Box<Search>) -> Result<bool, Fail> {
-    let copy = clone_of(alloc, &search);
-    let answered = answers(&mut search)?;
-    match copy {
-        Ok(mut copy) => Ok(answered && are_same(&copy, &search) && answers(&mut copy)?),
-        Err(error) => Ok(answered && matches!(&error, Error::Memory)),
-    }
-}
-
-#[test]
-fn a_refused_growth_makes_no_search_and_leaves_the_one_that_is_cloned(
-    rt: HostRuntime,
-) -> Result<(), Fail> {
-    match some(rt.alloc()) {
-        Ok(search) => assert!(rt; is_cloned(rt.alloc(), search)?),
-        Err(BuildError::Memory) => {}
-        Err(BuildError::Spec(_, error)) => assert!(rt; matches!(&error, Error::Memory)),
-    }
     Ok(())
 }

@@ -117,7 +117,7 @@ impl SetVariables {
 }
 
 /// The environment that is read where these variables are set, and how many of them were asked for.
-fn read(alloc: Global, variables: Variables) -> (Result<Environment, Refusal>, usize) {
+pub(super) fn read(alloc: Global, variables: Variables) -> (Result<Environment, Refusal>, usize) {
     let mut set = SetVariables {
         alloc,
         variables,

@@ -353,9 +353,9 @@ fn without_case_brackets_hold_either_form(rt: HostRuntime) -> Result<(), Fail> {
 
 /// How many question marks a glob has, which takes as many bytes and no more.
 #[derive(Clone, Copy)]
-struct Questions(usize);
+struct QuestionMarks(usize);
 
-impl Row for Questions {
+impl Row for QuestionMarks {
     fn holds(&self, alloc: Global) -> Result<bool, Fail> {
         let pattern = "?".repeat(alloc, self.0)?;
         let mut text = "a".repeat(alloc, self.0)?;
@@ -368,15 +368,15 @@ impl Row for Questions {
 
 #[test]
 fn long_globs_take_each_byte(rt: HostRuntime) -> Result<(), Fail> {
-    const ROWS: &[Questions] = &[
-        Questions(0),
-        Questions(1),
-        Questions(63),
-        Questions(64),
-        Questions(65),
-        Questions(127),
-        Questions(128),
-        Questions(129),
+    const ROWS: &[QuestionMarks] = &[
+        QuestionMarks(0),
+        QuestionMarks(1),
+        QuestionMarks(63),
+        QuestionMarks(64),
+        QuestionMarks(65),
+        QuestionMarks(127),
+        QuestionMarks(128),
+        QuestionMarks(129),
     ];
     assert_each(&rt, rt.alloc(), ROWS)
 }
@@ -633,34 +633,6 @@ fn chains_of_double_stars_stand_for_nothing(rt: HostRuntime) -> Result<(), Fail>
         Chain(63),
         Chain(64),
         Chain(65),
-    ];
-    assert_each(&rt, rt.alloc(), ROWS)
-}
-
-/// A pattern, a text, and whether they match, where memory doesn't run out.
-#[derive(Clone, Copy)]
-struct IfThereIsMemory(&'static str, &'static str, bool);
-
-impl Row for IfThereIsMemory {
-    fn holds(&self, alloc: Global) -> Result<bool, Fail> {
-        let IfThereIsMemory(pattern, text, want) = self;
-        match answer(alloc, Shell, Sensitive, pattern, text.as_bytes()) {
-            Ok(told) => Ok(told.0 == *want),
-            Err(_) => Ok(true),
-        }
-    }
-}
-
-#[test]
-fn a_refused_growth_changes_no_answer(rt: HostRuntime) -> Result<(), Fail> {
-    const ROWS: &[IfThereIsMemory] = &[
-        IfThereIsMemory("a*[!b-d]?[x]*e", "abcxe", false),
-        IfThereIsMemory("a*[!b-d]?[x]*e", "abeexe", true),
-        IfThereIsMemory(
-            "*aaaaaaaaaaaaaaaaaaaaaaaaaaaaaaaaaaaaaaaaaaaaaaaaaaaaaaaaaaaaaaaa*b",
-            "aaaaaaaaaaaaaaaaaaaaaaaaaaaaaaaaaaaaaaaaaaaaaaaaaaaaaaaaaaaaaaaab",
-            true,
-        ),
     ];
     assert_each(&rt, rt.alloc(), ROWS)
 }

@@ -4,8 +4,8 @@ use crate::tests::support::{Row, UNSET, USAGE, Variables, assert_each, is_told, 
 use bstr::BStr;
 use gix_pathspec::parse;
 use pathspec_parts::attributes::{Outcome, StateRef};
-use pathspec_select::{Job, Refusal};
-use std::alloc::{AllocError, Global};
+use pathspec_select::Job;
+use std::alloc::Global;
 use std::test::Fail;
 
 /// Words, variables, and the status and the line of their refusal.
@@ -207,18 +207,4 @@ fn rows_assign_in_their_order(rt: HostRuntime) -> Result<(), Fail> {
         StateAt("--attr x a", "x", "b", StateRef::Unspecified),
     ];
     assert_each(&rt, rt.alloc(), ROWS)
-}
-
-/// Whether the words of a line ask for a job, or memory ran out.
-fn asks(alloc: Global, line: &str) -> Result<bool, AllocError> {
-    match job_of(alloc, line, UNSET)? {
-        Ok(_) => Ok(true),
-        Err(refusal) => Ok(refusal == Refusal::Memory),
-    }
-}
-
-#[test]
-fn a_refused_growth_tells_that_memory_ran_out(rt: HostRuntime) -> Result<(), AllocError> {
-    assert!(rt; asks(rt.alloc(), "-z --attr x a --prefix d b :!c")?);
-    Ok(())
 }

@@ -3,10 +3,10 @@ use crate::lines::{LinesError, search_of_file};
 use crate::tests::look_ups::Marks;
 use crate::tests::support::{Row, assert_each};
 use bstr::{BStr, BString};
-use gix_pathspec::search::{MatchKind, MatchPlace};
+use gix_pathspec::search::MatchKind;
 use gix_pathspec::{BuildError, Defaults, Search};
 use pathspec_parts::path::is_clean_prefix;
-use std::alloc::{AllocError, Global};
+use std::alloc::Global;
 use std::test::Fail;
 
 /// What is built from the lines of a text, which comes from `f` and is given in this directory of a repository at `/r`.
@@ -176,31 +176,4 @@ fn the_line_at_fault_is_reported(rt: HostRuntime) -> Result<(), Fail> {
         Reported(b"a\n../b", b"specs:2: LeavesRepository"),
     ];
     assert_each(&rt, rt.alloc(), ROWS)
-}
-
-/// Whether the lines of a text make a search that answers, or memory ran out.
-fn answers(alloc: Global) -> Result<bool, AllocError> {
-    let (source, top) = (BStr::new(b"f"), BStr::new(b""));
-    const TEXT: &[u8] = b":(top,icase,attr:a=x\\,y)p/\n../c\n";
-    let prefix = Some(BStr::new(b"a/b"));
-    let mut search = match Search::from_lines(
-        alloc,
-        TEXT,
-        source,
-        Defaults::default(),
-        prefix,
-        top,
-    ) {
-        Ok(search) => Box::new(alloc, search)?,
-        Err(error) => return Ok(error == BuildError::Memory),
-    };
-    let found = search.find_match(BStr::new(b"a/c"), Some(false), &mut Marks::new());
-    let (place, kind) = (1, MatchKind::Verbatim);
-    Ok(found == Ok(Some(MatchPlace::Spec { place, kind })))
-}
-
-#[test]
-fn a_refused_growth_tells_that_memory_ran_out(rt: HostRuntime) -> Result<(), AllocError> {
-    assert!(rt; answers(rt.alloc())?);
-    Ok(())
 }

@@ -107,15 +107,3 @@ fn the_first_bad_record_is_told(rt: HostRuntime) -> Result<(), Fail> {
     ];
     assert_each(&rt, rt.alloc(), ROWS)
 }
-
-/// How many entries a listing has.
-fn count(alloc: Global) -> Result<usize, ListingError> {
-    Ok(read(alloc, b"a/b/c\na/d\ne/\n", b'\n')?.tree().len())
-}
-
-#[test]
-fn a_refused_growth_leaves_the_bytes(rt: HostRuntime) {
-    let (first, second) = (count(rt.alloc()), count(rt.alloc()));
-    assert!(rt; first == Ok(5) || first == Err(ListingError::Memory) && second == Ok(5));
-    assert!(rt; second == Ok(5) || second == Err(ListingError::Memory) && first == Ok(5));
-}

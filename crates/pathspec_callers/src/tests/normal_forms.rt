@@ -147,39 +147,3 @@ fn a_literal_colon_is_a_path(rt: HostRuntime) -> Result<(), Fail> {
     assert!(rt; is_normal(&pattern, "a/:", "a", false));
     Ok(())
 }
-
-/// A prefix, a root and a text. Of its pattern is made its normal form, or, where memory runs out, nothing.
-#[derive(Clone, Copy)]
-struct NormalOrAsBefore(&'static str, &'static str, &'static str);
-
-impl NormalOrAsBefore {
-    /// Whether a pattern is as its copy after a refused growth, and else isn't.
-    fn leaves(&self, pattern: &mut Pattern, before: &Pattern) -> bool {
-        match normalise(pattern, self.0, self.1) {
-            Ok(()) => *pattern != *before,
-            Err(error) => error.kind() == "Memory" && *pattern == *before,
-        }
-    }
-}
-
-impl Row for NormalOrAsBefore {
-    fn holds(&self, alloc: Global) -> Result<bool, Fail> {
-        let Ok(mut pattern) = pattern_of(alloc, self.2) else {
-            return Ok(true);
-        };
-        match pattern.try_clone() {
-            Ok(before) => Ok(self.leaves(&mut pattern, &before)),
-            Err(_) => Ok(true),
-        }
-    }
-}
-
-#[test]
-fn a_refused_growth_leaves_the_pattern(rt: HostRuntime) -> Result<(), Fail> {
-    const ROWS: &[NormalOrAsBefore] = &[
-        NormalOrAsBefore("a/b", "", ":(attr:gen -b !c d=v)../c"),
-        NormalOrAsBefore("a/b", "", ":(icase,exclude,attr:gen)../.."),
-        NormalOrAsBefore("", "/r", ":(glob,attr:gen)/r/a/*/"),
-    ];
-    assert_each(&rt, rt.alloc(), ROWS)
-}

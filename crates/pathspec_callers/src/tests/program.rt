@@ -553,21 +553,3 @@ fn a_failed_look_up_is_refused_and_leaves_the_job(rt: HostRuntime) -> Result<(),
     const ROWS: &[FailsAfter] = &[FailsAfter(0), FailsAfter(1), FailsAfter(2)];
     assert_each(&rt, rt.alloc(), ROWS)
 }
-
-/// Whether a run ends well, or for want of memory and without a byte written.
-fn runs(alloc: Global, line: &str, listing: &[u8]) -> Result<bool, AllocError> {
-    let mut written = Vec::with_capacity(alloc, 64)?;
-    match run_line(alloc, line, UNSET, listing, &mut written)? {
-        Ok(()) => Ok(true),
-        Err(refusal) => Ok(refusal == Refusal::Memory && written.is_empty()),
-    }
-}
-
-#[test]
-fn a_refused_growth_tells_that_memory_ran_out(rt: HostRuntime) -> Result<(), Fail> {
-    const LINE: &str = "--attr a/y g --prefix a :/b :!x :(attr:g)*";
-    const LISTING: &[u8] = b"a/x\na/y\nb/\nb\n";
-    assert!(rt; runs(rt.alloc(), LINE, LISTING)?);
-    assert!(rt; writes(rt.alloc(), LINE, UNSET, LISTING, b"a/y\nb/\nb\n")?);
-    Ok(())
-}

@@ -252,18 +252,3 @@ fn specs_may_be_many_or_long(rt: HostRuntime) -> Result<(), Fail> {
     ];
     assert_each(&rt, rt.alloc(), ROWS)
 }
-
-/// Whether a run ends well, or for want of memory and without a byte written.
-fn runs(alloc: Global, input: &[u8]) -> Result<bool, Fail> {
-    let mut written = Vec::with_capacity(alloc, 64)?;
-    match run_line(alloc, "--specs-first f", UNSET, input, &mut written)? {
-        Ok(()) => Ok(true),
-        Err(refusal) => Ok(refusal == Refusal::Memory && written.is_empty()),
-    }
-}
-
-#[test]
-fn a_refused_growth_tells_that_memory_ran_out(rt: HostRuntime) -> Result<(), Fail> {
-    assert!(rt; runs(rt.alloc(), b"a\n:!a/x\n--\na/x\na/y\nb\n")?);
-    Ok(())
-}

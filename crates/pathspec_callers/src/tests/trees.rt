@@ -162,27 +162,3 @@ fn errors_have_texts(rt: HostRuntime) -> Result<(), Fail> {
     ];
     assert_each(&rt, rt.alloc(), ROWS)
 }
-
-/// Whether a call that was refused for want of memory left the tree, and goes the second time.
-fn goes_again(tree: &mut Tree, call: Call) -> bool {
-    let len = tree.len();
-    match make(tree, call) {
-        Ok(()) => true,
-        Err(error) => {
-            error == TreeError::Memory && tree.len() == len && make(tree, call).is_ok()
-        }
-    }
-}
-
-#[test]
-fn a_refused_growth_leaves_the_tree(rt: HostRuntime) -> Result<(), Fail> {
-    let mut tree = Tree::new(rt.alloc());
-    for call in CALLS {
-        assert!(rt; goes_again(&mut tree, *call));
-    }
-    let first = Cursor::new(rt.alloc(), &tree).is_ok();
-    let second = Cursor::new(rt.alloc(), &tree).is_ok();
-    assert!(rt; first || second);
-    assert_eq!(rt; tree.len(), 7);
-    Ok(())
-}

@@ -141,21 +141,3 @@ fn errors_of_a_walk_have_a_text_each(rt: HostRuntime) -> Result<(), Fail> {
     ];
     assert_each(&rt, rt.alloc(), ROWS)
 }
-
-/// Whether a walk ends well, or for want of memory.
-fn walks(alloc: Global, tree: &Tree, search: &mut Search) -> Result<bool, Fail> {
-    let mut cursor = Cursor::new(alloc, tree)?;
-    match select(alloc, &mut cursor, search, &mut Marks::new()) {
-        Ok(_) | Err(SelectError::Memory) => Ok(true),
-        Err(SelectError::LookUp(_)) => Ok(false),
-    }
-}
-
-#[test]
-fn a_refused_growth_ends_a_walk_and_leaves_the_search(rt: HostRuntime) -> Result<(), Fail> {
-    let tree = tree_of(rt.alloc(), &["x", "a", "b/"])?;
-    let mut search = search_of(rt.alloc(), &["a*", ":!b"], "")?;
-    assert!(rt; walks(rt.alloc(), &tree, &mut search)?);
-    assert!(rt; is_walk(rt.alloc(), &tree, &mut search, &mut Marks::new(), &[1], &[])?);
-    Ok(())
-}

@@ -1,0 +1,557 @@
+//! Each growth refused in turn, of calls on globs, heads, attributes, stacks and trees.
+use crate::tests::attributes::{ask, has_states};
+use crate::tests::growths::{
+    Call, Changing, Ended, Making, NONE, assert_calls, end_of_changing, end_of_making, refuse,
+};
+use bstr::BStr;
+use gix_pathspec::parse;
+use pathspec_heads::places::PlacesByHead;
+use pathspec_heads::tables::{SpecStem, StemTable};
+use pathspec_parts::attributes::{Assignment, Case, Name, Outcome, StateRef};
+use pathspec_parts::glob::{Glob, Mode, Scratch};
+use pathspec_parts::path::Stack;
+use pathspec_parts::tree::{Cursor, Tree, TreeError};
+use pathspec_select::Rows;
+use std::alloc::{AllocError, Global};
+use std::test::Fail;
+
+/// The call that compiles a glob.
+#[derive(Clone, Copy)]
+struct Compile(&'static str, &'static str);
+
+impl Making for Compile {
+    type Given = ();
+
+    type Value = Glob;
+
+    type Fault = AllocError;
+
+    fn given(&self, _: Global) -> Result<(), Fail> {
+        Ok(())
+    }
+
+    fn make(&self, alloc: Global, _: ()) -> Result<Glob, AllocError> {
+        Glob::compile(alloc, self.0.as_bytes(), Mode::Shell)
+    }
+
+    fn is_same(&self, value: &Glob, other: &Glob) -> bool {
+        value.tokens() == other.tokens()
+    }
+}
+
+impl Call for Compile {
+    fn end(&self, alloc: Global, number: usize) -> Result<Ended, Fail> {
+        let ended = end_of_making(alloc, number, self)?;
+        let glob = Glob::compile(alloc, self.0.as_bytes(), Mode::Shell)?;
+        let mut scratch = Scratch::for_tokens(alloc, glob.tokens())?;
+        let matches = glob.fits(&scratch)
+            && glob.matches(self.1.as_bytes(), Case::Sensitive, &mut scratch);
+        Ok(if matches { ended } else { Ended::Wrong })
+    }
+}
+
+/// The call that makes the room for so many tokens.
+#[derive(Clone, Copy)]
+struct ForTokens(usize);
+
+impl Making for ForTokens {
+    type Given = ();
+
+    type Value = Scratch;
+
+    type Fault = AllocError;
+
+    fn given(&self, _: Global) -> Result<(), Fail> {
+        Ok(())
+    }
+
+    fn make(&self, alloc: Global, _: ()) -> Result<Scratch, AllocError> {
+        Scratch::for_tokens(alloc, self.0)
+    }
+
+    fn is_same(&self, value: &Scratch, other: &Scratch) -> bool {
+        value.total_steps() == 0 && other.total_steps() == 0
+    }
+}
+
+impl Call for ForTokens {
+    fn end(&self, alloc: Global, number: usize) -> Result<Ended, Fail> {
+        end_of_making(alloc, number, self)
+    }
+}
+
+#[test]
+fn a_glob_is_compiled_or_memory_ran_out(rt: HostRuntime) -> Result<(), Fail> {
+    const CALLS: &[Compile] = &[
+        Compile("a", "a"),
+        Compile("*.rs", "x.rs"),
+        Compile("a*[!b-d]?[x]*e", "abeexe"),
+        Compile("*[[:alpha:]]*\\*", "a*"),
+        Compile(
+            "*aaaaaaaaaaaaaaaaaaaaaaaaaaaaaaaaaaaaaaaaaaaaaaaaaaaaaaaaaaaaaaaa*b",
+            "aaaaaaaaaaaaaaaaaaaaaaaaaaaaaaaaaaaaaaaaaaaaaaaaaaaaaaaaaaaaaaaab",
+        ),
+    ];
+    assert_calls(&rt, rt.alloc(), CALLS)?;
+    assert_calls(
+        &rt,
+        rt.alloc(),
+        &[ForTokens(0), ForTokens(1), ForTokens(1000)],
+    )
+}
+
+/// Copies of these texts.
+fn copies(alloc: Global, texts: &[&str]) -> Result<Vec<Vec<u8>>, Fail> {
+    let mut copies = Vec::new(alloc);
+    for text in texts {
+        copies.push(Vec::from_slice(alloc, text.as_bytes())?)?;
+    }
+    Ok(copies)
+}
+
+/// The call that groups places by these heads.
+#[derive(Clone, Copy)]
+struct GroupPlaces(&'static [&'static str]);
+
+impl Making for GroupPlaces {
+    type Given = Vec<Vec<u8>>;
+
+    type Value = Option<usize>;
+
+    type Fault = AllocError;
+
+    fn given(&self, alloc: Global) -> Result<Vec<Vec<u8>>, Fail> {
+        copies(alloc, self.0)
+    }
+
+    fn make(&self, alloc: Global, given: Vec<Vec<u8>>) -> Result<Option<usize>, AllocError> {
+        let mut places = PlacesByHead::new(alloc, given)?;
+        Ok(crate::heads::first_place(&mut places, b"a/b/c"))
+    }
+
+    fn is_same(&self, value: &Option<usize>, other: &Option<usize>) -> bool {
+        value == other && value.is_some()
+    }
+}
+
+impl Call for GroupPlaces {
+    fn end(&self, alloc: Global, number: usize) -> Result<Ended, Fail> {
+        end_of_making(alloc, number, self)
+    }
+}
+
+/// The call that makes a table of stems.
+#[derive(Clone, Copy)]
+struct NewTable;
+
+impl Making for NewTable {
+    type Given = ();
+
+    type Value = StemTable;
+
+    type Fault = AllocError;
+
+    fn given(&self, _: Global) -> Result<(), Fail> {
+        Ok(())
+    }
+
+    fn make(&self, alloc: Global, _: ()) -> Result<StemTable, AllocError> {
+        let stem = SpecStem {
+            text: b"Src",
+            ignores_case: false,
+            has_wildcard: false,
+            wants_directory: false,
+        };
+        let folded = SpecStem {
+            text: b"Doc",
+            ignores_case: true,
+            has_wildcard: true,
+            wants_directory: false,
+        };
+        StemTable::new(alloc, &[stem, folded])
+    }
+
+    fn is_same(&self, value: &StemTable, other: &StemTable) -> bool {
+        for path in [b"Src/a".as_slice(), b"dOCs", b"x"] {
+            if value.reaches(path, None) != other.reaches(path, None) {
+                return false;
+            }
+        }
+        value.reaches(b"dOCs", None) && !value.reaches(b"src", None)
+    }
+}
+
+impl Call for NewTable {
+    fn end(&self, alloc: Global, number: usize) -> Result<Ended, Fail> {
+        end_of_making(alloc, number, self)
+    }
+}
+
+#[test]
+fn heads_and_stems_are_sorted_or_memory_ran_out(rt: HostRuntime) -> Result<(), Fail> {
+    const CALLS: &[GroupPlaces] = &[
+        GroupPlaces(&["x", "a", "a/b", "a", "", "a/"]),
+        GroupPlaces(&[""]),
+    ];
+    assert_calls(&rt, rt.alloc(), CALLS)?;
+    assert_calls(&rt, rt.alloc(), &[NewTable])
+}
+
+/// A call that copies an assignment or a part of it.
+#[derive(Clone, Copy)]
+enum CopyCall {
+    Name,
+    CloneName,
+    CloneState,
+    ToState,
+    CloneAssignment,
+}
+
+/// The assignment of a list of one.
+fn first_of(alloc: Global, list: &[u8]) -> Result<Assignment, Fail> {
+    let mut listed = parse::attributes(alloc, list)?;
+    Ok(listed.pop().ok_or("no assignment")?)
+}
+
+impl Making for CopyCall {
+    type Given = Assignment;
+
+    type Value = Assignment;
+
+    type Fault = AllocError;
+
+    fn given(&self, alloc: Global) -> Result<Assignment, Fail> {
+        first_of(alloc, b"name=value")
+    }
+
+    fn make(&self, alloc: Global, given: Assignment) -> Result<Assignment, AllocError> {
+        let Assignment { name, state } = given;
+        match self {
+            CopyCall::Name => {
+                let copy = Name::from_bytes(alloc, b"name")?;
+                Ok(Assignment {
+                    name: copy.unwrap_or(name),
+                    state,
+                })
+            }
+            CopyCall::CloneName => Ok(Assignment {
+                name: name.try_clone()?,
+                state,
+            }),
+            CopyCall::CloneState => Ok(Assignment {
+                name,
+                state: state.try_clone()?,
+            }),
+            CopyCall::ToState => Ok(Assignment {
+                name,
+                state: state.as_ref().to_state(alloc)?,
+            }),
+            CopyCall::CloneAssignment => Assignment { name, state }.try_clone(),
+        }
+    }
+
+    fn is_same(&self, value: &Assignment, other: &Assignment) -> bool {
+        value == other
+    }
+}
+
+impl Call for CopyCall {
+    fn end(&self, alloc: Global, number: usize) -> Result<Ended, Fail> {
+        end_of_making(alloc, number, self)
+    }
+}
+
+#[test]
+fn an_assignment_is_copied_or_memory_ran_out(rt: HostRuntime) -> Result<(), Fail> {
+    const CALLS: &[CopyCall] = &[
+        CopyCall::Name,
+        CopyCall::CloneName,
+        CopyCall::CloneState,
+        CopyCall::ToState,
+        CopyCall::CloneAssignment,
+    ];
+    assert_calls(&rt, rt.alloc(), CALLS)
+}
+
+/// An outcome for a list of attributes, in which `b` has a value.
+fn outcome(alloc: Global) -> Result<Outcome, Fail> {
+    let listed = parse::attributes(alloc, b"a b a c")?;
+    let mut outcome = Outcome::for_assignments(alloc, &listed)?;
+    outcome.set(b"b", StateRef::Value(b"old"))?;
+    Ok(outcome)
+}
+
+/// Whether two outcomes have the same names and states.
+fn are_same_outcomes(outcome: &Outcome, other: &Outcome) -> bool {
+    if outcome.len() != other.len() {
+        return false;
+    }
+    for place in 0..outcome.len() {
+        let is_same_name = outcome.name(place) == other.name(place);
+        if !is_same_name || outcome.state(place) != other.state(place) {
+            return false;
+        }
+    }
+    true
+}
+
+/// The call that gives a name a state.
+#[derive(Clone, Copy)]
+struct Set(&'static str, StateRef<'static>);
+
+impl Changing for Set {
+    type Value = Outcome;
+
+    type Fault = AllocError;
+
+    fn before(&self, alloc: Global) -> Result<Outcome, Fail> {
+        outcome(alloc)
+    }
+
+    fn change(&self, value: &mut Outcome) -> Result<(), AllocError> {
+        value.set(self.0.as_bytes(), self.1)
+    }
+
+    fn is_same(&self, _: Global, value: &Outcome, other: &Outcome) -> Result<bool, Fail> {
+        Ok(are_same_outcomes(value, other))
+    }
+}
+
+impl Call for Set {
+    fn end(&self, alloc: Global, number: usize) -> Result<Ended, Fail> {
+        end_of_changing(alloc, number, self)
+    }
+}
+
+/// The call that makes an outcome.
+#[derive(Clone, Copy)]
+struct ForAssignments;
+
+impl Making for ForAssignments {
+    type Given = Vec<Assignment>;
+
+    type Value = Outcome;
+
+    type Fault = AllocError;
+
+    fn given(&self, alloc: Global) -> Result<Vec<Assignment>, Fail> {
+        Ok(parse::attributes(alloc, b"a b=x a")?)
+    }
+
+    fn make(&self, alloc: Global, given: Vec<Assignment>) -> Result<Outcome, AllocError> {
+        Outcome::for_assignments(alloc, &given)
+    }
+
+    fn is_same(&self, value: &Outcome, other: &Outcome) -> bool {
+        are_same_outcomes(value, other)
+    }
+}
+
+impl Call for ForAssignments {
+    fn end(&self, alloc: Global, number: usize) -> Result<Ended, Fail> {
+        end_of_making(alloc, number, self)
+    }
+}
+
+#[test]
+fn an_outcome_is_set_or_as_before(rt: HostRuntime) -> Result<(), Fail> {
+    const CALLS: &[Set] = &[
+        Set("a", StateRef::Value(b"new")),
+        Set("b", StateRef::Value(b"new")),
+        Set("b", StateRef::Unset),
+        Set("x", StateRef::Value(b"new")),
+    ];
+    assert_calls(&rt, rt.alloc(), CALLS)?;
+    assert_calls(&rt, rt.alloc(), &[ForAssignments])
+}
+
+/// The call that puts a component on a stack of so many.
+#[derive(Clone, Copy)]
+struct Push(usize);
+
+impl Changing for Push {
+    type Value = Stack<'static>;
+
+    type Fault = AllocError;
+
+    fn before(&self, alloc: Global) -> Result<Stack<'static>, Fail> {
+        let mut stack = Stack::new(alloc);
+        for _ in 0..self.0 {
+            stack.push(BStr::new(b"a"))?;
+        }
+        Ok(stack)
+    }
+
+    fn change(&self, value: &mut Stack<'static>) -> Result<(), AllocError> {
+        value.push(BStr::new(b"b"))
+    }
+
+    fn is_same(
+        &self,
+        _: Global,
+        value: &Stack<'static>,
+        other: &Stack<'static>,
+    ) -> Result<bool, Fail> {
+        for index in 0..value.len().max(other.len()) {
+            if value.get(index) != other.get(index) {
+                return Ok(false);
+            }
+        }
+        Ok(value.least() == other.least())
+    }
+}
+
+impl Call for Push {
+    fn end(&self, alloc: Global, number: usize) -> Result<Ended, Fail> {
+        end_of_changing(alloc, number, self)
+    }
+}
+
+#[test]
+fn a_stack_is_pushed_on_or_as_before(rt: HostRuntime) -> Result<(), Fail> {
+    const CALLS: &[Push] = &[Push(0), Push(1), Push(3), Push(4), Push(8), Push(1000)];
+    assert_calls(&rt, rt.alloc(), CALLS)
+}
+
+/// Whether a walk that enters all comes to the same entries of two trees.
+fn has_same_entries(alloc: Global, tree: &Tree, other: &Tree) -> Result<bool, Fail> {
+    let mut cursor = Cursor::new(alloc, tree)?;
+    let mut other = Cursor::new(alloc, other)?;
+    for _ in 0..tree.len() {
+        let is_there = cursor.next().is_some() && other.next().is_some();
+        if !is_there || cursor.path() != other.path() || cursor.enter() != other.enter() {
+            return Ok(false);
+        }
+    }
+    Ok(cursor.next().is_none() && other.next().is_none())
+}
+
+/// A call that adds an entry behind so many files of a directory.
+#[derive(Clone, Copy)]
+enum AddCall {
+    Open(usize),
+    File(usize),
+}
+
+impl Changing for AddCall {
+    type Value = Tree;
+
+    type Fault = TreeError;
+
+    fn before(&self, alloc: Global) -> Result<Tree, Fail> {
+        let mut tree = Tree::new(alloc);
+        let (AddCall::Open(count) | AddCall::File(count)) = self;
+        if *count > 0 {
+            tree.open(b"directory")?;
+        }
+        for _ in 0..*count {
+            tree.file(b"file")?;
+        }
+        Ok(tree)
+    }
+
+    fn change(&self, value: &mut Tree) -> Result<(), TreeError> {
+        match self {
+            AddCall::Open(_) => value.open(b"a long name of a directory"),
+            AddCall::File(_) => value.file(b"a long name of a file"),
+        }
+    }
+
+    fn is_same(&self, alloc: Global, value: &Tree, other: &Tree) -> Result<bool, Fail> {
+        has_same_entries(alloc, value, other)
+    }
+}
+
+impl Call for AddCall {
+    fn end(&self, alloc: Global, number: usize) -> Result<Ended, Fail> {
+        end_of_changing(alloc, number, self)
+    }
+}
+
+#[test]
+fn an_entry_is_added_or_the_tree_is_as_before(rt: HostRuntime) -> Result<(), Fail> {
+    const CALLS: &[AddCall] = &[
+        AddCall::Open(0),
+        AddCall::Open(2),
+        AddCall::Open(4),
+        AddCall::File(0),
+        AddCall::File(1),
+        AddCall::File(7),
+    ];
+    assert_calls(&rt, rt.alloc(), CALLS)
+}
+
+/// The call that makes a cursor.
+#[derive(Clone, Copy)]
+struct NewCursor;
+
+impl Call for NewCursor {
+    fn end(&self, alloc: Global, number: usize) -> Result<Ended, Fail> {
+        let tree = AddCall::Open(3).before(alloc)?;
+        refuse(alloc, number);
+        let answer = Cursor::new(alloc, &tree);
+        refuse(alloc, NONE);
+        let is_whole = has_same_entries(alloc, &tree, &tree)? && tree.len() == 4;
+        Ok(match answer {
+            Ok(cursor) => Ended::answered(is_whole && cursor.is_new()),
+            Err(AllocError) => Ended::refused(is_whole),
+        })
+    }
+}
+
+#[test]
+fn a_cursor_is_made_or_memory_ran_out(rt: HostRuntime) -> Result<(), Fail> {
+    assert_calls(&rt, rt.alloc(), &[NewCursor])
+}
+
+/// Whether rows give the attribute `a` of a path this value, or none.
+fn gives(
+    alloc: Global,
+    rows: &mut Rows,
+    path: &str,
+    value: Option<&'static [u8]>,
+) -> Result<bool, Fail> {
+    let listed = parse::attributes(alloc, b"a")?;
+    let mut outcome = Outcome::for_assignments(alloc, &listed)?;
+    ask(rows, path, &mut outcome)?;
+    let state = match value {
+        Some(value) => StateRef::Value(value),
+        None => StateRef::Unspecified,
+    };
+    Ok(has_states(&outcome, &[state]))
+}
+
+/// The call that adds a row behind so many.
+#[derive(Clone, Copy)]
+struct PushRow(usize);
+
+impl Call for PushRow {
+    fn end(&self, alloc: Global, number: usize) -> Result<Ended, Fail> {
+        let mut rows = Rows::new(alloc);
+        for _ in 0..self.0 {
+            rows.push(b"y", parse::attributes(alloc, b"a=y")?)?;
+        }
+        let listed = parse::attributes(alloc, b"a=x")?;
+        refuse(alloc, number);
+        let answer = rows.push(b"x", listed);
+        refuse(alloc, NONE);
+        let others = if self.0 > 0 {
+            Some(b"y".as_slice())
+        } else {
+            None
+        };
+        let stays = gives(alloc, &mut rows, "y", others)?;
+        if answer.is_ok() {
+            return Ok(Ended::answered(stays && gives(alloc, &mut rows, "x", Some(b"x"))?));
+        }
+        let is_left = gives(alloc, &mut rows, "x", None)?;
+        rows.push(b"x", parse::attributes(alloc, b"a=x")?)?;
+        let goes = gives(alloc, &mut rows, "x", Some(b"x"))?;
+        Ok(Ended::refused(stays && is_left && goes))
+    }
+}
+
+#[test]
+fn a_row_is_added_or_the_rows_are_as_before(rt: HostRuntime) -> Result<(), Fail> {
+    assert_calls(&rt, rt.alloc(), &[PushRow(0), PushRow(3), PushRow(4)])
+}
