@@ -11,6 +11,7 @@ mod growths;
 mod growths_of_parts;
 mod growths_of_runs;
 mod growths_of_specs;
+mod hostile;
 mod jobs;
 mod lines;
 mod listings;

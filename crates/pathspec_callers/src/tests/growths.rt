@@ -4,8 +4,8 @@
 //! Elsewhere it refuses none, and each call is made once.
 use gix_pathspec::{BuildError, Error};
 use pathspec_parts::tree::TreeError;
+use pathspec_select::Refusal;
 use pathspec_select::listing::ListingError;
-use pathspec_select::{Refusal, SelectError};
 use std::alloc::{AllocError, Global};
 use std::process::Abort;
 use std::test::Fail;
@@ -69,12 +69,6 @@ impl Memory for Refusal {
     }
 }
 
-impl<E> Memory for SelectError<E> {
-    fn is_memory(&self) -> bool {
-        matches!(self, SelectError::Memory)
-    }
-}
-
 /// How a call ended while one of its growths was refused.
 #[derive(Clone, Copy, PartialEq, Eq)]
 pub(super) enum Ended {
@@ -87,22 +81,9 @@ pub(super) enum Ended {
 }
 
 impl Ended {
-    /// The end of a call that answered, rightly or not.
-    pub(super) fn answered(is_right: bool) -> Ended {
-        if is_right {
-            Ended::Answered
-        } else {
-            Ended::Wrong
-        }
-    }
-
-    /// The end of a call that was refused, rightly or not.
-    pub(super) fn refused(is_right: bool) -> Ended {
-        if is_right {
-            Ended::Refused
-        } else {
-            Ended::Wrong
-        }
+    /// This end where all is right, and else a wrong one.
+    pub(super) fn if_right(self, is_right: bool) -> Ended {
+        if is_right { self } else { Ended::Wrong }
     }
 }
 
@@ -161,22 +142,28 @@ fn made<M: Making>(alloc: Global, making: &M) -> Result<M::Value, Fail> {
     }
 }
 
+/// The call that makes this.
+#[derive(Clone, Copy)]
+pub(super) struct Makes<M>(pub(super) M);
+
+impl<M: Making> Call for Makes<M> {
+    fn end(&self, alloc: Global, number: usize) -> Result<Ended, Fail> {
+        end_of_making(alloc, number, &self.0)
+    }
+}
+
 /// How a call ends that makes a value.
-pub(super) fn end_of_making<M: Making>(
-    alloc: Global,
-    number: usize,
-    making: &M,
-) -> Result<Ended, Fail> {
+fn end_of_making<M: Making>(alloc: Global, number: usize, making: &M) -> Result<Ended, Fail> {
     let want = made(alloc, making)?;
     let given = making.given(alloc)?;
     refuse(alloc, number);
     let answer = making.make(alloc, given);
     refuse(alloc, NONE);
     match answer {
-        Ok(value) => Ok(Ended::answered(making.is_same(&value, &want))),
+        Ok(value) => Ok(Ended::Answered.if_right(making.is_same(&value, &want))),
         Err(fault) => {
             let again = made(alloc, making)?;
-            Ok(Ended::refused(fault.is_memory() && making.is_same(&again, &want)))
+            Ok(Ended::Refused.if_right(fault.is_memory() && making.is_same(&again, &want)))
         }
     }
 }
@@ -201,12 +188,18 @@ pub(super) trait Changing {
     ) -> Result<bool, Fail>;
 }
 
+/// The call that changes this.
+#[derive(Clone, Copy)]
+pub(super) struct Changes<C>(pub(super) C);
+
+impl<C: Changing> Call for Changes<C> {
+    fn end(&self, alloc: Global, number: usize) -> Result<Ended, Fail> {
+        end_of_changing(alloc, number, &self.0)
+    }
+}
+
 /// How a call ends that changes a value.
-pub(super) fn end_of_changing<C: Changing>(
-    alloc: Global,
-    number: usize,
-    changing: &C,
-) -> Result<Ended, Fail> {
+fn end_of_changing<C: Changing>(alloc: Global, number: usize, changing: &C) -> Result<Ended, Fail> {
     let before = changing.before(alloc)?;
     let mut after = changing.before(alloc)?;
     let mut value = changing.before(alloc)?;
@@ -217,11 +210,11 @@ pub(super) fn end_of_changing<C: Changing>(
     let answer = changing.change(&mut value);
     refuse(alloc, NONE);
     match answer {
-        Ok(()) => Ok(Ended::answered(changing.is_same(alloc, &value, &after)?)),
+        Ok(()) => Ok(Ended::Answered.if_right(changing.is_same(alloc, &value, &after)?)),
         Err(fault) => {
             let stays = fault.is_memory() && changing.is_same(alloc, &value, &before)?;
             let goes = changing.change(&mut value).is_ok();
-            Ok(Ended::refused(stays && goes && changing.is_same(alloc, &value, &after)?))
+            Ok(Ended::Refused.if_right(stays && goes && changing.is_same(alloc, &value, &after)?))
         }
     }
 }

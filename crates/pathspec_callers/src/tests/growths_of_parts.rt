@@ -1,7 +1,7 @@
 //! Each growth refused in turn, of calls on globs, heads, attributes, stacks and trees.
 use crate::tests::attributes::{ask, has_states};
 use crate::tests::growths::{
-    Call, Changing, Ended, Making, NONE, assert_calls, end_of_changing, end_of_making, refuse,
+    Call, Changes, Changing, Ended, Makes, Making, NONE, assert_calls, refuse,
 };
 use bstr::BStr;
 use gix_pathspec::parse;
@@ -19,64 +19,50 @@ use std::test::Fail;
 #[derive(Clone, Copy)]
 struct Compile(&'static str, &'static str);
 
-impl Making for Compile {
-    type Given = ();
-
-    type Value = Glob;
-
-    type Fault = AllocError;
-
-    fn given(&self, _: Global) -> Result<(), Fail> {
-        Ok(())
-    }
-
-    fn make(&self, alloc: Global, _: ()) -> Result<Glob, AllocError> {
-        Glob::compile(alloc, self.0.as_bytes(), Mode::Shell)
-    }
-
-    fn is_same(&self, value: &Glob, other: &Glob) -> bool {
-        value.tokens() == other.tokens()
-    }
+/// Whether a glob matches a text.
+fn does_match(alloc: Global, glob: &Glob, text: &str) -> Result<bool, Fail> {
+    let mut scratch = Scratch::for_tokens(alloc, glob.tokens())?;
+    Ok(glob.fits(&scratch) && glob.matches(text.as_bytes(), Case::Sensitive, &mut scratch))
 }
 
 impl Call for Compile {
     fn end(&self, alloc: Global, number: usize) -> Result<Ended, Fail> {
-        let ended = end_of_making(alloc, number, self)?;
-        let glob = Glob::compile(alloc, self.0.as_bytes(), Mode::Shell)?;
-        let mut scratch = Scratch::for_tokens(alloc, glob.tokens())?;
-        let matches = glob.fits(&scratch)
-            && glob.matches(self.1.as_bytes(), Case::Sensitive, &mut scratch);
-        Ok(if matches { ended } else { Ended::Wrong })
+        let Compile(pattern, text) = self;
+        refuse(alloc, number);
+        let answer = Glob::compile(alloc, pattern.as_bytes(), Mode::Shell);
+        refuse(alloc, NONE);
+        match answer {
+            Ok(glob) => Ok(Ended::Answered.if_right(does_match(alloc, &glob, text)?)),
+            Err(AllocError) => {
+                let again = Glob::compile(alloc, pattern.as_bytes(), Mode::Shell)?;
+                Ok(Ended::Refused.if_right(does_match(alloc, &again, text)?))
+            }
+        }
     }
 }
 
-/// The call that makes the room for so many tokens.
+/// The call that makes the room for the matches of a glob.
 #[derive(Clone, Copy)]
-struct ForTokens(usize);
+struct ForTokens(&'static str);
 
 impl Making for ForTokens {
-    type Given = ();
+    type Given = Glob;
 
-    type Value = Scratch;
+    type Value = (Glob, Scratch);
 
     type Fault = AllocError;
 
-    fn given(&self, _: Global) -> Result<(), Fail> {
-        Ok(())
+    fn given(&self, alloc: Global) -> Result<Glob, Fail> {
+        Ok(Glob::compile(alloc, self.0.as_bytes(), Mode::Shell)?)
     }
 
-    fn make(&self, alloc: Global, _: ()) -> Result<Scratch, AllocError> {
-        Scratch::for_tokens(alloc, self.0)
+    fn make(&self, alloc: Global, given: Glob) -> Result<(Glob, Scratch), AllocError> {
+        let scratch = Scratch::for_tokens(alloc, given.tokens())?;
+        Ok((given, scratch))
     }
 
-    fn is_same(&self, value: &Scratch, other: &Scratch) -> bool {
-        value.total_steps() == 0 && other.total_steps() == 0
-    }
-}
-
-impl Call for ForTokens {
-    fn end(&self, alloc: Global, number: usize) -> Result<Ended, Fail> {
-        end_of_making(alloc, number, self)
+    fn is_same(&self, value: &(Glob, Scratch), other: &(Glob, Scratch)) -> bool {
+        value.0.fits(&value.1) && other.0.fits(&other.1)
     }
 }
 
@@ -96,7 +82,7 @@ fn a_glob_is_compiled_or_memory_ran_out(rt: HostRuntime) -> Result<(), Fail> {
     assert_calls(
         &rt,
         rt.alloc(),
-        &[ForTokens(0), ForTokens(1), ForTokens(1000)],
+        &[Makes(ForTokens("")), Makes(ForTokens("a*[b-d]*e"))],
     )
 }
 
@@ -131,12 +117,6 @@ impl Making for GroupPlaces {
 
     fn is_same(&self, value: &Option<usize>, other: &Option<usize>) -> bool {
         value == other && value.is_some()
-    }
-}
-
-impl Call for GroupPlaces {
-    fn end(&self, alloc: Global, number: usize) -> Result<Ended, Fail> {
-        end_of_making(alloc, number, self)
     }
 }
 
@@ -181,20 +161,14 @@ impl Making for NewTable {
     }
 }
 
-impl Call for NewTable {
-    fn end(&self, alloc: Global, number: usize) -> Result<Ended, Fail> {
-        end_of_making(alloc, number, self)
-    }
-}
-
 #[test]
 fn heads_and_stems_are_sorted_or_memory_ran_out(rt: HostRuntime) -> Result<(), Fail> {
-    const CALLS: &[GroupPlaces] = &[
-        GroupPlaces(&["x", "a", "a/b", "a", "", "a/"]),
-        GroupPlaces(&[""]),
+    const CALLS: &[Makes<GroupPlaces>] = &[
+        Makes(GroupPlaces(&["x", "a", "a/b", "a", "", "a/"])),
+        Makes(GroupPlaces(&[""])),
     ];
     assert_calls(&rt, rt.alloc(), CALLS)?;
-    assert_calls(&rt, rt.alloc(), &[NewTable])
+    assert_calls(&rt, rt.alloc(), &[Makes(NewTable)])
 }
 
 /// A call that copies an assignment or a part of it.
@@ -255,20 +229,14 @@ impl Making for CopyCall {
     }
 }
 
-impl Call for CopyCall {
-    fn end(&self, alloc: Global, number: usize) -> Result<Ended, Fail> {
-        end_of_making(alloc, number, self)
-    }
-}
-
 #[test]
 fn an_assignment_is_copied_or_memory_ran_out(rt: HostRuntime) -> Result<(), Fail> {
-    const CALLS: &[CopyCall] = &[
-        CopyCall::Name,
-        CopyCall::CloneName,
-        CopyCall::CloneState,
-        CopyCall::ToState,
-        CopyCall::CloneAssignment,
+    const CALLS: &[Makes<CopyCall>] = &[
+        Makes(CopyCall::Name),
+        Makes(CopyCall::CloneName),
+        Makes(CopyCall::CloneState),
+        Makes(CopyCall::ToState),
+        Makes(CopyCall::CloneAssignment),
     ];
     assert_calls(&rt, rt.alloc(), CALLS)
 }
@@ -317,12 +285,6 @@ impl Changing for Set {
     }
 }
 
-impl Call for Set {
-    fn end(&self, alloc: Global, number: usize) -> Result<Ended, Fail> {
-        end_of_changing(alloc, number, self)
-    }
-}
-
 /// The call that makes an outcome.
 #[derive(Clone, Copy)]
 struct ForAssignments;
@@ -347,22 +309,16 @@ impl Making for ForAssignments {
     }
 }
 
-impl Call for ForAssignments {
-    fn end(&self, alloc: Global, number: usize) -> Result<Ended, Fail> {
-        end_of_making(alloc, number, self)
-    }
-}
-
 #[test]
 fn an_outcome_is_set_or_as_before(rt: HostRuntime) -> Result<(), Fail> {
-    const CALLS: &[Set] = &[
-        Set("a", StateRef::Value(b"new")),
-        Set("b", StateRef::Value(b"new")),
-        Set("b", StateRef::Unset),
-        Set("x", StateRef::Value(b"new")),
+    const CALLS: &[Changes<Set>] = &[
+        Changes(Set("a", StateRef::Value(b"new"))),
+        Changes(Set("b", StateRef::Value(b"new"))),
+        Changes(Set("b", StateRef::Unset)),
+        Changes(Set("x", StateRef::Value(b"new"))),
     ];
     assert_calls(&rt, rt.alloc(), CALLS)?;
-    assert_calls(&rt, rt.alloc(), &[ForAssignments])
+    assert_calls(&rt, rt.alloc(), &[Makes(ForAssignments)])
 }
 
 /// The call that puts a component on a stack of so many.
@@ -401,15 +357,15 @@ impl Changing for Push {
     }
 }
 
-impl Call for Push {
-    fn end(&self, alloc: Global, number: usize) -> Result<Ended, Fail> {
-        end_of_changing(alloc, number, self)
-    }
-}
-
 #[test]
 fn a_stack_is_pushed_on_or_as_before(rt: HostRuntime) -> Result<(), Fail> {
-    const CALLS: &[Push] = &[Push(0), Push(1), Push(3), Push(4), Push(8), Push(1000)];
+    const CALLS: &[Changes<Push>] = &[
+        Changes(Push(0)),
+        Changes(Push(1)),
+        Changes(Push(4)),
+        Changes(Push(8)),
+        Changes(Push(1000)),
+    ];
     assert_calls(&rt, rt.alloc(), CALLS)
 }
 
@@ -462,21 +418,15 @@ impl Changing for AddCall {
     }
 }
 
-impl Call for AddCall {
-    fn end(&self, alloc: Global, number: usize) -> Result<Ended, Fail> {
-        end_of_changing(alloc, number, self)
-    }
-}
-
 #[test]
 fn an_entry_is_added_or_the_tree_is_as_before(rt: HostRuntime) -> Result<(), Fail> {
-    const CALLS: &[AddCall] = &[
-        AddCall::Open(0),
-        AddCall::Open(2),
-        AddCall::Open(4),
-        AddCall::File(0),
-        AddCall::File(1),
-        AddCall::File(7),
+    const CALLS: &[Changes<AddCall>] = &[
+        Changes(AddCall::Open(0)),
+        Changes(AddCall::Open(2)),
+        Changes(AddCall::Open(4)),
+        Changes(AddCall::File(0)),
+        Changes(AddCall::File(1)),
+        Changes(AddCall::File(7)),
     ];
     assert_calls(&rt, rt.alloc(), CALLS)
 }
@@ -493,8 +443,8 @@ impl Call for NewCursor {
         refuse(alloc, NONE);
         let is_whole = has_same_entries(alloc, &tree, &tree)? && tree.len() == 4;
         Ok(match answer {
-            Ok(cursor) => Ended::answered(is_whole && cursor.is_new()),
-            Err(AllocError) => Ended::refused(is_whole),
+            Ok(cursor) => Ended::Answered.if_right(is_whole && cursor.is_new()),
+            Err(AllocError) => Ended::Refused.if_right(is_whole),
         })
     }
 }
@@ -542,12 +492,12 @@ impl Call for PushRow {
         };
         let stays = gives(alloc, &mut rows, "y", others)?;
         if answer.is_ok() {
-            return Ok(Ended::answered(stays && gives(alloc, &mut rows, "x", Some(b"x"))?));
+            return Ok(Ended::Answered.if_right(stays && gives(alloc, &mut rows, "x", Some(b"x"))?));
         }
         let is_left = gives(alloc, &mut rows, "x", None)?;
         rows.push(b"x", parse::attributes(alloc, b"a=x")?)?;
         let goes = gives(alloc, &mut rows, "x", Some(b"x"))?;
-        Ok(Ended::refused(stays && is_left && goes))
+        Ok(Ended::Refused.if_right(stays && is_left && goes))
     }
 }
 

@@ -1,6 +1,6 @@
 //! Each growth refused in turn, of walks, listings, jobs and runs of the program.
 use crate::tests::environments::read;
-use crate::tests::growths::{Call, Ended, Making, NONE, assert_calls, end_of_making, refuse};
+use crate::tests::growths::{Call, Ended, Makes, Making, NONE, assert_calls, refuse};
 use crate::tests::look_ups::Marks;
 use crate::tests::support::{
     UNSET, Variables, are_same, environment_of, job_of, search_of, words_of,
@@ -31,10 +31,12 @@ impl Call for Select {
             Err(_) => false,
         };
         Ok(match answer {
-            Ok(given) => Ended::answered(is_whole && are_same(&given, self.1)),
-            Err(SelectError::Memory) => Ended::refused(is_whole),
+            Ok(given) => Ended::Answered.if_right(is_whole && are_same(&given, self.1)),
+            Err(SelectError::Memory) => Ended::Refused.if_right(is_whole),
             // The look-up of the tests takes memory, too.
-            Err(SelectError::LookUp(AllocError)) => Ended::refused(is_whole && marks.failed == 1),
+            Err(SelectError::LookUp(AllocError)) => Ended::Refused.if_right(
+                is_whole && marks.failed == 1,
+            ),
         })
     }
 }
@@ -73,19 +75,13 @@ impl Making for ReadListing {
     }
 }
 
-impl Call for ReadListing {
-    fn end(&self, alloc: Global, number: usize) -> Result<Ended, Fail> {
-        end_of_making(alloc, number, self)
-    }
-}
-
 #[test]
 fn a_listing_is_read_or_memory_ran_out(rt: HostRuntime) -> Result<(), Fail> {
-    const CALLS: &[ReadListing] = &[
-        ReadListing(b"", 0),
-        ReadListing(b"a/b/c\na/d\ne/\n", 5),
-        ReadListing(b"a/\na/b\nc/\nc/d\n", 4),
-        ReadListing(b"a\nb\nc\nd\ne\nf\ng\nh\ni\n", 9),
+    const CALLS: &[Makes<ReadListing>] = &[
+        Makes(ReadListing(b"", 0)),
+        Makes(ReadListing(b"a/b/c\na/d\ne/\n", 5)),
+        Makes(ReadListing(b"a/\na/b\nc/\nc/d\n", 4)),
+        Makes(ReadListing(b"a\nb\nc\nd\ne\nf\ng\nh\ni\n", 9)),
     ];
     assert_calls(&rt, rt.alloc(), CALLS)
 }
@@ -104,9 +100,9 @@ fn end_of_run(
 ) -> Ended {
     let goes_again = again.is_ok() && written_again == want;
     match answer {
-        Ok(()) => Ended::answered(goes_again && written == want),
+        Ok(()) => Ended::Answered.if_right(goes_again && written == want),
         Err(refusal) => {
-            Ended::refused(goes_again && refusal.status() == 6 && written.is_empty())
+            Ended::Refused.if_right(goes_again && refusal.status() == 6 && written.is_empty())
         }
     }
 }
@@ -215,8 +211,8 @@ impl Call for FromWords {
         refuse(alloc, NONE);
         let goes_again = Job::from_words(alloc, &words, &environment).is_ok();
         Ok(match answer {
-            Ok(_) => Ended::answered(goes_again),
-            Err(refusal) => Ended::refused(goes_again && refusal == Refusal::Memory),
+            Ok(_) => Ended::Answered.if_right(goes_again),
+            Err(refusal) => Ended::Refused.if_right(goes_again && refusal == Refusal::Memory),
         })
     }
 }
@@ -259,13 +255,7 @@ impl Making for ReadEnvironment {
     }
 }
 
-impl Call for ReadEnvironment {
-    fn end(&self, alloc: Global, number: usize) -> Result<Ended, Fail> {
-        end_of_making(alloc, number, self)
-    }
-}
-
 #[test]
 fn the_environment_is_read_or_memory_ran_out(rt: HostRuntime) -> Result<(), Fail> {
-    assert_calls(&rt, rt.alloc(), &[ReadEnvironment])
+    assert_calls(&rt, rt.alloc(), &[Makes(ReadEnvironment)])
 }

@@ -1,7 +1,7 @@
 //! Each growth refused in turn, of calls that read, write, normalise and build specs.
 use crate::tests::building::{are_same, clone_of};
 use crate::tests::growths::{
-    ALL, Call, Changing, Ended, Making, NONE, assert_calls, end_of_changing, end_of_making, refuse,
+    ALL, Call, Changes, Changing, Ended, Makes, Making, NONE, assert_calls, refuse,
 };
 use crate::tests::support::{build_from, pattern_of, search_of, text_of};
 use bstr::{BStr, BString};
@@ -53,19 +53,13 @@ impl Making for PatternCall {
     }
 }
 
-impl Call for PatternCall {
-    fn end(&self, alloc: Global, number: usize) -> Result<Ended, Fail> {
-        end_of_making(alloc, number, self)
-    }
-}
-
 #[test]
 fn a_pattern_is_made_or_memory_ran_out(rt: HostRuntime) -> Result<(), Fail> {
-    const CALLS: &[PatternCall] = &[
-        PatternCall::Parse,
-        PatternCall::FromBytes,
-        PatternCall::FromLiteral,
-        PatternCall::TryClone,
+    const CALLS: &[Makes<PatternCall>] = &[
+        Makes(PatternCall::Parse),
+        Makes(PatternCall::FromBytes),
+        Makes(PatternCall::FromLiteral),
+        Makes(PatternCall::TryClone),
     ];
     assert_calls(&rt, rt.alloc(), CALLS)
 }
@@ -124,24 +118,18 @@ impl Making for FaultCall {
     }
 }
 
-impl Call for FaultCall {
-    fn end(&self, alloc: Global, number: usize) -> Result<Ended, Fail> {
-        end_of_making(alloc, number, self)
-    }
-}
-
 #[test]
 fn a_fault_is_told_or_memory_ran_out(rt: HostRuntime) -> Result<(), Fail> {
-    const CALLS: &[FaultCall] = &[
-        FaultCall::Text(":(foo)x"),
-        FaultCall::Text(":(top"),
-        FaultCall::Text(":(attr:a=x\\)p"),
-        FaultCall::Text(":(attr:a b/c)p"),
-        FaultCall::Text(":(attr:a,attr:b)p"),
-        FaultCall::Text(":(prefix:9)a/b"),
-        FaultCall::Environment,
-        FaultCall::Normalize("../../x"),
-        FaultCall::Normalize("/q/x"),
+    const CALLS: &[Makes<FaultCall>] = &[
+        Makes(FaultCall::Text(":(foo)x")),
+        Makes(FaultCall::Text(":(top")),
+        Makes(FaultCall::Text(":(attr:a=x\\)p")),
+        Makes(FaultCall::Text(":(attr:a b/c)p")),
+        Makes(FaultCall::Text(":(attr:a,attr:b)p")),
+        Makes(FaultCall::Text(":(prefix:9)a/b")),
+        Makes(FaultCall::Environment),
+        Makes(FaultCall::Normalize("../../x")),
+        Makes(FaultCall::Normalize("/q/x")),
     ];
     assert_calls(&rt, rt.alloc(), CALLS)
 }
@@ -170,15 +158,9 @@ impl Making for LongText {
     }
 }
 
-impl Call for LongText {
-    fn end(&self, alloc: Global, number: usize) -> Result<Ended, Fail> {
-        end_of_making(alloc, number, self)
-    }
-}
-
 #[test]
 fn a_long_text_is_written_or_memory_ran_out(rt: HostRuntime) -> Result<(), Fail> {
-    assert_calls(&rt, rt.alloc(), &[LongText])
+    assert_calls(&rt, rt.alloc(), &[Makes(LongText)])
 }
 
 /// The call that reads a list of attributes.
@@ -205,15 +187,9 @@ impl Making for Attributes {
     }
 }
 
-impl Call for Attributes {
-    fn end(&self, alloc: Global, number: usize) -> Result<Ended, Fail> {
-        end_of_making(alloc, number, self)
-    }
-}
-
 #[test]
 fn a_list_of_attributes_is_read_or_memory_ran_out(rt: HostRuntime) -> Result<(), Fail> {
-    assert_calls(&rt, rt.alloc(), &[Attributes])
+    assert_calls(&rt, rt.alloc(), &[Makes(Attributes)])
 }
 
 /// The call that normalises the pattern of a text, given in the directory `a/b` of a repository at `/r`.
@@ -239,20 +215,14 @@ impl Changing for Normalize {
     }
 }
 
-impl Call for Normalize {
-    fn end(&self, alloc: Global, number: usize) -> Result<Ended, Fail> {
-        end_of_changing(alloc, number, self)
-    }
-}
-
 #[test]
 fn a_pattern_is_normalised_or_as_before(rt: HostRuntime) -> Result<(), Fail> {
-    const CALLS: &[Normalize] = &[
-        Normalize(TEXT),
-        Normalize("../c"),
-        Normalize(":(attr:gen -b !c d=v)../c"),
-        Normalize(":(icase,exclude,attr:gen)../.."),
-        Normalize(":(glob,attr:gen)/r/a/*/"),
+    const CALLS: &[Changes<Normalize>] = &[
+        Changes(Normalize(TEXT)),
+        Changes(Normalize("../c")),
+        Changes(Normalize(":(attr:gen -b !c d=v)../c")),
+        Changes(Normalize(":(icase,exclude,attr:gen)../..")),
+        Changes(Normalize(":(glob,attr:gen)/r/a/*/")),
     ];
     assert_calls(&rt, rt.alloc(), CALLS)
 }
@@ -300,18 +270,12 @@ impl Making for SearchCall {
     }
 }
 
-impl Call for SearchCall {
-    fn end(&self, alloc: Global, number: usize) -> Result<Ended, Fail> {
-        end_of_making(alloc, number, self)
-    }
-}
-
 #[test]
 fn a_search_is_built_or_memory_ran_out(rt: HostRuntime) -> Result<(), Fail> {
-    const CALLS: &[SearchCall] = &[
-        SearchCall::FromSpecs,
-        SearchCall::FromNoSpecs,
-        SearchCall::FromLines,
+    const CALLS: &[Makes<SearchCall>] = &[
+        Makes(SearchCall::FromSpecs),
+        Makes(SearchCall::FromNoSpecs),
+        Makes(SearchCall::FromLines),
     ];
     assert_calls(&rt, rt.alloc(), CALLS)
 }
@@ -330,8 +294,8 @@ impl Call for CloneSearch {
         let again = clone_of(alloc, &search)?;
         let is_same = are_same(&again, &search);
         match answer {
-            Ok(copy) => Ok(Ended::answered(is_same && are_same(&copy, &search))),
-            Err(error) => Ok(Ended::refused(is_same && error == Error::Memory)),
+            Ok(copy) => Ok(Ended::Answered.if_right(is_same && are_same(&copy, &search))),
+            Err(error) => Ok(Ended::Refused.if_right(is_same && error == Error::Memory)),
         }
     }
 }
@@ -391,7 +355,7 @@ impl Call for Asked {
         refuse(alloc, ALL);
         let answer = answers_of(&mut search, self.1, &mut rows);
         refuse(alloc, NONE);
-        Ok(Ended::answered(answer? == want))
+        Ok(Ended::Answered.if_right(answer? == want))
     }
 }
 
