@@ -241,6 +241,16 @@ many_stars : globbed Shell Sensitive (codes "a*a*a*b") (replicate 30 97) ≡ fal
 unfolding globbed
 many_stars = refl
 
+-- forty stars and `b` on forty `a`
+stars_alone : globbed Shell Sensitive (replicate 40 42 ++ 98 ∷ []) (replicate 40 97) ≡ false
+unfolding globbed
+stars_alone = refl
+
+-- ten times `a*`, and `b`, on twenty `a`
+letters_and_stars : globbed Shell Sensitive (codes "a*a*a*a*a*a*a*a*a*a*b") (replicate 20 97) ≡ false
+unfolding globbed
+letters_and_stars = refl
+
 questions_0 : globbed Shell Sensitive (replicate 0 63) (replicate 0 97) ≡ true
 unfolding globbed
 questions_0 = refl

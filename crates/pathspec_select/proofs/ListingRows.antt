@@ -48,3 +48,11 @@ implied_has_none = refl
 -- a file lies in no file of its name
 file_and_directory : map parts (listing_entries (codes "a" ∷ codes "a/b" ∷ [])) ≡ ((codes "a", false, []) ∷ (codes "a", true, []) ∷ (codes "a/b", false, (1 ∷ [])) ∷ [])
 file_and_directory = refl
+
+-- one record of five names: a directory is implied by each but the last
+deep_record : map parts (listing_entries (codes "a/a/a/a/a" ∷ []))
+    ≡ ((codes "a", true, []) ∷ (codes "a/a", true, (0 ∷ [])) ∷ (codes "a/a/a", true, (0 ∷ 1 ∷ [])) ∷ (codes "a/a/a/a", true, (0 ∷ 1 ∷ 2 ∷ [])) ∷ (codes "a/a/a/a/a", false, (0 ∷ 1 ∷ 2 ∷ 3 ∷ [])) ∷ [])
+deep_record = refl
+
+mark_of_deep_record : mark_at (marks_from [] (codes "a/a/a/a/a" ∷ [])) 4 ≡ Some (codes "a/a/a/a/a")
+mark_of_deep_record = refl

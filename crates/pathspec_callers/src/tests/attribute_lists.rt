@@ -1,107 +1,65 @@
 //! What lists of attributes say, and how they are refused.
-use crate::tests::support::{Row, assert_each, carries, carries_byte};
+use crate::tests::reading::is_fault;
+use crate::tests::support::{Row, assert_each};
+use gix_pathspec::Pattern;
 use gix_pathspec::parse::attributes;
-use pathspec_parts::attributes::{Assignment, StateRef};
 use std::alloc::Global;
 use std::test::Fail;
 
-/// A list, and the names and states that it says.
+/// A list, and the long text of a pattern with its attributes, or the fault of the list.
 #[derive(Clone, Copy)]
-struct Says(&'static str, &'static [(&'static str, StateRef<'static>)]);
+struct Says(&'static str, &'static [u8]);
 
 impl Row for Says {
     fn holds(&self, alloc: Global) -> Result<bool, Fail> {
-        let found = attributes(alloc, self.0.as_bytes())?;
-        for (place, (name, state)) in self.1.iter().enumerate() {
-            if !is_assigned(found.get(place), name, *state) {
-                return Ok(false);
+        match attributes(alloc, self.0.as_bytes()) {
+            Ok(found) => {
+                let mut pattern = Pattern::new(alloc);
+                pattern.attributes = found;
+                Ok(pattern.to_bstring()?.as_bytes() == self.1)
             }
+            Err(error) => Ok(is_fault(&error, self.1)),
         }
-        Ok(found.len() == self.1.len())
-    }
-}
-
-/// Whether an assignment is of this name and this state.
-fn is_assigned(found: Option<&Assignment>, name: &str, state: StateRef<'_>) -> bool {
-    match found {
-        Some(found) => {
-            found.name.as_bytes().as_bytes() == name.as_bytes() && found.state.as_ref() == state
-        }
-        None => false,
     }
 }
 
 #[test]
-#[rattlefmt::skip]
 fn parts_of_a_list_say_assignments(rt: HostRuntime) -> Result<(), Fail> {
     const ROWS: &[Says] = &[
-        Says("a -b !c d=v", &[("a", StateRef::Set), ("b", StateRef::Unset), ("c", StateRef::Unspecified), ("d", StateRef::Value(b"v"))]),
-        Says("  ", &[]),
-        Says(" a  b ", &[("a", StateRef::Set), ("b", StateRef::Set)]),
-        Says("a=x\\,y", &[("a", StateRef::Value(b"x,y"))]),
-        Says("a=\\x\\-\\_\\9", &[("a", StateRef::Value(b"x-_9"))]),
-        Says("a=one b=", &[("a", StateRef::Value(b"one")), ("b", StateRef::Value(b""))]),
-        Says("=v", &[("", StateRef::Value(b"v"))]),
-        Says("!", &[("", StateRef::Unspecified)]),
-        Says("-", &[("", StateRef::Unset)]),
-        Says("-1", &[("1", StateRef::Unset)]),
-        Says("a a", &[("a", StateRef::Set), ("a", StateRef::Set)]),
-        Says("A.b-c_9", &[("A.b-c_9", StateRef::Set)]),
+        Says("a -b !c d=v", b":(attr:a -b !c d=v)"),
+        Says("  ", b":()"),
+        Says(" a  b ", b":(attr:a b)"),
+        Says("a=x\\,y", b":(attr:a=x\\,y)"),
+        Says("a=\\x\\-\\_\\9", b":(attr:a=x-_9)"),
+        Says("a=one b=", b":(attr:a=one b=)"),
+        Says("=v", b":(attr:=v)"),
+        Says("!", b":(attr:!)"),
+        Says("-", b":(attr:-)"),
+        Says("-1", b":(attr:-1)"),
+        Says("a a", b":(attr:a a)"),
+        Says("A.b-c_9", b":(attr:A.b-c_9)"),
     ];
     assert_each(&rt, rt.alloc(), ROWS)
-}
-
-/// A list, the kind of its fault, and the byte that the fault carries.
-#[derive(Clone, Copy)]
-struct Fault(&'static str, &'static str, Option<u8>);
-
-impl Row for Fault {
-    fn holds(&self, alloc: Global) -> Result<bool, Fail> {
-        match attributes(alloc, self.0.as_bytes()) {
-            Ok(_) => Ok(false),
-            Err(error) => Ok(carries_byte(&error, self.1, self.2)),
-        }
-    }
 }
 
 #[test]
 fn the_first_part_at_fault_is_told(rt: HostRuntime) -> Result<(), Fail> {
-    const ROWS: &[Fault] = &[
-        Fault("", "EmptyAttributes", None),
-        Fault("a=b=c", "InvalidValueByte", Some(b'=')),
-        Fault("a=x\\\\", "InvalidValueByte", Some(b'\\')),
-        Fault("a=é", "InvalidValueByte", Some(195)),
-        Fault("a=. -", "InvalidValueByte", Some(b'.')),
-        Fault("b!=.", "InvalidValueByte", Some(b'.')),
-    ];
-    assert_each(&rt, rt.alloc(), ROWS)
-}
-
-/// A list, the kind of its fault, and the bytes that the fault carries.
-#[derive(Clone, Copy)]
-struct Refused(&'static str, &'static str, &'static str);
-
-impl Row for Refused {
-    fn holds(&self, alloc: Global) -> Result<bool, Fail> {
-        match attributes(alloc, self.0.as_bytes()) {
-            Ok(_) => Ok(false),
-            Err(error) => Ok(carries(&error, self.1, self.2.as_bytes())),
-        }
-    }
-}
-
-#[test]
-fn the_first_part_at_fault_is_told_with_its_bytes(rt: HostRuntime) -> Result<(), Fail> {
-    const ROWS: &[Refused] = &[
-        Refused("--1", "InvalidName", "-1"),
-        Refused("!a=b", "InvalidName", "a=b"),
-        Refused("!-a", "InvalidName", "-a"),
-        Refused("-x=\\", "InvalidName", "x=\\"),
-        Refused("b!=v", "InvalidName", "b!"),
-        Refused("a\tb", "InvalidName", "a\tb"),
-        Refused("a=x\\", "TrailingEscape", "x\\"),
-        Refused("a=x\\ b=.", "TrailingEscape", "x\\"),
-        Refused("a b! c=.", "InvalidName", "b!"),
+    const ROWS: &[Says] = &[
+        Says("", b"EmptyAttributes"),
+        Says("a=b=c", b"InvalidValueByte(=)"),
+        Says("a=x\\\\", b"InvalidValueByte(\\)"),
+        Says("a=é", b"InvalidValueByte(\xc3)"),
+        Says("a=. -", b"InvalidValueByte(.)"),
+        Says("b!=.", b"InvalidValueByte(.)"),
+        Says("--1", b"InvalidName(-1)"),
+        Says("!a=b", b"InvalidName(a=b)"),
+        Says("!-a", b"InvalidName(-a)"),
+        Says("-x=\\", b"InvalidName(x=\\)"),
+        Says("b!=v", b"InvalidName(b!)"),
+        Says("a\tb", b"InvalidName(a\tb)"),
+        Says("a=x\\", b"TrailingEscape(x\\)"),
+        Says("a=x\\ b=.", b"TrailingEscape(x\\)"),
+        Says("a b! c=.", b"InvalidName(b!)"),
     ];
     assert_each(&rt, rt.alloc(), ROWS)
 }

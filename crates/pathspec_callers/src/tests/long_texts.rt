@@ -1,44 +1,30 @@
 //! Rows on the long texts of specs.
-use crate::tests::support::{Row, assert_each, pattern_of};
+use crate::tests::reading::Reads;
+use crate::tests::support::assert_each;
 use gix_pathspec::{Defaults, Pattern};
-use std::alloc::Global;
 use std::test::Fail;
-
-/// A text, and the long text of its pattern, which is printed and reads back as the pattern.
-#[derive(Clone, Copy)]
-struct Long(&'static str, &'static str);
-
-impl Row for Long {
-    fn holds(&self, alloc: Global) -> Result<bool, Fail> {
-        let pattern = pattern_of(alloc, self.0)?;
-        let long = pattern.to_bstring()?;
-        let printed = pattern.to_string(alloc)?;
-        let again = Pattern::from_bytes(alloc, long.as_bytes(), Defaults::default())?;
-        Ok(long.as_bytes() == self.1.as_bytes() && printed.as_str() == self.1 && again == pattern)
-    }
-}
 
 #[test]
 #[rattlefmt::skip]
 fn long_texts_read_back(rt: HostRuntime) -> Result<(), Fail> {
-    const ROWS: &[Long] = &[
-        Long(":", ":"),
-        Long("::", ":()"),
-        Long(":!", ":(exclude)"),
-        Long(":/", ":(top)"),
-        Long("a//", ":()a//"),
-        Long(":(top,literal,icase,attr,exclude)some/path", ":(top,exclude,icase,literal)some/path"),
-        Long(":(glob,top,attr:a -b !c d=v)p/", ":(top,glob,attr:a -b !c d=v)p/"),
-        Long(":(attr:a=x\\,y)p", ":(attr:a=x\\,y)p"),
-        Long(":(attr:a=one b=):path", ":(attr:a=one b=):path"),
-        Long(":(attr: ,attr:a)x", ":(attr:a)x"),
-        Long(":(attr:=v)x", ":(attr:=v)x"),
-        Long(":(attr: )x", ":()x"),
-        Long(":(icase,prefix:1)a/B", ":(icase,prefix:1)a/B"),
-        Long(":(prefix:9,prefix:01)a/b", ":(prefix:1)a/b"),
-        Long(":(attr:g,prefix:1)a/b", ":(prefix:1,attr:g)a/b"),
-        Long(":(prefix:1)a/", ":(prefix:1)a/"),
-        Long(":(prefix:0012)abcdefghijkl/m", ":(prefix:12)abcdefghijkl/m"),
+    const ROWS: &[Reads] = &[
+        Reads(":", b":"),
+        Reads("::", b":()"),
+        Reads(":!", b":(exclude)"),
+        Reads(":/", b":(top)"),
+        Reads("a//", b":()a//"),
+        Reads(":(top,literal,icase,attr,exclude)some/path", b":(top,exclude,icase,literal)some/path"),
+        Reads(":(glob,top,attr:a -b !c d=v)p/", b":(top,glob,attr:a -b !c d=v)p/"),
+        Reads(":(attr:a=x\\,y)p", b":(attr:a=x\\,y)p"),
+        Reads(":(attr:a=one b=):path", b":(attr:a=one b=):path"),
+        Reads(":(attr: ,attr:a)x", b":(attr:a)x"),
+        Reads(":(attr:=v)x", b":(attr:=v)x"),
+        Reads(":(attr: )x", b":()x"),
+        Reads(":(icase,prefix:1)a/B", b":(icase,prefix:1)a/B"),
+        Reads(":(prefix:9,prefix:01)a/b", b":(prefix:1)a/b"),
+        Reads(":(attr:g,prefix:1)a/b", b":(prefix:1,attr:g)a/b"),
+        Reads(":(prefix:1)a/", b":(prefix:1)a/"),
+        Reads(":(prefix:0012)abcdefghijkl/m", b":(prefix:12)abcdefghijkl/m"),
     ];
     assert_each(&rt, rt.alloc(), ROWS)
 }

@@ -5,7 +5,7 @@ use pathspec_parts::path::{
     Components, Stack, components, is_absolute, is_clean_prefix, strip_last_slash, strip_root,
 };
 use pathspec_parts::split::at_first;
-use std::alloc::Global;
+use std::alloc::{AllocError, Global};
 use std::test::Fail;
 
 /// Whether just these components are left.
@@ -137,17 +137,22 @@ fn texts_are_cut_at_slashes(rt: HostRuntime) -> Result<(), Fail> {
     assert_each(&rt, rt.alloc(), ROWS)
 }
 
-#[test]
-fn a_stack_knows_how_low_it_was(rt: HostRuntime) -> Result<(), Fail> {
-    let mut stack = Stack::new(rt.alloc());
-    assert!(rt; stack.is_empty());
-    for name in ["a", "b", "c"] {
+/// A stack of these names.
+fn stack_of<'a>(alloc: Global, names: &[&'a str]) -> Result<Stack<'a>, AllocError> {
+    let mut stack = Stack::new(alloc);
+    for name in names {
         stack.push(BStr::new(name.as_bytes()))?;
     }
+    Ok(stack)
+}
+
+#[test]
+fn a_stack_knows_how_low_it_was(rt: HostRuntime) -> Result<(), Fail> {
+    let mut stack = stack_of(rt.alloc(), &["a", "b", "c"])?;
     stack.mark();
-    let popped = stack.pop() && stack.pop();
+    let is_popped = !stack.is_empty() && stack.pop() && stack.pop();
     stack.push(BStr::new(b"d"))?;
-    assert!(rt; popped && stack.least() == 1 && stack.len() == 2);
-    assert_eq!(rt; stack.get(1), Some(BStr::new(b"d")));
+    let has_last = stack.len() == 2 && stack.get(1) == Some(BStr::new(b"d"));
+    assert!(rt; is_popped && stack.least() == 1 && has_last);
     Ok(())
 }

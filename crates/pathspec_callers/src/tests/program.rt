@@ -265,9 +265,9 @@ fn records_hold_any_bytes(rt: HostRuntime) -> Result<(), Fail> {
 
 /// Gives its bytes one a call, and then, or at the end of them, fails in its way.
 #[derive(Drop)]
-pub(super) struct Faltering<'a> {
-    pub(super) bytes: &'a [u8],
-    pub(super) fault: ErrorKind,
+struct Faltering<'a> {
+    bytes: &'a [u8],
+    fault: ErrorKind,
 }
 
 impl<'a> Read for Faltering<'a> {
@@ -283,30 +283,44 @@ impl<'a> Read for Faltering<'a> {
     }
 }
 
-/// The bytes that a reader gives before it fails, and how it fails.
+/// Whether a run with the words of a line refuses a read that fails after these bytes, and writes nothing.
+pub(super) fn is_read_refused(
+    alloc: Global,
+    line: &str,
+    bytes: &[u8],
+    fault: ErrorKind,
+) -> Result<bool, AllocError> {
+    let words = words_of(alloc, line)?;
+    let environment = environment_of(alloc, UNSET)?;
+    let mut reader = Faltering { bytes, fault };
+    let mut written = Vec::new(alloc);
+    let words = words.as_slice();
+    let outcome = run(alloc, words, &environment, &mut reader, &mut written);
+    Ok(outcome == Err(Refusal::Read) && written.is_empty())
+}
+
+/// How a reader fails, at its first read, at its second, and so on until a listing with a record at fault has ended.
 #[derive(Clone, Copy)]
-struct Unread(&'static [u8], ErrorKind);
+struct Unread(ErrorKind);
 
 impl Row for Unread {
     fn holds(&self, alloc: Global) -> Result<bool, Fail> {
-        let environment = environment_of(alloc, UNSET)?;
-        let mut reader = Faltering {
-            bytes: self.0,
-            fault: self.1,
-        };
-        let mut written = Vec::new(alloc);
-        let outcome = run(alloc, &[], &environment, &mut reader, &mut written);
-        Ok(outcome == Err(Refusal::Read) && written.is_empty())
+        const LISTING: &[u8] = b"a\n/\nb\n";
+        for count in 0..=LISTING.len() {
+            if !is_read_refused(alloc, "", &LISTING[..count], self.0)? {
+                return Ok(false);
+            }
+        }
+        Ok(true)
     }
 }
 
 #[test]
 fn a_failed_read_is_refused(rt: HostRuntime) -> Result<(), Fail> {
     const ROWS: &[Unread] = &[
-        Unread(b"", ErrorKind::BrokenPipe),
-        Unread(b"a", ErrorKind::BrokenPipe),
-        Unread(b"a\n", ErrorKind::Interrupted),
-        Unread(b"/", ErrorKind::Interrupted),
+        Unread(ErrorKind::BrokenPipe),
+        Unread(ErrorKind::Interrupted),
+        Unread(ErrorKind::TimedOut),
     ];
     assert_each(&rt, rt.alloc(), ROWS)
 }
@@ -338,33 +352,52 @@ impl Write for Reluctant {
     }
 }
 
-/// How many calls a writer takes, how it answers then, whether all is written, and what was taken.
+/// Whether just the first bytes of a listing are written, as many as a writer has taken before it answers so.
+fn is_cut_off(
+    alloc: Global,
+    listing: &[u8],
+    count: usize,
+    fault: Option<ErrorKind>,
+) -> Result<bool, AllocError> {
+    let environment = environment_of(alloc, UNSET)?;
+    let mut reader = listing;
+    let mut writer = Reluctant {
+        taken: Vec::new(alloc),
+        left: count,
+        fault,
+    };
+    let outcome = run(alloc, &[], &environment, &mut reader, &mut writer);
+    let want = if count < listing.len() {
+        Err(Refusal::Write)
+    } else {
+        Ok(())
+    };
+    let most = count.min(listing.len());
+    Ok(outcome == want && writer.taken.as_slice() == &listing[..most])
+}
+
+/// How a writer that takes one byte a call answers its first call, its second, and so on until one that is never made.
 #[derive(Clone, Copy)]
-struct Taken(usize, Option<ErrorKind>, bool, &'static [u8]);
+struct Taken(Option<ErrorKind>);
 
 impl Row for Taken {
     fn holds(&self, alloc: Global) -> Result<bool, Fail> {
-        let environment = environment_of(alloc, UNSET)?;
-        let mut reader = b"a\nb\n".as_slice();
-        let mut writer = Reluctant {
-            taken: Vec::new(alloc),
-            left: self.0,
-            fault: self.1,
-        };
-        let outcome = run(alloc, &[], &environment, &mut reader, &mut writer);
-        let want = if self.2 { Ok(()) } else { Err(Refusal::Write) };
-        Ok(outcome == want && writer.taken.as_slice() == self.3)
+        const LISTING: &[u8] = b"a\nb/\nb/c\n";
+        for count in 0..=LISTING.len() {
+            if !is_cut_off(alloc, LISTING, count, self.0)? {
+                return Ok(false);
+            }
+        }
+        Ok(true)
     }
 }
 
 #[test]
-fn a_writer_may_take_one_byte_a_call(rt: HostRuntime) -> Result<(), Fail> {
+fn what_is_written_before_a_fault_is_a_front(rt: HostRuntime) -> Result<(), Fail> {
     const ROWS: &[Taken] = &[
-        Taken(4, Some(ErrorKind::BrokenPipe), true, b"a\nb\n"),
-        Taken(2, Some(ErrorKind::BrokenPipe), false, b"a\n"),
-        Taken(2, Some(ErrorKind::Interrupted), false, b"a\n"),
-        Taken(3, None, false, b"a\nb"),
-        Taken(0, None, false, b""),
+        Taken(None),
+        Taken(Some(ErrorKind::BrokenPipe)),
+        Taken(Some(ErrorKind::Interrupted)),
     ];
     assert_each(&rt, rt.alloc(), ROWS)
 }

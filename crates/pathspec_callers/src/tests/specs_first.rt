@@ -1,14 +1,16 @@
 //! Runs of the program over inputs that have specs before their listing.
 use crate::tests::look_ups::Marks;
-use crate::tests::program::{Faltering, run_line, writes, written_with};
+use crate::tests::program::{is_read_refused, run_line, writes, written_with};
 use crate::tests::support::{
     Row, UNSET, USAGE, Variables, assert_each, environment_of, is_told, job_of, words_of,
 };
 use pathspec_select::{Refusal, run};
 use std::alloc::Global;
-use std::io;
-use std::io::{ErrorKind, Write};
+use std::io::{self, ErrorKind, Write};
 use std::test::Fail;
+
+/// The words of a run whose input has the specs in front.
+const FIRST: &str = "--specs-first f";
 
 /// Words, an input, and what is written for them.
 #[derive(Clone, Copy)]
@@ -22,7 +24,6 @@ impl Row for Written {
 
 #[test]
 fn specs_before_the_listing_choose_its_records(rt: HostRuntime) -> Result<(), Fail> {
-    const FIRST: &str = "--specs-first f";
     const ROWS: &[Written] = &[
         Written(FIRST, b"a\n:!a/x\n--\na/x\na/y\nb\n", b"a/y\n"),
         Written(FIRST, b"a\r\nb\r\n--\r\na\nb\n", b"a\nb\n"),
@@ -74,7 +75,7 @@ fn the_source_may_have_no_name(rt: HostRuntime) -> Result<(), Fail> {
 fn specs_are_read_under_the_environment(rt: HostRuntime) -> Result<(), Fail> {
     const LITERAL: Variables = &[("literal", "1")];
     const INPUT: &[u8] = b"a*\n--\na*\nab\n";
-    assert!(rt; writes(rt.alloc(), "--specs-first f", LITERAL, INPUT, b"a*\n")?);
+    assert!(rt; writes(rt.alloc(), FIRST, LITERAL, INPUT, b"a*\n")?);
     Ok(())
 }
 
@@ -94,7 +95,6 @@ impl Row for Refused {
 
 #[test]
 fn the_first_fault_is_refused_and_nothing_is_written(rt: HostRuntime) -> Result<(), Fail> {
-    const FIRST: &str = "--specs-first f";
     const ROWS: &[Refused] = &[
         Refused("--specs-first f x", b"", 2, USAGE),
         Refused("--specs-first f -- x", b"a\n", 2, USAGE),
@@ -123,37 +123,26 @@ fn the_first_fault_is_refused_and_nothing_is_written(rt: HostRuntime) -> Result<
     assert_each(&rt, rt.alloc(), ROWS)
 }
 
-/// The bytes that a reader gives before it fails: before, at and after the line `--`, and where a spec or a record is at
-/// fault.
+/// An input; a read fails before its first byte, its second, and so on, and after its last: before, at and after the line
+/// `--`, and where a spec or a record is at fault.
 #[derive(Clone, Copy)]
 struct Unread(&'static [u8]);
 
 impl Row for Unread {
     fn holds(&self, alloc: Global) -> Result<bool, Fail> {
-        let words = words_of(alloc, "--specs-first f")?;
-        let environment = environment_of(alloc, UNSET)?;
-        let mut reader = Faltering {
-            bytes: self.0,
-            fault: ErrorKind::BrokenPipe,
-        };
-        let mut written = Vec::new(alloc);
-        let words = words.as_slice();
-        let outcome = run(alloc, words, &environment, &mut reader, &mut written);
-        Ok(outcome == Err(Refusal::Read) && written.is_empty())
+        for count in 0..=self.0.len() {
+            let front = &self.0[..count];
+            if !is_read_refused(alloc, FIRST, front, ErrorKind::BrokenPipe)? {
+                return Ok(false);
+            }
+        }
+        Ok(true)
     }
 }
 
 #[test]
 fn a_failed_read_is_refused_before_the_specs(rt: HostRuntime) -> Result<(), Fail> {
-    const ROWS: &[Unread] = &[
-        Unread(b""),
-        Unread(b"a\n"),
-        Unread(b"a\n-"),
-        Unread(b"a\n--"),
-        Unread(b"a\n--\n"),
-        Unread(b"a\n--\na\n"),
-        Unread(b":#\n--\n/\n"),
-    ];
+    const ROWS: &[Unread] = &[Unread(b"a\n--\na\n"), Unread(b":#\n--\n/\n")];
     assert_each(&rt, rt.alloc(), ROWS)
 }
 
@@ -177,7 +166,7 @@ struct Unwritten(&'static [u8], bool);
 
 impl Row for Unwritten {
     fn holds(&self, alloc: Global) -> Result<bool, Fail> {
-        let words = words_of(alloc, "--specs-first f")?;
+        let words = words_of(alloc, FIRST)?;
         let environment = environment_of(alloc, UNSET)?;
         let mut reader = self.0;
         let outcome = run(
@@ -204,7 +193,7 @@ fn a_failed_write_is_refused_last(rt: HostRuntime) -> Result<(), Fail> {
 
 #[test]
 fn each_run_reads_the_specs_of_its_own_input(rt: HostRuntime) -> Result<(), Fail> {
-    let (mut job, mut rows) = job_of(rt.alloc(), "--specs-first f", UNSET)??;
+    let (mut job, mut rows) = job_of(rt.alloc(), FIRST, UNSET)??;
     let written = written_with(rt.alloc(), &mut job, b"a\n--\na\nb\n", &mut rows)?;
     assert!(rt; written.as_slice() == b"a\n".as_slice());
     assert!(rt; written_with(rt.alloc(), &mut job, b":#\n--\n", &mut rows).is_err());
@@ -213,16 +202,27 @@ fn each_run_reads_the_specs_of_its_own_input(rt: HostRuntime) -> Result<(), Fail
     Ok(())
 }
 
+/// After how many answers a look-up fails, of the two that a run asks for.
+#[derive(Clone, Copy)]
+struct FailsAfter(u64);
+
+impl Row for FailsAfter {
+    fn holds(&self, alloc: Global) -> Result<bool, Fail> {
+        const INPUT: &[u8] = b":(attr:gen).\n--\nx\nb\n";
+        let (mut job, _) = job_of(alloc, FIRST, UNSET)??;
+        let mut marks = Marks::failing_after(self.0);
+        let is_refused = match written_with(alloc, &mut job, INPUT, &mut marks) {
+            Ok(_) => false,
+            Err(refusal) => refusal == Refusal::Memory,
+        };
+        let written = written_with(alloc, &mut job, INPUT, &mut marks)?;
+        Ok(is_refused && marks.failed == 1 && written.as_slice() == b"x\n".as_slice())
+    }
+}
+
 #[test]
 fn a_failed_look_up_is_refused_and_leaves_the_job(rt: HostRuntime) -> Result<(), Fail> {
-    let (mut job, _) = job_of(rt.alloc(), "--specs-first f", UNSET)??;
-    let mut marks = Marks::failing_after(1);
-    const INPUT: &[u8] = b":(attr:gen).\n--\nx\nb\n";
-    let refused = written_with(rt.alloc(), &mut job, INPUT, &mut marks);
-    assert!(rt; matches!(&refused, Err(Refusal::Memory)));
-    let written = written_with(rt.alloc(), &mut job, INPUT, &mut marks)?;
-    assert!(rt; written.as_slice() == b"x\n".as_slice());
-    Ok(())
+    assert_each(&rt, rt.alloc(), &[FailsAfter(0), FailsAfter(1)])
 }
 
 /// How the specs begin, a text so many times before `z` and the line `--`, and a listing that is written as it is.
@@ -233,13 +233,7 @@ impl Row for Large {
     fn holds(&self, alloc: Global) -> Result<bool, Fail> {
         let many = self.1.repeat(alloc, self.2)?;
         let input = format!(in alloc; "{}{many}z\n--\n{}", self.0, self.3)?;
-        writes(
-            alloc,
-            "--specs-first f",
-            UNSET,
-            input.as_bytes(),
-            self.3.as_bytes(),
-        )
+        writes(alloc, FIRST, UNSET, input.as_bytes(), self.3.as_bytes())
     }
 }
 

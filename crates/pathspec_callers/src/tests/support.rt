@@ -6,6 +6,7 @@ use pathspec_select::{Environment, Job, Refusal, Rows};
 use std::alloc::{AllocError, Global};
 use std::hash::{DefaultHasher, Hash, Hasher};
 use std::process::Abort;
+use std::slice;
 use std::test::Fail;
 
 /// A row of a table: a question, and the answer that is wanted.
@@ -72,9 +73,12 @@ pub(super) fn search_of(alloc: Global, texts: &[&str], prefix: &str) -> Result<B
     Ok(build(alloc, texts, prefix)??)
 }
 
-/// The bytes that an error carries, if it carries some.
+/// The bytes that an error carries, or the one byte, if it carries some.
 pub(super) fn carried(error: &Error) -> Option<&[u8]> {
     match error {
+        Error::UnimplementedShort(byte) | Error::InvalidValueByte(byte) => {
+            Some(slice::from_ref(byte))
+        }
         Error::MissingParen(bytes)
         | Error::InvalidKeyword(bytes)
         | Error::LiteralWithGlob(bytes)
@@ -87,15 +91,6 @@ pub(super) fn carried(error: &Error) -> Option<&[u8]> {
         | Error::NotTruth(bytes) => Some(bytes.as_slice()),
         _ => None,
     }
-}
-
-/// Whether an error is of this kind, and carries this byte or none.
-pub(super) fn carries_byte(error: &Error, kind: &str, byte: Option<u8>) -> bool {
-    let found = match error {
-        Error::UnimplementedShort(byte) | Error::InvalidValueByte(byte) => Some(*byte),
-        _ => None,
-    };
-    found == byte && error.kind() == kind
 }
 
 /// Whether an error is of this kind and carries these bytes.
