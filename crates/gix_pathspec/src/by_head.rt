@@ -23,7 +23,7 @@ use pathspec_parts::attributes::LookUp;
 use std::marker::Model;
 
 /// How many specs a match asked, and how many heads it compared with the path.
-#[derive(Clone, Copy, Debug)]
+#[derive(Clone, Copy)]
 struct Effort {
     tested: usize,
     compared: u128,
@@ -36,7 +36,7 @@ const NO_EFFORT: Effort = Effort {
 };
 
 /// The specs of a search with their places by their heads, and what the last match looked at.
-#[derive(Debug, Drop)]
+#[derive(Drop)]
 pub(crate) struct SpecsByHead {
     specs: CountedSpecs,
     /// The places of the specs in search order, by their heads.

@@ -10,5 +10,3 @@ pub mod select;
 pub mod spec;
 pub mod stems;
 pub mod store;
-#[cfg(test)]
-mod tests;

@@ -7,7 +7,7 @@ use std::alloc::{AllocError, Global};
 use std::marker::Model;
 
 /// A vector of truth values, one bit each, in words.
-#[derive(Debug, Drop)]
+#[derive(Drop)]
 pub struct BitVec {
     words: Vec<u64>,
     /// How many values it has.

@@ -11,7 +11,7 @@ ghost use Rattle.pathspec_glob.specs.GlobForms.{class_name, front_view, item_vie
 use std::alloc::{AllocError, Global};
 
 /// A class of ASCII bytes that a bracket names, as `[:digit:]`.
-#[derive(Clone, Copy, Debug)]
+#[derive(Clone, Copy)]
 pub enum Class {
     /// Letters and digits.
     Alnum,
@@ -95,7 +95,7 @@ impl Class {
 }
 
 /// What a bracket lists.
-#[derive(Clone, Copy, Debug)]
+#[derive(Clone, Copy)]
 pub enum Item {
     /// One byte.
     Literal(u8),

@@ -17,20 +17,20 @@ pub struct Tests {
 }
 
 /// Tokens, each of which is tested alone.
-#[derive(Debug, Drop)]
+#[derive(Drop)]
 pub struct CountedTokens {
     mode: Mode,
     all: Vec<Token>,
 }
 
 /// Bytes that stand for themselves, each of which is tested alone.
-#[derive(Debug, Drop)]
+#[derive(Drop)]
 pub struct CountedBytes {
     all: Vec<u8>,
 }
 
 /// For each byte the places of so many tokens that don't take it. A question tests them all.
-#[derive(Debug, Drop)]
+#[derive(Drop)]
 pub struct Table {
     rows: Vec<u64>,
     tokens: usize,

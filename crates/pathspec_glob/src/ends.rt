@@ -12,7 +12,7 @@ use std::alloc::{AllocError, Global};
 use std::marker::Model;
 
 /// The tokens of a head or of a tail.
-#[derive(Debug, Drop)]
+#[derive(Drop)]
 pub struct End {
     tokens: CountedTokens,
     /// The bytes that they want, where each wants a byte of its own.

@@ -10,17 +10,18 @@ use crate::source::Source;
 use crate::tokens::Tokens;
 use crate::{Case, Mode};
 use std::alloc::{AllocError, Global};
+use std::fmt;
 use std::marker::Model;
 
 /// A compiled glob (git's wildmatch).
-#[derive(Debug, Drop)]
+#[derive(Drop)]
 pub struct Glob {
     /// In a box, so that a glob is moved and dropped as one.
     parts: Box<Parts>,
 }
 
 /// A pattern, which only clauses see, and its tokens in three parts.
-#[derive(Debug, Drop)]
+#[derive(Drop)]
 struct Parts {
     source: Source,
     /// The tokens before the first that takes any number of bytes.
@@ -29,6 +30,14 @@ struct Parts {
     middle: Middle,
     /// Those behind.
     tail: End,
+}
+
+/// The tokens of a pattern in three parts, as [`Parts`] have them.
+#[derive(Drop)]
+struct PartTokens {
+    head: Tokens,
+    middle: Tokens,
+    tail: Tokens,
 }
 
 impl Model for Glob {
@@ -48,6 +57,14 @@ impl Model for Glob {
         (box_value g.parts).middle (box_value g.parts).tail };
 }
 
+impl fmt::Debug for Glob {
+    fn fmt<W: fmt::Write>(&self, f: &mut fmt::Formatter<W>) -> fmt::Result {
+        f.debug_struct("Glob")
+            .field("tokens", &self.tokens())
+            .finish()
+    }
+}
+
 impl Glob {
     /// The glob of a pattern. Every byte string is one. The cost is linear in the pattern, and so is the memory; where 1 to
     /// 63 tokens for one byte stand between head and tail, each of them is tested on every byte, for a table of 4 kB, but
@@ -58,19 +75,8 @@ impl Glob {
     pub fn compile(alloc: Global, pattern: &[u8], mode: Mode) -> Result<Glob, AllocError>
         ensures { IfOk result (λ glob. glob ≡ record { mode = mode; pattern = pattern.now }) }
     {
-        let mut head = Tokens::of_pattern(alloc, pattern, mode)?;
-        let head_size = head.head_size();
-        let mut middle = head.split_off(head_size)?;
-        let middle_size = middle.wide_size();
-        let tail = middle.split_off(middle_size)?;
-        let parts = Parts {
-            source: Source::of(pattern),
-            head: End::of_tokens(alloc, head)?,
-            middle: Middle::of_tokens(alloc, middle)?,
-            tail: End::of_tokens(alloc, tail)?,
-        };
         Ok(Glob {
-            parts: Box::new(alloc, parts)?,
+            parts: Box::new(alloc, Parts::of_pattern(alloc, pattern, mode)?)?,
         })
     }
 
@@ -120,5 +126,48 @@ impl Glob {
             return false;
         };
         parts.middle.matches(between, case, places, steps)
+    }
+}
+
+impl Parts {
+    ghost use Rattle.pathspec_glob.specs.GlobParts.{IsParted};
+
+    /// The parts of a pattern.
+    ///
+    /// # Errors
+    /// Memory runs out.
+    fn of_pattern(alloc: Global, pattern: &[u8], mode: Mode) -> Result<Parts, AllocError>
+        ensures mode { IfOk result (λ parts. parts.head.mode ≡ mode) }
+        ensures pattern { IfOk result (λ parts. parts.source.pattern ≡ pattern.now) }
+        ensures parted { IfOk result (λ parts.
+            IsParted mode pattern.now parts.head parts.middle parts.tail) }
+    {
+        let PartTokens { head, middle, tail } = PartTokens::of_pattern(alloc, pattern, mode)?;
+        Ok(Parts {
+            source: Source::of(pattern),
+            head: End::of_tokens(alloc, head)?,
+            middle: Middle::of_tokens(alloc, middle)?,
+            tail: End::of_tokens(alloc, tail)?,
+        })
+    }
+}
+
+impl PartTokens {
+    ghost use Rattle.pathspec_glob.specs.GlobParts.{IsParted};
+
+    /// The tokens of a pattern, in their parts.
+    ///
+    /// # Errors
+    /// Memory runs out.
+    fn of_pattern(alloc: Global, pattern: &[u8], mode: Mode) -> Result<PartTokens, AllocError>
+        ensures { IfOk result (λ parts.
+            IsParted mode pattern.now parts.head parts.middle parts.tail) }
+    {
+        let mut head = Tokens::of_pattern(alloc, pattern, mode)?;
+        let head_size = head.head_size();
+        let mut middle = head.split_off(head_size)?;
+        let middle_size = middle.wide_size();
+        let tail = middle.split_off(middle_size)?;
+        Ok(PartTokens { head, middle, tail })
     }
 }

@@ -18,14 +18,14 @@ use std::alloc::{AllocError, Global};
 use std::marker::Model;
 
 /// The tokens between the head and the tail of a glob.
-#[derive(Debug, Drop)]
+#[derive(Drop)]
 pub struct Middle {
     tokens: CountedTokens,
     way: Way,
 }
 
 /// What they are matched by.
-#[derive(Debug, Drop)]
+#[derive(Drop)]
 enum Way {
     /// The first token alone, which takes the same texts.
     First,

@@ -16,7 +16,7 @@ use moves::EmptyMoves;
 use std::alloc::{AllocError, Global};
 
 /// A set of places in a glob's tokens. A place is active where it is come to, or where its token stays.
-#[derive(Debug, Drop)]
+#[derive(Drop)]
 pub struct Places {
     /// Whether a place has just been come to. They are one more than the tokens: the last is after them all.
     entered: BitVec,

@@ -6,17 +6,18 @@ ghost use Rattle.pathspec_glob.specs.Globs.{room_for};
 use crate::counted::Tests;
 use crate::places::Places;
 use std::alloc::{AllocError, Global};
+use std::fmt;
 use std::marker::Model;
 
 /// What tests are given to. Only the count of a scratch has one, so no test goes to another count.
-#[derive(Debug, Drop)]
+#[derive(Drop)]
 pub struct Key {
     own: (),
 }
 
 /// How many steps were taken. A step is one token tested at one position of a text: only such tests raise a count, and
 /// only a scratch has one.
-#[derive(Debug, Drop)]
+#[derive(Drop)]
 pub struct Steps {
     /// In the last match.
     last: u128,
@@ -60,7 +61,7 @@ impl Steps {
 }
 
 /// The room that a match works in.
-#[derive(Debug, Drop)]
+#[derive(Drop)]
 pub struct Scratch {
     pub(crate) places: Places,
     pub(crate) steps: Steps,
@@ -76,6 +77,15 @@ impl Model for Scratch {
     ghost view = { λ s. room_of s.places s.steps };
 
     ghost invariant = { λ s. IsPaired s.places };
+}
+
+impl fmt::Debug for Scratch {
+    fn fmt<W: fmt::Write>(&self, f: &mut fmt::Formatter<W>) -> fmt::Result {
+        f.debug_struct("Scratch")
+            .field("tokens", &self.places.room())
+            .field("last_steps", &self.steps.last)
+            .finish()
+    }
 }
 
 impl Scratch {

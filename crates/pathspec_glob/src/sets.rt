@@ -10,7 +10,7 @@ use crate::bit_vec::with_bit;
 use crate::brackets::{Class, Item};
 
 /// A set of bytes, one bit for each.
-#[derive(Debug, Drop)]
+#[derive(Drop)]
 pub struct ByteSet {
     words: [u64; 4],
 }

@@ -5,7 +5,7 @@ ghost use Rattle.std.specs.Borrow.{ftrue};
 use std::marker::Model;
 
 /// The pattern of a glob. It takes no bytes, and no code can read it.
-#[derive(Debug, Drop)]
+#[derive(Drop)]
 pub struct Source {
     pub ghost pattern: { List ℕ },
 }

@@ -20,7 +20,7 @@ use std::alloc::{AllocError, Global};
 use std::marker::Model;
 
 /// What one byte of a text has to be.
-#[derive(Debug, Drop)]
+#[derive(Drop)]
 pub enum OneByte {
     /// This byte.
     Byte(u8),
@@ -35,7 +35,7 @@ pub enum OneByte {
 }
 
 /// One part of a glob.
-#[derive(Debug, Drop)]
+#[derive(Drop)]
 pub enum Token {
     /// One byte.
     One(OneByte),
@@ -46,7 +46,7 @@ pub enum Token {
 }
 
 /// The tokens of a glob, or some of them that stand side by side.
-#[derive(Debug, Drop)]
+#[derive(Drop)]
 pub struct Tokens {
     mode: Mode,
     all: Vec<Token>,

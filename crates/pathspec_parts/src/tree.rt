@@ -12,6 +12,7 @@ mod cursor;
 
 pub use cursor::Cursor;
 use std::alloc::{AllocError, Global};
+use std::fmt;
 use std::marker::Model;
 use thiserror::Error;
 
@@ -30,7 +31,7 @@ pub enum TreeError {
 }
 
 /// An entry of a tree in numbers.
-#[derive(Clone, Copy, Debug)]
+#[derive(Clone, Copy)]
 struct Node {
     /// Where its name ends in the tree's names. It begins where the one before it ends.
     name_end: usize,
@@ -43,8 +44,9 @@ struct Node {
 
 /// Directories and files in the order in which they were added.
 ///
-/// An entry takes the bytes of its name and three numbers. Entries are numbered from 0.
-#[derive(Debug, Drop)]
+/// An entry takes the bytes of its name and three numbers. Entries are numbered from 0. What is printed of a tree is
+/// counts.
+#[derive(Drop)]
 pub struct Tree {
     names: Vec<u8>,
     nodes: Vec<Node>,
@@ -54,6 +56,15 @@ pub struct Tree {
     longest: usize,
     /// How many directories there are.
     directories: usize,
+}
+
+impl fmt::Debug for Tree {
+    fn fmt<W: fmt::Write>(&self, f: &mut fmt::Formatter<W>) -> fmt::Result {
+        f.debug_struct("Tree")
+            .field("len", &self.len())
+            .field("directories", &self.directories)
+            .finish()
+    }
 }
 
 impl Model for Tree {

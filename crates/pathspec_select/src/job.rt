@@ -21,13 +21,24 @@ use bstr::BStr;
 use gix_pathspec::{Defaults, Search};
 use specs::{JobSpecs, SearchBuilder};
 use std::alloc::Global;
+use std::fmt;
 use std::marker::Model;
 
 /// What a run has to do: the specs that its records are compared with, and the byte that ends a record.
-#[derive(Debug, Drop)]
+#[derive(Drop)]
 pub struct Job {
     pub(crate) specs: JobSpecs,
     pub(crate) separator: u8,
+}
+
+impl fmt::Debug for Job {
+    fn fmt<W: fmt::Write>(&self, f: &mut fmt::Formatter<W>) -> fmt::Result {
+        f.debug_struct("Job")
+            .field("search", &self.search())
+            .field("source", &self.source())
+            .field("separator", &self.separator)
+            .finish()
+    }
 }
 
 impl Model for Job {

@@ -9,24 +9,14 @@ use crate::search::MatchKind;
 use crate::search::spec::CompiledSpec;
 use bstr::BStr;
 use pathspec_parts::attributes::LookUp;
-use std::fmt;
 use std::marker::Model;
 
 /// Specs in search order. Their only question about a path is whether one of them matches it. Each is counted, and the
-/// count is never set back. What is printed of them is counts.
+/// count is never set back.
 #[derive(Drop)]
 pub(crate) struct CountedSpecs {
     all: Vec<CompiledSpec>,
     tested: u128,
-}
-
-impl fmt::Debug for CountedSpecs {
-    fn fmt<W: fmt::Write>(&self, f: &mut fmt::Formatter<W>) -> fmt::Result {
-        f.debug_struct("CountedSpecs")
-            .field("len", &self.len())
-            .field("tested", &self.tested)
-            .finish()
-    }
 }
 
 impl Model for CountedSpecs {

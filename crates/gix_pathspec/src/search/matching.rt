@@ -30,7 +30,6 @@ use pathspec_parts::attributes::{Assignment, Case, LookUp, Outcome, StateRef};
 ///
 /// Beside the steps of the glob, it looks at each byte of the pattern's path a fixed number of times. It takes no
 /// memory.
-#[tactic(auto, using(crate::proofs::HeadProofs::fitted_begins_head, crate::proofs::HeadProofs::fitted_begins_stem))]
 pub fn match_kind(
     pattern: &Pattern,
     glob: &mut Option<GlobMatcher>,

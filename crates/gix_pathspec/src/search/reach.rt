@@ -12,7 +12,7 @@ use pathspec_heads::tables::{SpecStem, StemTable};
 use std::alloc::{AllocError, Global};
 
 /// What specs reach. It is made once, and a question goes through no list of specs.
-#[derive(Debug, Drop)]
+#[derive(Drop)]
 pub(super) struct Reach {
     /// Whether an exclude takes every path.
     excludes_all: bool,

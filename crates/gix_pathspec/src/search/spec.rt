@@ -7,6 +7,7 @@ use crate::{Error, Pattern, SearchMode};
 use pathspec_parts::attributes::{Case, Outcome};
 use pathspec_parts::glob::{Glob, Mode, Scratch, first_wildcard};
 use std::alloc::{AllocError, Global};
+use std::fmt;
 use std::marker::Model;
 
 /// A glob with the room that its matches work in.
@@ -64,8 +65,8 @@ impl GlobMatcher {
     }
 }
 
-/// A spec with its number and with the room that matching it works in.
-#[derive(Debug, Drop)]
+/// A spec with its number and with the room that matching it works in. What is printed of it is the spec.
+#[derive(Drop)]
 pub(crate) struct CompiledSpec {
     pub(super) pattern: Pattern,
     pub(super) number: usize,
@@ -75,6 +76,12 @@ pub(crate) struct CompiledSpec {
     pub(super) glob: Option<GlobMatcher>,
     /// A place for each attribute that the spec lists.
     pub(super) outcome: Outcome,
+}
+
+impl fmt::Debug for CompiledSpec {
+    fn fmt<W: fmt::Write>(&self, f: &mut fmt::Formatter<W>) -> fmt::Result {
+        self.pattern.fmt(f)
+    }
 }
 
 impl Model for CompiledSpec {

@@ -6,7 +6,7 @@ use crate::tokens::Tokens;
 use std::alloc::{AllocError, Global};
 
 /// Which places lead on without a byte.
-#[derive(Debug, Drop)]
+#[derive(Drop)]
 pub struct EmptyMoves {
     /// Those before a token that takes any number of bytes lead to the next place.
     pub(super) wide: BitVec,

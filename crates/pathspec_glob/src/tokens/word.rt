@@ -17,7 +17,7 @@ use step::Course;
 
 /// Tokens as words. A place stands before each token that takes one byte, and one at the end; a token that takes any
 /// number of bytes lets the place behind it stay.
-#[derive(Debug, Drop)]
+#[derive(Drop)]
 pub struct Word {
     /// Which tokens don't take a byte.
     exact: Table,

@@ -15,7 +15,7 @@ use std::alloc::{AllocError, Global};
 use std::marker::Model;
 
 /// Where the specs of a job stand.
-#[derive(Debug, Drop)]
+#[derive(Drop)]
 pub(crate) enum JobSpecs {
     /// In the words, and this is their search.
     FromWords(Search),
@@ -24,7 +24,7 @@ pub(crate) enum JobSpecs {
 }
 
 /// What a search of the lines at the front of an input is built with.
-#[derive(Debug, Drop)]
+#[derive(Drop)]
 pub(crate) struct SearchBuilder {
     source: BString,
     defaults: Defaults,

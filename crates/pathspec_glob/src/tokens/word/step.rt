@@ -9,7 +9,7 @@ use super::closure::enter;
 use crate::counted::{Table, Tests};
 
 /// How a word goes over a text, which is told once, when the word is made.
-#[derive(Debug, Clone, Copy)]
+#[derive(Clone, Copy)]
 pub enum Course {
     /// By its ends: the first place stays at every byte, and none between it and the last stays at any. No place but the first
     /// may be passed over.

@@ -2,7 +2,7 @@
 use Rattle.std.proofs.Common.{subst, false, Bool, ◌≡◌, Ok, Option, List, ℕ}
 use Rattle.std.proofs.lemmas.Result.{err_from_is_err_and}
 use Rattle.pathspec_pattern.specs.Environment.{flag_of}
-use Rattle.pathspec_select.proofs.VariableProofs.{flag-found, literal_refused, icase_refused, glob_refused, noglob_refused, all_told}
+use Rattle.pathspec_select.proofs.VariableProofs.{flag-found, flag-none, literal_ends, icase_is_last, icase_ends, glob_ends, literal_refused, icase_refused, glob_refused, noglob_refused, all_told}
 use Rattle.pathspec_select.proofs.environment.Environment.read.Goals as goal
 
 -- a flag that is false
@@ -40,3 +40,22 @@ returns-clause-asked g c =
     let icase = flag-found _ _ _ _ c.is_none.ensures c.if-is_none.false c.truth_of-else-is_literal.ensures in
     let glob = flag-found _ _ _ _ c.is_none-2.ensures c.if-is_none-2.false c.truth_of-2.ensures in
     all_told g.F.FnMut _ _ _ _ _ _ _ c.in_ok-literal.ensures.told said c.in_ok-icase.ensures.told icase.1 _ _ _ c.in_ok-glob.ensures.told glob.1 _ c.in_ok-noglob.ensures.told
+
+pub returns-in_default-clause-asked : goal.returns-in_default-clause-asked
+returns-in_default-clause-asked g c = literal_ends g.F.FnMut _ _ _ c.in_ok-literal.ensures.told c.in_default.ensures
+
+pub returns-then-is_literal-clause-asked : goal.returns-then-is_literal-clause-asked
+returns-then-is_literal-clause-asked g c = elim c.then-is_literal.branch [
+  | goal.then-is_literal-via-then-is_literal w ↦
+      icase_is_last g.F.FnMut _ _ _ _ _ _ c.in_ok-literal.ensures.told c.in-Some.ensures c.in_ok-icase.ensures.told w.if-is_literal.true
+  | goal.then-is_literal-via-else-is_literal+then-is_none w ↦
+      let fault = flag-none _ _ _ _ w.is_none.ensures w.if-is_none.true w.truth_of-else-is_literal.ensures in
+      icase_ends g.F.FnMut _ _ _ _ _ _ c.in_ok-literal.ensures.told c.in-Some.ensures c.in_ok-icase.ensures.told fault
+]
+
+pub returns-then-is_none-2-clause-asked : goal.returns-then-is_none-2-clause-asked
+returns-then-is_none-2-clause-asked g c =
+    let said = says_false _ _ c.in-Some.ensures c.if-is_literal.false in
+    let icase = flag-found _ _ _ _ c.is_none.ensures c.if-is_none.false c.truth_of-else-is_literal.ensures in
+    let fault = flag-none _ _ _ _ c.is_none-2.ensures c.if-is_none-2.true c.truth_of-2.ensures in
+    glob_ends g.F.FnMut _ _ _ _ _ _ _ c.in_ok-literal.ensures.told said c.in_ok-icase.ensures.told icase.1 _ c.in_ok-glob.ensures.told fault

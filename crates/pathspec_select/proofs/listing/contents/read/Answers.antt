@@ -1,4 +1,5 @@
-use Rattle.std.proofs.Common.{◌≤◌, ◌+◌, ◌-◌, length, sym, ◌∙◌, subst, arith, refl}
+use Rattle.std.proofs.Common.{◌≤◌, ◌<◌, ◌+◌, ◌-◌, length, sym, ◌∙◌, subst, arith, refl}
+use Rattle.std.proofs.lemmas.Bool.Decides.{nat_tests}
 use Rattle.pathspec_select.specs.declared.listing.entries.TheConstants.{NO_RECORD}
 use Rattle.pathspec_select.specs.Listing.{records}
 use Rattle.pathspec_select.specs.ListingAnswers.{RefusesRecords}
@@ -36,3 +37,17 @@ returns-clause-contents c =
 
 pub returns-clause-entries : goal.returns-clause-entries
 returns-clause-entries c = records_are_entries (records c.args.separator c.args.bytes.now)
+
+pub returns-clause-answers : goal.returns-clause-answers
+returns-clause-answers c =
+    let r = read_all c.args.bytes.now c.args.separator c.loop-directory.rest.now c.loop-directory.directory.now c.loop-directory.tree c.loop-directory.starts.items c.loop-directory.number c.loop-directory.invariant
+    (sym c.is_empty.ensures ∙ c.loop-directory-test.false) in
+    r.2
+
+pub overflow_sub-start : goal.overflow_sub-start
+overflow_sub-start c = omega (arith, c.loop-directory.invariant.counted)
+
+pub overflow_add-number : goal.overflow_add-number
+overflow_add-number c =
+    let some : 0 < length c.loop-directory.rest.now = grind (arith, nat_tests, c.is_empty.ensures, c.loop-directory-test.true) in
+    omega (arith, some, c.loop-directory.invariant.counted)

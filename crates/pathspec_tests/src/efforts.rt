@@ -1,0 +1,188 @@
+//! Rows on how many specs a match asks, and how many heads it compares.
+use crate::searches::{Settled, Texts, nested, search_of_many, settled};
+use crate::support::{Row, assert_each, search_of};
+use gix_pathspec::Search;
+use gix_pathspec::search::MatchKind;
+use std::alloc::Global;
+use std::process::Abort;
+use std::test::Fail;
+
+/// What a match told: the number and the kind, if there is one, and how many specs were asked.
+type Told = (Settled, usize);
+
+/// What a match tells of a file.
+fn told(search: &mut Search, path: &str) -> Result<Told, Fail> {
+    let settled = settled(search, path.as_bytes(), Some(false))?;
+    Ok((settled, search.last_tested()))
+}
+
+/// How many heads may be compared where there are so many specs: as many as the number has binary digits, and two.
+fn most_compared(specs: usize) -> u128 {
+    u128::from(usize::BITS.saturating_sub(specs.leading_zeros())).saturating_add(2)
+}
+
+/// Whether the last match compared some heads where it asked some specs, and no more than it may.
+fn compares_few(search: &Search) -> bool {
+    let compared = search.last_compared();
+    let some = if search.last_tested() == 0 { 0 } else { 1 };
+    some <= compared && compared <= most_compared(search.patterns().len())
+}
+
+/// Texts, the directory that they are given in, a file, the match, and the fewest and the most specs that it may ask.
+#[derive(Clone, Copy)]
+struct Asks(
+    &'static [&'static str],
+    &'static str,
+    &'static str,
+    Settled,
+    usize,
+    usize,
+);
+
+impl Row for Asks {
+    fn holds(&self, alloc: Global) -> Result<bool, Fail> {
+        let mut search = search_of(alloc, self.0, self.1)?;
+        let unasked = search.last_tested() == 0 && search.last_compared() == 0;
+        let (found, tested) = told(&mut search, self.2)?;
+        let is_within = self.4 <= tested && tested <= self.5;
+        Ok(unasked && found == self.3 && is_within && compares_few(&search))
+    }
+}
+
+const PREFIX: MatchKind = MatchKind::Prefix;
+
+const VERBATIM: MatchKind = MatchKind::Verbatim;
+
+const WILDCARD: MatchKind = MatchKind::WildcardMatch;
+
+const ALWAYS: MatchKind = MatchKind::Always;
+
+#[test]
+#[rattlefmt::skip]
+fn only_specs_whose_head_begins_the_path_are_asked(rt: HostRuntime) -> Result<(), Fail> {
+    const ROWS: &[Asks] = &[
+        Asks(&["a/x", "a/y", "b", ":!a/x/z"], "", "a/x/q", Some((0, PREFIX)), 1, 1),
+        Asks(&["a/x", "a/y", "b", ":!a/x/z"], "", "a/x/z", Some((3, VERBATIM)), 1, 1),
+        Asks(&["a/x", "a/y", "b", ":!a/x/z"], "", "a/yy", None, 0, 1),
+        Asks(&["a/x", "a/y", "b", ":!a/x/z"], "", "c", None, 0, 0),
+        Asks(&["a/x", "a/y", "b", ":!a/x/z"], "", "", Some((0, ALWAYS)), 0, 0),
+        Asks(&["a/x", "a/y"], "", "b", None, 0, 0),
+        Asks(&["[x]/y", "z"], "", "z", Some((1, VERBATIM)), 1, 2),
+        Asks(&["*.c", "*.c", "*.h", "a"], "", "a", Some((3, VERBATIM)), 1, 4),
+        Asks(&["a", "a/b", "a/b/c", ":!a/b/c/d", "*"], "", "a/b/c/d", Some((3, VERBATIM)), 1, 1),
+        Asks(&[":!a/b/x", ":!a/b", "a"], "", "a/b/c", Some((1, PREFIX)), 1, 1),
+        Asks(&["a/b", "a"], "", "a/b/c", Some((0, PREFIX)), 1, 1),
+        Asks(&["a", "a/b"], "", "a/b/c", Some((0, PREFIX)), 1, 1),
+        Asks(&["b", ":"], "", "c", Some((1, ALWAYS)), 1, 1),
+        // Of excludes alone those that fit are asked.
+        Asks(&[":!a", ":!a/b", ":!b"], "", "a/b", Some((0, PREFIX)), 1, 1),
+        Asks(&[":!a", ":!a/b", ":!b"], "", "b", Some((2, VERBATIM)), 1, 1),
+        Asks(&[":!a", ":!a/b", ":!b"], "", "c", Some((3, ALWAYS)), 0, 0),
+        Asks(&[":!a", ":!a/b", ":!b"], "", "ab", Some((3, ALWAYS)), 1, 1),
+        Asks(&[":!*.c", ":!b"], "", "b", Some((1, VERBATIM)), 1, 2),
+        Asks(&[":!a"], "d", "a", Some((1, ALWAYS)), 0, 0),
+        Asks(&[":!a"], "d", "d/a", Some((0, VERBATIM)), 1, 1),
+        // Specs without case stand at their prefix directory.
+        Asks(&[":(icase)A", ":(icase)B"], "", "b", Some((1, VERBATIM)), 1, 2),
+        Asks(&[":(icase)A", ":(icase)B"], "", "c", None, 0, 2),
+        Asks(&[":(icase)A", ":(icase)B"], "d", "d/b", Some((1, VERBATIM)), 1, 2),
+        Asks(&[":(icase)A", ":(icase)B"], "d", "d/c", None, 0, 2),
+        Asks(&[":(icase)A", ":(icase)B"], "d", "D/b", None, 0, 0),
+        Asks(&[":(icase)A", ":(icase)B"], "d", "b", None, 0, 0),
+        Asks(&[":(icase)A", ":(top)d"], "d", "d/a", Some((0, VERBATIM)), 1, 2),
+        Asks(&[":(icase)A", ":(top)d"], "d", "d/b", Some((1, PREFIX)), 1, 2),
+    ];
+    assert_each(&rt, rt.alloc(), ROWS)
+}
+
+/// In how many directories `a` a path lies, each in the one before it, the path in the last, what a match of it tells, and
+/// how many heads it compares, or None for few.
+type Telling = (u32, &'static str, Told, Option<u128>);
+
+/// Whether a match tells this.
+fn is_told(alloc: Global, search: &mut Search, telling: &Telling) -> Result<bool, Fail> {
+    let (depth, text, want, heads) = *telling;
+    let told = told(search, nested(alloc, depth, text)?.as_str())?;
+    Ok(told == want && compares(search, heads))
+}
+
+/// Whether the last match compared so many heads, or few for None.
+fn compares(search: &Search, heads: Option<u128>) -> bool {
+    match heads {
+        Some(heads) => search.last_compared() == heads,
+        None => compares_few(search),
+    }
+}
+
+/// Asserts what matches tell in a search, one after the other.
+fn assert_told(
+    rt: &impl Abort,
+    alloc: Global,
+    mut search: Box<Search>,
+    rows: &[Telling],
+) -> Result<(), Fail> {
+    for (number, row) in rows.iter().enumerate() {
+        assert!(rt; is_told(alloc, &mut search, row)?, "row {number}");
+    }
+    Ok(())
+}
+
+#[test]
+fn one_of_a_thousand_files_is_found_by_few_comparisons(rt: HostRuntime) -> Result<(), Fail> {
+    const ROWS: &[Telling] = &[
+        (0, "d7/f", (Some((7, VERBATIM)), 1), None),
+        (0, "d999/f", (Some((999, VERBATIM)), 1), None),
+        (0, "d0/f", (Some((0, VERBATIM)), 1), None),
+        (0, "d500/f", (Some((500, VERBATIM)), 1), None),
+        (0, "d7/g", (None, 0), None),
+        (0, "e", (None, 0), None),
+    ];
+    let search = search_of_many(rt.alloc(), 1000, Texts::Files)?;
+    assert_told(&rt, rt.alloc(), search, ROWS)
+}
+
+#[test]
+fn paths_that_fall_to_the_head_of_the_last_compare_two(rt: HostRuntime) -> Result<(), Fail> {
+    const ROWS: &[Telling] = &[
+        (0, "d7/f", (Some((7, VERBATIM)), 1), None),
+        (0, "d7/f", (Some((7, VERBATIM)), 1), Some(2)),
+        (0, "d7/f/a", (Some((7, PREFIX)), 1), Some(2)),
+        (0, "d7/f/b", (Some((7, PREFIX)), 1), Some(2)),
+        (0, "d7/fa", (None, 1), Some(2)),
+        (0, "d7/g", (None, 0), Some(2)),
+    ];
+    let search = search_of_many(rt.alloc(), 1000, Texts::Files)?;
+    assert_told(&rt, rt.alloc(), search, ROWS)
+}
+
+#[test]
+fn ten_thousand_specs_of_one_head_are_compared_once(rt: HostRuntime) -> Result<(), Fail> {
+    const ROWS: &[Telling] = &[
+        (0, "a/bc", (Some((0, WILDCARD)), 1), Some(1)),
+        (0, "a/b", (None, 10_000), Some(1)),
+        (0, "a/c", (None, 0), Some(0)),
+    ];
+    let search = search_of_many(rt.alloc(), 10_000, Texts::Same("a/b*c"))?;
+    assert_told(&rt, rt.alloc(), search, ROWS)
+}
+
+#[test]
+fn heads_may_begin_one_another_a_thousand_times(rt: HostRuntime) -> Result<(), Fail> {
+    const ROWS: &[Telling] = &[
+        (1001, "b", (Some((0, PREFIX)), 1), None),
+        (0, "a/a", (Some((998, VERBATIM)), 1), None),
+        (0, "a/b", (Some((999, PREFIX)), 1), None),
+    ];
+    let search = search_of_many(rt.alloc(), 1000, Texts::Nested(999, "a"))?;
+    assert_told(&rt, rt.alloc(), search, ROWS)
+}
+
+#[test]
+fn heads_of_globs_may_begin_one_another_a_thousand_times(rt: HostRuntime) -> Result<(), Fail> {
+    const ROWS: &[Telling] = &[
+        (1001, "b", (None, 1000), None),
+        (1001, "b.c", (Some((0, WILDCARD)), 1), None),
+    ];
+    let search = search_of_many(rt.alloc(), 1000, Texts::Nested(999, "*.c"))?;
+    assert_told(&rt, rt.alloc(), search, ROWS)
+}

@@ -1,0 +1,119 @@
+//! Searches that several tables of tests ask, and what settles a path in them.
+use crate::look_ups::Marks;
+use crate::support::{build_from, pattern_of, search_of};
+use bstr::{BStr, BString};
+use gix_pathspec::search::MatchKind;
+use gix_pathspec::{Defaults, Error, Pattern, Search};
+use std::alloc::{AllocError, Global};
+use std::test::Fail;
+
+/// The number and the kind of a match, if there is one.
+pub(super) type Settled = Option<(usize, MatchKind)>;
+
+/// What settles a path.
+pub(super) fn settled(
+    search: &mut Search,
+    path: &[u8],
+    is_dir: Option<bool>,
+) -> Result<Settled, Fail> {
+    let path = BStr::new(path);
+    match search.pattern_matching_relative_path(path, is_dir, &mut Marks::new())? {
+        Some(found) => Ok(Some((found.sequence_number, found.kind))),
+        None => Ok(None),
+    }
+}
+
+/// Whether a pattern has this long text.
+pub(super) fn is_written(pattern: &Pattern, text: &str) -> Result<bool, Error> {
+    Ok(pattern.to_bstring()?.as_bytes() == text.as_bytes())
+}
+
+/// The search of these patterns, given in this directory of a repository at `/r`.
+pub(super) fn search_from(
+    alloc: Global,
+    patterns: Vec<Pattern>,
+    prefix: &str,
+) -> Result<Box<Search>, Fail> {
+    Ok(build_from(alloc, patterns, prefix)??)
+}
+
+/// The patterns of these specs.
+pub(super) fn patterns_of(alloc: Global, specs: &[&[u8]]) -> Result<Vec<Pattern>, Error> {
+    let mut patterns = Vec::new(alloc);
+    for spec in specs {
+        patterns.push(Pattern::from_bytes(alloc, spec, Defaults::default())?)?;
+    }
+    Ok(patterns)
+}
+
+/// The search of specs of any bytes, given in this directory of a repository at `/r`.
+pub(super) fn search_of_bytes(
+    alloc: Global,
+    specs: &[&[u8]],
+    prefix: &str,
+) -> Result<Box<Search>, Fail> {
+    search_from(alloc, patterns_of(alloc, specs)?, prefix)
+}
+
+/// The search of these texts, which comes from a list.
+pub(super) fn search_of_list(
+    alloc: Global,
+    texts: &[&str],
+    prefix: &str,
+) -> Result<Box<Search>, Fail> {
+    let mut search = search_of(alloc, texts, prefix)?;
+    search.source = Some(BString::from_slice(alloc, "list")?);
+    Ok(search)
+}
+
+/// The texts of many specs.
+#[derive(Clone, Copy)]
+pub(super) enum Texts {
+    /// The file `f` in a directory that has the number of the spec.
+    Files,
+    /// One text.
+    Same(&'static str),
+    /// The first at even numbers, and the second at odd ones.
+    InTurn(&'static str, &'static str),
+    /// A text in directories `a`, each in the one before it: in so many for the first spec, and in one less for each other.
+    Nested(u32, &'static str),
+}
+
+impl Texts {
+    /// The text of the spec with a number.
+    fn at(self, alloc: Global, number: u32) -> Result<String, AllocError> {
+        match self {
+            Texts::Files => format!(in alloc; "d{number}/f"),
+            Texts::Same(text) => String::from_str(alloc, text),
+            Texts::InTurn(even, odd) => {
+                String::from_str(alloc, if number % 2 == 0 { even } else { odd })
+            }
+            Texts::Nested(depth, text) => nested(alloc, depth.saturating_sub(number), text),
+        }
+    }
+}
+
+/// Directories `a`, each in the one before it, and behind the last of so many the text.
+pub(super) fn nested(alloc: Global, depth: u32, text: &str) -> Result<String, AllocError> {
+    let mut path = String::new(alloc);
+    for _ in 0..depth {
+        path.push_str("a/")?;
+    }
+    path.push_str(text)?;
+    Ok(path)
+}
+
+/// The patterns of so many specs.
+fn many(alloc: Global, count: u32, texts: Texts) -> Result<Vec<Pattern>, Error> {
+    let mut patterns = Vec::new(alloc);
+    for number in 0..count {
+        let text = texts.at(alloc, number)?;
+        patterns.push(pattern_of(alloc, text.as_str())?)?;
+    }
+    Ok(patterns)
+}
+
+/// The search of so many specs.
+pub(super) fn search_of_many(alloc: Global, count: u32, texts: Texts) -> Result<Box<Search>, Fail> {
+    search_from(alloc, many(alloc, count, texts)?, "")
+}
