@@ -17,11 +17,10 @@ use Rattle.gix_pathspec.specs.Reading.{nil_spec}
 use Rattle.gix_pathspec.specs.NormalForm.{normal_form}
 use Rattle.gix_pathspec.specs.Prefixes.{heads, common_front, common_prefix}
 use Rattle.gix_pathspec.specs.Search.{Numbered, specs_of, at_number, numbered_from, default_to_prefix, in_search_order, search_of}
-use Rattle.pathspec_heads.specs.Groups.{CountedPlaces, HasSameGroups}
-use Rattle.gix_pathspec.specs.Effort.{IsByHead}
 use Rattle.gix_pathspec.specs.declared.search.reach.Reach.{Reach}
 use Rattle.gix_pathspec.specs.Reach.{IsReachOf}
 use Rattle.gix_pathspec.specs.Compiled.{IsSearch}
+use Rattle.gix_pathspec.specs.Room.{ScratchContents, Fits}
 use Rattle.gix_pathspec.specs.Building.{numbered_normal_form, TellsFault, IsErrorAt}
 
 -- ---- faults
@@ -130,25 +129,14 @@ common_prefix-is specs = refl
 
 -- ---- a search
 
--- the same search
-pub is_search-same : (specs others : List Numbered) (reach other_reach : Reach) (nil other_nil : Pattern) → others ≡ specs → IsReachOf (specs_of others) other_reach → pattern_spec other_nil ≡ nil_spec → IsSearch specs reach nil → IsSearch others other_reach other_nil
-is_search-same specs others reach other_reach nil other_nil s r n h =
+-- the same search, with room of its own
+pub is_search-same : (specs others : List Numbered) (reach other_reach : Reach) (nil other_nil : Pattern) (room other_room : ScratchContents) → others ≡ specs → IsReachOf (specs_of others) other_reach → pattern_spec other_nil ≡ nil_spec → Fits others other_room → IsSearch specs reach nil room → IsSearch others other_reach other_nil other_room
+is_search-same specs others reach other_reach nil other_nil room other_room s r n f h =
     record {
       is_ordered = rw s h.is_ordered;
       has_no_nil_prefix = rw s h.has_no_nil_prefix;
       has_byte_paths = rw s h.has_byte_paths;
       is_reach = r;
       is_nil = n;
-    }
-
--- a search whose specs are those of another
-pub is_search-kept : (specs others : List Numbered) (reach : Reach) (nil : Pattern) → others ≡ specs → IsSearch specs reach nil → IsSearch others reach nil
-is_search-kept specs others reach nil s h = rw s h
-
--- specs by their heads, whose specs and groups are those of others
-pub is_by_head-kept : (specs others : List Numbered) (heads other_heads : CountedPlaces) (common : List ℕ) → others ≡ specs → HasSameGroups heads other_heads → IsByHead specs heads common → IsByHead others other_heads common
-is_by_head-kept specs others heads other_heads common s g h =
-    record {
-      is_grouped = rw (s, g.heads, g.starts, g.order) h.is_grouped;
-      is_common = rw s h.is_common;
+      has_room = f;
     }

@@ -2,12 +2,13 @@
 use Rattle.std.proofs.Common.{◌≡◌, ℕ, suc, zero, ◌+◌, ◌*◌, ◌^◌, ◌-◌, IsTrue, ◌<◌, ◌≤◌, Bool, true, false, ◌&&◌, is_some, cond, refl, sym, ◌∙◌, ap, subst, List, [], ◌∷◌, length, drop, get_or, arith, Some, None, Option, slice_get}
 use Rattle.std.specs.List.{filter, list_any}
 use Rattle.std.proofs.Math.Nat.{mul-le-mul_right}
-use Rattle.gix_pathspec.specs.declared.search.found.MatchPlace.{MatchPlace}
-use Rattle.gix_pathspec.specs.declared.search.found.MatchPlace.TheVariants.{Nil as AtNil}
+use Rattle.gix_pathspec.specs.declared.search.MatchKind.TheVariants.{Always}
+use Rattle.gix_pathspec.specs.Reading.{nil_spec}
 use Rattle.std.specs.Option.{option_and_then}
 use Rattle.std.proofs.lemmas.List.{length-map}
+use Rattle.std.proofs.lemmas.Option.{slice_get_read}
 use Rattle.pathspec_heads.specs.Heads.{head_at, IsChainOf}
-use Rattle.pathspec_heads.specs.Groups.{CountedPlaces, IsGrouped, IsInChain, IsLeastFrom}
+use Rattle.pathspec_heads.specs.Groups.{GroupedPlaces, IsGrouped, IsInChain, IsLeastFrom}
 use Rattle.pathspec_heads.proofs.CandidateProofs.{IsCandidate, candidates-next}
 use Rattle.gix_pathspec.specs.declared.search.MatchKind.{MatchKind}
 use Rattle.gix_pathspec.specs.Bytes.{is_empty, begins_with}
@@ -15,10 +16,10 @@ use Rattle.gix_pathspec.specs.Attributes.{Table}
 use Rattle.gix_pathspec.specs.Specs.{Spec, is_include}
 use Rattle.gix_pathspec.specs.Matching.{fit, has_attributes, spec_matches}
 use Rattle.gix_pathspec.specs.Prefixes.{head, common_prefix}
-use Rattle.gix_pathspec.specs.Search.{Numbered, specs_of}
-use Rattle.gix_pathspec.specs.Found.{matched_kind, first_match, IsFirstMatch, default_match}
-use Rattle.gix_pathspec.specs.Effort.{kind_at, heads_in_order, is_candidate, candidate_count, IsFewCompared, IsLittleCompared, is_unasked, is_spec_place}
-use Rattle.gix_pathspec.proofs.FoundProofs.{fit-headless, first_match-here, first_match-later}
+use Rattle.gix_pathspec.specs.Search.{Numbered, Answer, specs_of}
+use Rattle.gix_pathspec.specs.Found.{matched_kind, first_match, IsFirstMatch, answer_found}
+use Rattle.gix_pathspec.specs.Effort.{kind_at, heads_in_order, is_candidate, candidate_count, IsFewCompared, IsLittleCompared, is_unasked, IsBySpec}
+use Rattle.gix_pathspec.proofs.FoundProofs.{empty-nil, fit-headless, first_match-here, first_match-later}
 
 both_false : {A : Type 0} (o : Option A) (b : Bool) → None ≡ o → (is_some o && b) ≡ false
 both_false None b h = refl
@@ -102,7 +103,7 @@ drop-all [] (suc n) h = refl
 drop-all (x ∷ xs) zero h = absurd (omega (arith, h))
 drop-all (x ∷ xs) (suc n) h = drop-all xs n (omega (arith, h))
 
-module _ (table : Table) (path : List ℕ) (is_dir : Bool) (ns : List Numbered) (p : CountedPlaces) (grouped : IsGrouped (heads_in_order ns) p.heads p.starts p.order) (j from : ℕ) (chain : IsChainOf p.heads path j) (result : Option ℕ)
+module _ (table : Table) (path : List ℕ) (is_dir : Bool) (ns : List Numbered) (p : GroupedPlaces) (grouped : IsGrouped (heads_in_order ns) p.heads p.starts p.order) (j from : ℕ) (chain : IsChainOf p.heads path j) (result : Option ℕ)
     (n : IsLeastFrom (IsInChain p.heads p.starts p.order j) from result) where
   candidate : IsLeastFrom (IsCandidate (heads_in_order ns) path) from result
   candidate = candidates-next (heads_in_order ns) p.heads p.starts p.order grouped path j from result chain n
@@ -146,9 +147,15 @@ module _ (table : Table) (ns : List Numbered) (path : List ℕ) (is_dir : Bool) 
   pub match-later : kind_at table ns path is_dir i ≡ None → first_match table (drop (i + 1) ns) path is_dir ≡ first_match table ns path is_dir
   match-later h = let r = at_place ns i l in first_match-later table ns path is_dir i r.0 l r.2 rest (sym (kind-is r.0 r.1) ∙ h)
 
--- at equal specs and tables
-pub same-kind : (table table' : Table) (ns ns' : List Numbered) (path : List ℕ) (is_dir : Bool) (i : ℕ) → table' ≡ table → ns' ≡ ns → kind_at table' ns' path is_dir i ≡ kind_at table ns path is_dir i
-same-kind table table' ns ns' path is_dir i t s = ap (λ u. kind_at u ns' path is_dir i) t ∙ ap (λ ms. kind_at table ms path is_dir i) s
+-- what is read at a place
+pub kind_at-read : (table : Table) (specs : List Numbered) (path : List ℕ) (is_dir : Bool) (i : ℕ) (n : Numbered) (ns : List Numbered) → i < length ns → n ≡ get_or ns i n → ns ≡ specs → matched_kind table n.spec path is_dir ≡ kind_at table specs path is_dir i
+kind_at-read table specs path is_dir i n ns l read same =
+    let got : slice_get specs i ≡ Some n = subst (λ (ms : List Numbered). slice_get ms i ≡ Some n) same (slice_get_read ns (length ns) i n refl l read) in
+    sym (ap (option_and_then (λ m. matched_kind table m.spec path is_dir)) got)
+
+-- at equal tables
+pub same-table : (table table' : Table) (ns : List Numbered) (path : List ℕ) (is_dir : Bool) (i : ℕ) → table' ≡ table → kind_at table' ns path is_dir i ≡ kind_at table ns path is_dir i
+same-table table table' ns path is_dir i t = ap (λ u. kind_at u ns path is_dir i) t
 
 -- ---- how many heads are compared
 
@@ -169,15 +176,18 @@ little-from ns (x ∷ path) n e h b l =
 
 -- ---- whether a spec was found, and whether any was asked
 
-pub default-is_no_spec : (ns : List Numbered) → is_spec_place (default_match ns) ≡ false
-default-is_no_spec ns = at (list_any is_include (specs_of ns))
-  where
-    at : (b : Bool) → is_spec_place (cond b None (Some (AtNil (length ns)))) ≡ false
-    at true = refl
-    at false = refl
+abbrev nil_answer : ℕ → Option Answer
+nil_answer number = Some (record { pattern = nil_spec; number = number; kind = Always })
 
-pub no_spec : {A : Type 0} (found : Option MatchPlace) → is_spec_place found ≡ false → IsTrue (is_spec_place found) → A
-no_spec found e h = let no : false ≡ true = sym e ∙ h in cc
+-- a spec that settles a path was found
+pub by-spec : (ns : List Numbered) (path : List ℕ) (found : Option (ℕ × MatchKind)) → IsBySpec ns path (answer_found ns path found) → is_some found ≡ true
+by-spec ns path (Some found) h = refl
+by-spec ns path None h = at (is_empty path) refl (list_any is_include (specs_of ns)) h
+  where
+    at : (e : Bool) → is_empty path ≡ e → (i : Bool) → IsBySpec ns path (cond e (nil_answer 0) (cond i None (nil_answer (length ns)))) → false ≡ true
+    at true e i h = empty-nil path e h.0
+    at false e true h = absurd h
+    at false e false h = absurd (omega (arith, h.1))
 
 pub is_asked : {A : Type 0} (ns : List Numbered) (path : List ℕ) → is_empty path ≡ false → begins_with path (common_prefix (specs_of ns)) ≡ true → IsTrue (is_unasked ns path) → A
 is_asked ns path e b h = let no : false ≡ true = rw (e, b) at h in cc

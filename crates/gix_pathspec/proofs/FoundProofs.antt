@@ -1,16 +1,15 @@
 -- How a spec matches a path, attributes included, and which spec of a search settles a path.
-use Rattle.std.proofs.Common.{◌≡◌, ℕ, ◌+◌, ◌<◌, Bool, true, false, ◌&&◌, ◌==◌, cond, refl, sym, ◌∙◌, ap, List, [], ◌∷◌, length, map, drop, get_or, slice_get, arith, Some, None, Option, is_some, subst}
+use Rattle.std.proofs.Common.{◌≡◌, ◌≢◌, ℕ, IsTrue, ◌+◌, ◌<◌, Bool, true, false, ◌&&◌, ◌==◌, cond, refl, sym, ◌∙◌, ap, List, [], ◌∷◌, length, map, drop, get_or, slice_get, arith, Some, None, Option, is_some, subst}
 use Rattle.std.proofs.lemmas.Bool.{both_ways, ne_eqb}
 use Rattle.std.proofs.lemmas.List.{length-map, get_or-map, drop_more, at_drop_more}
 use Rattle.std.proofs.lemmas.Option.{slice_get_read, get_or_from_slice_get}
 use Rattle.std.proofs.Math.Bool.{and-false}
 use Rattle.std.specs.Bool.{then_some}
-use Rattle.std.specs.List.{list_any}
-use Rattle.std.specs.Option.{option_and_then}
+use Rattle.std.specs.List.{list_any, filter}
+use Rattle.std.specs.Option.{option_and_then, ForSome}
 use Rattle.pathspec_glob.specs.declared.Case.TheVariants.{Sensitive}
 use Rattle.pathspec_parts.specs.declared.attributes.state.Assignment.{Assignment as Whole}
 use Rattle.gix_pathspec.specs.declared.search.MatchKind.{MatchKind}
-use Rattle.gix_pathspec.specs.declared.search.found.MatchPlace.TheVariants.{Spec as AtSpec, Nil as AtNil}
 use Rattle.gix_pathspec.specs.Bytes.{is_empty, begins_with}
 use Rattle.gix_pathspec.specs.Attributes.{State, Table}
 use Rattle.gix_pathspec.specs.AttributeStates.{state_view, assignment_view}
@@ -18,10 +17,10 @@ use Rattle.gix_pathspec.specs.Outcomes.{NamedState, names_of, states_of, questio
 use Rattle.gix_pathspec.specs.Specs.{Spec, is_include}
 use Rattle.gix_pathspec.specs.Matching.{fit, has_attributes, have_states, same_state, spec_matches}
 use Rattle.gix_pathspec.specs.Prefixes.{head, common_prefix}
-use Rattle.gix_pathspec.specs.Search.{Numbered, Answer, specs_of, in_search_order, answer, answer_of, answer_with}
-use Rattle.gix_pathspec.specs.Compiled.{attribute_names}
-use Rattle.gix_pathspec.specs.Found.{matched_kind, first_match, IsFirstMatch, IsFirstFound, answer_at, default_match}
-use Rattle.gix_pathspec.specs.SelectionLaws.{SelectsChosen}
+use Rattle.gix_pathspec.specs.Search.{Numbered, Answer, specs_of, in_search_order, answer, answer_of, answer_with, selects}
+use Rattle.gix_pathspec.specs.Room.{attribute_names}
+use Rattle.gix_pathspec.specs.Found.{matched_kind, first_match, IsFirstMatch, IsFirstFound, answer_found}
+use Rattle.gix_pathspec.specs.SelectionLaws.{SelectsChosen, SelectsCommon}
 use Rattle.gix_pathspec.proofs.SelectedProofs.{selects_chosen}
 use Rattle.gix_pathspec.proofs.HeadProofs.{fitted_begins_head}
 
@@ -113,23 +112,10 @@ module _ (table : Table) (ns : List Numbered) (path : List ℕ) (is_dir : Bool) 
   pub first_match-later : matched_kind table n.spec path is_dir ≡ None → first_match table (drop (i + 1) ns) path is_dir ≡ first_match table ns path is_dir
   first_match-later h = sym (turn false (unmatched table n.spec path is_dir h)) ∙ rest
 
--- what the loop over the specs found, said of equal ones
-pub first-found : (table : Table) (ns specs : List Numbered) (path : List ℕ) (is_dir known : Bool) (found : Option (ℕ × MatchKind)) (place : ℕ) (kind : MatchKind) → specs ≡ ns → known ≡ is_dir → found ≡ Some (place, kind) → IsFirstFound table specs path known found → IsFirstMatch table ns path is_dir place kind
-first-found table ns specs path is_dir known found place kind same dir is m =
-    let at_place = subst (IsFirstFound table specs path known) is m in
-    let of_specs = subst (λ (ms : List Numbered). IsFirstMatch table ms path known place kind) same at_place in
-    subst (λ (d : Bool). IsFirstMatch table ns path d place kind) dir of_specs
-
-pub none-found : (table : Table) (ns specs : List Numbered) (path : List ℕ) (is_dir known : Bool) (found : Option (ℕ × MatchKind)) → specs ≡ ns → known ≡ is_dir → found ≡ None → IsFirstFound table specs path known found → first_match table ns path is_dir ≡ None
-none-found table ns specs path is_dir known found same dir is m =
-    let none = subst (IsFirstFound table specs path known) is m in
-    let of_specs = subst (λ (ms : List Numbered). first_match table ms path known ≡ None) same none in
-    subst (λ (d : Bool). first_match table ns path d ≡ None) dir of_specs
-
 -- ---- the answer
 
 -- the nil pattern settles the empty path
-pub answer-empty : (table : Table) (ns : List Numbered) (path : List ℕ) (is_dir : Bool) → is_empty path ≡ true → answer_at ns (Some (AtNil 0)) ≡ answer table ns path is_dir
+pub answer-empty : (table : Table) (ns : List Numbered) (path : List ℕ) (is_dir : Bool) → is_empty path ≡ true → answer_found ns path None ≡ answer table ns path is_dir
 unfolding answer
 answer-empty table ns path is_dir e = rw e refl
 
@@ -138,30 +124,72 @@ fitted-answer : (ns : List Numbered) (path : List ℕ) (is_dir : Bool) (kind : M
 fitted-answer ns path is_dir kind None h = cc
 fitted-answer ns path is_dir kind (Some n) h = ap (answer_with n) (sym h)
 
--- the answer where no spec matches
-default-answer : (ns : List Numbered) (path : List ℕ) (is_dir : Bool) (b : Bool) → list_any is_include (specs_of ns) ≡ b → answer_at ns (cond b None (Some (AtNil (length ns)))) ≡ answer_of ns path is_dir None
-default-answer ns path is_dir true h = rw h refl
-default-answer ns path is_dir false h = rw h refl
+pub empty-nil : {A : Type 0} (path : List ℕ) → is_empty path ≡ true → path ≢ [] → A
+empty-nil [] e n = absurd (n refl)
+empty-nil (b ∷ path) e n = cc
+
+some_filtered : (p : Spec → Bool) (xs : List Spec) (y : Spec) (ys : List Spec) → filter p xs ≡ y ∷ ys → list_any p xs ≡ true
+some_filtered p [] y ys e = cc
+some_filtered p (x ∷ xs) y ys e = at (p x) refl (some_filtered p xs y ys)
+  where
+    at : (b : Bool) → p x ≡ b → (filter p xs ≡ y ∷ ys → list_any p xs ≡ true) → list_any p (x ∷ xs) ≡ true
+    at true h later = rw h refl
+    at false h later = let others = rw h at e in rw h (later others)
+
+-- where the common prefix fails there is an include
+no_front : (specs : List Spec) (path : List ℕ) → begins_with path (common_prefix specs) ≡ false → list_any is_include specs ≡ true
+unfolding common_prefix
+no_front specs path h = at (filter is_include specs) refl
+  where
+    at : (includes : List Spec) → filter is_include specs ≡ includes → list_any is_include specs ≡ true
+    at [] e = let no : true ≡ false = rw e at h in cc
+    at (s ∷ includes) e = some_filtered is_include specs s includes e
 
 module _ (table : Table) (ns : List Numbered) (path : List ℕ) (is_dir : Bool) (some : is_empty path ≡ false) where
   -- a path that lacks the common prefix
-  pub answer-outside : begins_with path (common_prefix (specs_of ns)) ≡ false → answer_at ns None ≡ answer table ns path is_dir
+  pub answer-outside : begins_with path (common_prefix (specs_of ns)) ≡ false → answer_found ns path None ≡ answer table ns path is_dir
   unfolding answer
-  answer-outside h = rw (some, h) refl
+  answer-outside h = let include = no_front (specs_of ns) path h in rw (some, h, include) refl
 
   module _ (inside : begins_with path (common_prefix (specs_of ns)) ≡ true) where
     answer-inside : answer_of ns path is_dir (first_match table ns path is_dir) ≡ answer table ns path is_dir
     unfolding answer
     answer-inside = rw (some, inside) refl
 
-    -- the first spec that matches
-    pub answer-first : (place : ℕ) (kind : MatchKind) → IsFirstMatch table ns path is_dir place kind → answer_at ns (Some (AtSpec place kind)) ≡ answer table ns path is_dir
-    answer-first place kind m = fitted-answer ns path is_dir kind (slice_get ns place) m.fits ∙ ap (answer_of ns path is_dir) (sym m.first) ∙ answer-inside
+    -- what was found among the specs stands for the answer
+    answer-first : (found : Option (ℕ × MatchKind)) → IsFirstFound table ns path is_dir found → answer_found ns path found ≡ answer table ns path is_dir
+    answer-first (Some found) m = fitted-answer ns path is_dir found.1 (slice_get ns found.0) m.fits ∙ ap (answer_of ns path is_dir) (sym m.first) ∙ answer-inside
+    answer-first None none = let e : answer_found ns path None ≡ answer_of ns path is_dir None = rw some refl in e ∙ ap (answer_of ns path is_dir) (sym none) ∙ answer-inside
 
-    -- no spec matches
-    pub answer-default : first_match table ns path is_dir ≡ None → answer_at ns (default_match ns) ≡ answer table ns path is_dir
-    answer-default none = default-answer ns path is_dir _ refl ∙ ap (answer_of ns path is_dir) (sym none) ∙ answer-inside
+    -- said of equal specs
+    pub answer-found : (specs : List Numbered) (known : Bool) → specs ≡ ns → known ≡ is_dir → (found : Option (ℕ × MatchKind)) → IsFirstFound table specs path known found → answer_found ns path found ≡ answer table ns path is_dir
+    answer-found specs known same dir found m =
+        let of_specs = subst (λ (ms : List Numbered). IsFirstFound table ms path known found) same m in
+        answer-first found (subst (λ (d : Bool). IsFirstFound table ns path d found) dir of_specs)
+
+-- what was found lies in the search
+pub found-within : (table : Table) (ns specs : List Numbered) (path : List ℕ) (is_dir : Bool) → specs ≡ ns → (found : Option (ℕ × MatchKind)) → IsFirstFound table specs path is_dir found → ForSome found (λ at. at.0 < length ns)
+found-within table ns specs path is_dir same found m = λ at is.
+    let here : IsFirstFound table specs path is_dir (Some at) = subst (IsFirstFound table specs path is_dir) is m in
+    subst (λ (ms : List Numbered). at.0 < length ms) same here.within
 
 -- the answer selects what is chosen
 pub selected-answer : (table : Table) (ns : List Numbered) (path : List ℕ) (is_dir : Bool) (given : Option Answer) → given ≡ answer table ns path is_dir → in_search_order ns ≡ ns → SelectsChosen table ns path is_dir given
 selected-answer table ns path is_dir given e ordered = subst (SelectsChosen table ns path is_dir) (sym e) (selects_chosen table ns path is_dir ordered)
+
+-- and only what begins with the common prefix
+pub selected-common : (table : Table) (ns : List Numbered) (path : List ℕ) (is_dir : Bool) (given : Option Answer) → given ≡ answer table ns path is_dir → SelectsCommon ns path given
+unfolding answer
+selected-common table ns path is_dir given e = subst (SelectsCommon ns path) (sym e) (λ some chosen. at some chosen (is_empty path) refl (begins_with path (common_prefix (specs_of ns))) refl)
+  where
+    at : path ≢ [] → IsTrue (selects (answer table ns path is_dir)) → (e : Bool) → is_empty path ≡ e → (b : Bool) → begins_with path (common_prefix (specs_of ns)) ≡ b → begins_with path (common_prefix (specs_of ns)) ≡ true
+    at some chosen true e b is = empty-nil path e some
+    at some chosen false e true is = is
+    at some chosen false e false is = let no : false ≡ true = rw (e, is) at chosen in cc
+
+-- so does the match at what was found among the specs of a field
+pub selected-found : (table : Table) (field ns : List Numbered) (path : List ℕ) (is_dir : Bool) (found : Option (ℕ × MatchKind)) (given : Option Answer) → field ≡ ns → in_search_order field ≡ field → answer_found field path found ≡ answer table field path is_dir → given ≡ answer_found field path found
+    → SelectsChosen table ns path is_dir given × SelectsCommon ns path given
+selected-found table field ns path is_dir found given same ordered e is =
+    let answered : given ≡ answer table ns path is_dir = is ∙ e ∙ ap (λ ms. answer table ms path is_dir) same in
+    (selected-answer table ns path is_dir given answered (subst (λ (ms : List Numbered). in_search_order ms ≡ ms) same ordered), selected-common table ns path is_dir given answered)

@@ -1,4 +1,5 @@
 pub mod BuildingProofs
+pub mod RoomProofs
 pub mod LineProofs
 mod LineRows
 pub mod MatchingProofs

@@ -10,6 +10,7 @@ use Rattle.pathspec_parts.specs.Attributes.{Table}
 use Rattle.gix_pathspec.specs.declared.search.MatchKind.{MatchKind}
 use Rattle.gix_pathspec.specs.declared.search.MatchKind.TheVariants.{Always, Prefix, WildcardMatch, Verbatim}
 use Rattle.gix_pathspec.specs.Specs.{Spec, always_matches}
+use Rattle.gix_pathspec.specs.SelectionLaws.{FittedMatches}
 use Rattle.gix_pathspec.specs.Matching.{fit, match_way, spec_matches, has_attributes, is_in_prefix_directory, is_glob_match, is_verbatim_match, is_prefix_match}
 use Rattle.pathspec_parts.specs.Paths.{is_below}
 
@@ -106,3 +107,6 @@ module _ (s : Spec) (path : List ℕ) (is_dir : Bool) (kept : is_in_prefix_direc
 pub spec_matches-fits : (s : Spec) (path : List ℕ) (is_dir : Bool) (kind : Option MatchKind) → is_empty s.attributes ≡ true → kind ≡ fit s path is_dir → (table : Table) → is_some kind ≡ spec_matches table s path is_dir
 unfolding spec_matches has_attributes
 spec_matches-fits s path is_dir kind none is table = rw (is, none) (sym (and-true (is_some (fit s path is_dir))))
+
+pub fitted_matches : FittedMatches
+fitted_matches s none table path is_dir = spec_matches-fits s path is_dir (fit s path is_dir) none refl table

@@ -1,46 +1,26 @@
 -- How much a search looks at: the specs that it asks about a path, and the heads that it compares with it.
-use Rattle.std.specs.Prelude.{◌≡◌, ℕ, ◌+◌, ◌*◌, ◌^◌, ◌<◌, ◌≤◌, Bool, true, false, not, ◌||◌, List, length, map, filter, slice_get, Option, Some, None}
+use Rattle.std.specs.Prelude.{◌≡◌, ◌≢◌, ℕ, ◌+◌, ◌*◌, ◌^◌, ◌<◌, ◌≤◌, Bool, not, ◌||◌, List, [], length, map, filter, slice_get, Option, Some, None}
 use Rattle.std.specs.Option.{option_and_then}
 use Rattle.gix_pathspec.specs.declared.search.MatchKind.{MatchKind}
-use Rattle.gix_pathspec.specs.declared.search.found.MatchPlace.{MatchPlace}
-use Rattle.gix_pathspec.specs.declared.search.found.MatchPlace.TheVariants.{Spec as AtSpec, Nil as AtNil}
 use Rattle.gix_pathspec.specs.Bytes.{is_empty, begins_with}
-use Rattle.pathspec_heads.specs.Groups.{CountedPlaces, IsGrouped}
+use Rattle.pathspec_heads.specs.Groups.{GroupedPlaces, IsGrouped}
 use Rattle.gix_pathspec.specs.Attributes.{Table}
 use Rattle.gix_pathspec.specs.Prefixes.{head, common_prefix}
-use Rattle.gix_pathspec.specs.Search.{Numbered, specs_of}
+use Rattle.gix_pathspec.specs.Search.{Numbered, Answer, specs_of}
 use Rattle.gix_pathspec.specs.Found.{matched_kind}
-
--- specs, and how often one of them was asked whether it matches a path since they were made, modulo 2 ^ 128
-pub record TestedSpecs : Type 0 where
-  pub specs : List Numbered
-  pub tested : ℕ
 
 -- the heads of the specs in search order
 abbrev pub heads_in_order : List Numbered → List (List ℕ)
 heads_in_order specs = map (λ n. head n.spec) specs
 
 -- the places in search order of these specs, in groups by their heads
-abbrev pub ArePlacesOf : List Numbered → CountedPlaces → Type 0
+abbrev pub ArePlacesOf : List Numbered → GroupedPlaces → Type 0
 ArePlacesOf specs places = IsGrouped (heads_in_order specs) places.heads places.starts places.order
 
 -- the places are those of the specs, and this is their common prefix
-pub record IsByHead (specs : List Numbered) (heads : CountedPlaces) (common : List ℕ) : Type 0 where
+pub record IsByHead (specs : List Numbered) (heads : GroupedPlaces) (common : List ℕ) : Type 0 where
   pub is_grouped : ArePlacesOf specs heads
   pub is_common : common ≡ common_prefix (specs_of specs)
-
--- Specs, how many of them the last match asked, and how many heads it compared with the path; and how many all matches
--- asked and compared, modulo 2 ^ 128.
-pub record AskedSpecs : Type 0 where
-  pub specs : List Numbered
-  pub last_tested : ℕ
-  pub last_compared : ℕ
-  pub tested : ℕ
-  pub compared : ℕ
-
--- specs of which none was asked yet
-abbrev pub unasked : List Numbered → AskedSpecs
-unasked specs = record { specs = specs; last_tested = 0; last_compared = 0; tested = 0; compared = 0 }
 
 -- how the spec at a place matches a path, where there is one
 abbrev pub kind_at : Table → List Numbered → List ℕ → Bool → ℕ → Option MatchKind
@@ -66,8 +46,7 @@ IsLittleCompared specs path compared = (b : ℕ) → length specs < 2 ^ b → co
 abbrev pub is_unasked : List Numbered → List ℕ → Bool
 is_unasked specs path = is_empty path || not (begins_with path (common_prefix (specs_of specs)))
 
--- a spec of the search was found
-abbrev pub is_spec_place : Option MatchPlace → Bool
-is_spec_place (Some (AtSpec place kind)) = true
-is_spec_place (Some (AtNil number)) = false
-is_spec_place None = false
+-- a spec of the search settles a path that isn't empty, and not the nil pattern in the place of one
+abbrev pub IsBySpec : List Numbered → List ℕ → Option Answer → Type 0
+IsBySpec specs path None = ⊥
+IsBySpec specs path (Some a) = (path ≢ []) × (a.number < length specs)

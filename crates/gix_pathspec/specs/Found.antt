@@ -5,8 +5,7 @@ use Rattle.std.specs.Option.{option_and_then}
 use Rattle.gix_pathspec.specs.declared.search.MatchKind.{MatchKind}
 use Rattle.gix_pathspec.specs.declared.search.MatchKind.TheVariants.{Always}
 use Rattle.gix_pathspec.specs.declared.search.found.Match.{Match}
-use Rattle.gix_pathspec.specs.declared.search.found.MatchPlace.{MatchPlace}
-use Rattle.gix_pathspec.specs.declared.search.found.MatchPlace.TheVariants.{Spec as AtSpec, Nil as AtNil}
+use Rattle.gix_pathspec.specs.Bytes.{is_empty}
 use Rattle.gix_pathspec.specs.Attributes.{Table}
 use Rattle.gix_pathspec.specs.Specs.{Spec, is_include}
 use Rattle.gix_pathspec.specs.Patterns.{pattern_spec}
@@ -37,24 +36,18 @@ abbrev pub IsFirstFound : Table → List Numbered → List ℕ → Bool → Opti
 IsFirstFound table search path is_dir None = first_match table search path is_dir ≡ None
 IsFirstFound table search path is_dir (Some found) = IsFirstMatch table search path is_dir found.0 found.1
 
--- the place lies in the search
-abbrev pub IsWithin : List Numbered → MatchPlace → Type 0
-IsWithin search (AtSpec place kind) = place < length search
-IsWithin search (AtNil number) = Unit {0}
+-- What settles a path that no spec matches: the nil pattern, where the path is empty or there is no include.
+abbrev pub default_answer : List Numbered → List ℕ → Option Answer
+default_answer search path =
+    if is_empty path then Some (record { pattern = nil_spec; number = 0; kind = Always })
+    else if list_any is_include (specs_of search) then None
+    else Some (record { pattern = nil_spec; number = length search; kind = Always })
 
--- the answer that a place stands for
-abbrev pub answer_of_place : List Numbered → MatchPlace → Option Answer
-answer_of_place search (AtSpec place kind) = option_and_then (λ n. answer_with n (Some kind)) (slice_get search place)
-answer_of_place search (AtNil number) = Some (record { pattern = nil_spec; number = number; kind = Always })
-
--- the answer that what was found stands for
-abbrev pub answer_at : List Numbered → Option MatchPlace → Option Answer
-answer_at search found = option_and_then (answer_of_place search) found
+-- the answer that the place of the first match stands for
+abbrev pub answer_found : List Numbered → List ℕ → Option (ℕ × MatchKind) → Option Answer
+answer_found search path None = default_answer search path
+answer_found search path (Some found) = option_and_then (λ n. answer_with n (Some found.1)) (slice_get search found.0)
 
 -- the answer that a match is
 abbrev pub match_view : Match → Answer
 match_view m = record { pattern = pattern_spec m.pattern.now; number = m.sequence_number; kind = m.kind }
-
--- what settles a path that no spec matches: the nil pattern where there is no include, and else nothing
-abbrev pub default_match : List Numbered → Option MatchPlace
-default_match search = if list_any is_include (specs_of search) then None else Some (AtNil (length search))

@@ -27,6 +27,7 @@ pub mod Plain
 pub mod SelectionLaws
 pub mod PruningLaws
 pub mod DirectoryLaws
+pub mod Room
 pub mod Compiled
 pub mod Found
 pub mod Effort

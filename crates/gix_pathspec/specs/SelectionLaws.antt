@@ -1,11 +1,11 @@
 -- What is promised of what a search selects, as facts that contracts can cite.
-use Rattle.std.specs.Prelude.{◌≡◌, ◌≢◌, ◌↔◌, ℕ, Bool, List, [], Option, IsTrue, IsFalse, Contains}
+use Rattle.std.specs.Prelude.{◌≡◌, ◌≢◌, ◌↔◌, ℕ, Bool, List, [], Option, IsTrue, IsFalse, Contains, is_some}
 use Rattle.std.specs.List.Sorted.{IsPermutation}
-use Rattle.gix_pathspec.specs.Bytes.{fold_case, begins_with}
+use Rattle.gix_pathspec.specs.Bytes.{is_empty, fold_case, begins_with}
 use Rattle.gix_pathspec.specs.Paths.{IsBytes}
 use Rattle.gix_pathspec.specs.Attributes.{Table}
 use Rattle.gix_pathspec.specs.Specs.{Spec, ignores_case}
-use Rattle.gix_pathspec.specs.Matching.{fits, is_chosen, IsChosen}
+use Rattle.gix_pathspec.specs.Matching.{fit, fits, spec_matches, is_chosen, IsChosen}
 use Rattle.gix_pathspec.specs.Prefixes.{stem, head, common_prefix}
 use Rattle.gix_pathspec.specs.Search.{Numbered, Answer, specs_of, selects}
 
@@ -32,6 +32,10 @@ FittedBeginsHead = (s : Spec) (path : List ℕ) (is_dir : Bool) → IsTrue (fits
 -- Unless the spec is nil, it begins with the stem too, without case where the spec has none.
 abbrev pub FittedBeginsStem : Type 0
 FittedBeginsStem = (s : Spec) (path : List ℕ) (is_dir : Bool) → IsFalse s.nil → IsTrue (fits s path is_dir) → IsTrue (begins_with (fold_case (ignores_case s) path) (fold_case (ignores_case s) (stem s)))
+
+-- A spec that lists no attributes matches what it fits, whatever a look-up says.
+abbrev pub FittedMatches : Type 0
+FittedMatches = (s : Spec) → IsTrue (is_empty s.attributes) → (table : Table) (path : List ℕ) (is_dir : Bool) → is_some (fit s path is_dir) ≡ spec_matches table s path is_dir
 
 -- Every chosen path begins with the common prefix.
 abbrev pub ChosenBeginsCommon : Type 0

@@ -1,25 +1,27 @@
 //! Specs by their heads: what a match asks, and nothing beside it.
 //!
 //! A match sees two questions about a path that isn't empty and begins with the common prefix: how the spec at a place
-//! matches it, and which heads begin it. Both count. What reads a spec is private to the module `search`.
+//! matches it, and which heads begin it. Both count, in the scratch that the match was lent. What reads a spec, and what
+//! makes a scratch, is private to the module `search`.
 ghost use Rattle.std.specs.Prelude.{◌≡◌, ◌<◌, ◌≤◌, length, IsSome, IsTrue, IfOk, OnOk, OnErr};
 ghost use Rattle.std.specs.Box.{box_value};
 ghost use Rattle.bstr.specs.BStr.{bstr_bytes};
 ghost use Rattle.pathspec_parts.specs.Attributes.{next_count};
 ghost use Rattle.pathspec_glob.specs.Counts.{Counts};
 ghost use Rattle.pathspec_heads.specs.Heads.{IsChainOf};
-ghost use Rattle.pathspec_heads.specs.Groups.{HasSameGroups};
 ghost use Rattle.gix_pathspec.specs.Found.{IsFirstFound};
 ghost use Rattle.gix_pathspec.specs.Prefixes.{common_prefix};
 ghost use Rattle.gix_pathspec.specs.Search.{specs_of};
-ghost use Rattle.gix_pathspec.specs.Effort.{ArePlacesOf, unasked, candidate_count, IsFewCompared, IsLittleCompared, is_unasked, is_spec_place};
+ghost use Rattle.gix_pathspec.specs.Room.{HasRoom, KeepsRoom, Fits, IsFresh, SameRoom};
+ghost use Rattle.gix_pathspec.specs.Effort.{ArePlacesOf, candidate_count, IsFewCompared, IsLittleCompared, is_unasked};
 
-use crate::search::counted::CountedSpecs;
+use crate::search::MatchKind;
+use crate::search::counted::{CountedHeads, CountedSpecs, SpecScratch};
 use crate::search::texts::begins_with;
-use crate::search::{MatchKind, MatchPlace};
 use bstr::BStr;
-use pathspec_heads::places::PlacesByHead;
+use pathspec_heads::places;
 use pathspec_parts::attributes::LookUp;
+use std::fmt;
 use std::marker::Model;
 
 /// How many specs a match asked, and how many heads it compared with the path.
@@ -35,202 +37,249 @@ const NO_EFFORT: Effort = Effort {
     compared: 0,
 };
 
-/// The specs of a search with their places by their heads, and what the last match looked at.
+/// What the matches of one walker write: the room that globs and look-ups work in, and what was asked and compared.
+///
+/// [`Search::new_scratch`](crate::search::Search::new_scratch) makes one. Walkers that share a search have one each. The
+/// counts of all matches are never set back.
+#[derive(Drop)]
+pub struct Scratch {
+    specs: SpecScratch,
+    heads: places::Scratch,
+    effort: Effort,
+}
+
+impl fmt::Debug for Scratch {
+    fn fmt<W: fmt::Write>(&self, f: &mut fmt::Formatter<W>) -> fmt::Result {
+        f.debug_struct("Scratch")
+            .field("last_tested", &self.last_tested())
+            .field("last_compared", &self.last_compared())
+            .finish()
+    }
+}
+
+impl Model for Scratch {
+    ghost use Rattle.gix_pathspec.specs.Room.{ScratchContents};
+
+    ghost Value = { ScratchContents };
+
+    ghost view = { λ s. record { tokens = s.specs.tokens; names = s.specs.names; last_tested = s.effort.tested; last_compared = s.effort.compared; tested = s.specs.tested; compared = s.heads } };
+}
+
+impl Scratch {
+    /// A scratch of this room, in which nothing was asked yet.
+    pub(crate) fn new(specs: SpecScratch, heads: places::Scratch) -> Scratch
+        requires specs_unasked { specs.tested ≡ 0 }
+        requires heads_unasked { heads ≡ 0 }
+        ensures room { result.tokens ≡ specs.tokens }
+        ensures names { result.names ≡ specs.names }
+        ensures fresh { IsFresh result }
+    {
+        Scratch {
+            specs,
+            heads,
+            effort: NO_EFFORT,
+        }
+    }
+
+    /// What questions to specs write.
+    pub(crate) fn specs(&self) -> &SpecScratch
+        ensures tokens { result.now.tokens ≡ self.now.tokens }
+        ensures names { result.now.names ≡ self.now.names }
+    {
+        &self.specs
+    }
+
+    /// How many specs the last match asked whether they match the path; a spec at which the look-up failed is one. It is 0
+    /// before the first match, and where the path was empty or lacked the common prefix.
+    pub fn last_tested(&self) -> usize
+        ensures { result ≡ self.now.last_tested }
+    {
+        self.effort.tested
+    }
+
+    /// How many heads of specs the last match compared with the path. It is 0 where [`Scratch::last_tested`] says so.
+    pub fn last_compared(&self) -> u128
+        ensures { result ≡ self.now.last_compared }
+    {
+        self.effort.compared
+    }
+
+    /// How many specs all matches in this scratch asked, modulo 2^128.
+    pub fn total_tested(&self) -> u128
+        ensures { result ≡ self.now.tested }
+    {
+        self.specs.tested()
+    }
+
+    /// How many heads all matches in this scratch compared, modulo 2^128.
+    pub fn total_compared(&self) -> u128
+        ensures { result ≡ self.now.compared }
+    {
+        self.heads.compared()
+    }
+}
+
+/// The specs of a search with their places by their heads. No match writes to them.
 #[derive(Drop)]
 pub(crate) struct SpecsByHead {
     specs: CountedSpecs,
     /// The places of the specs in search order, by their heads.
-    heads: Box<PlacesByHead>,
+    heads: Box<CountedHeads>,
     common_prefix: Vec<u8>,
-    effort: Effort,
 }
 
 impl Model for SpecsByHead {
+    ghost use Rattle.std.specs.Prelude.{List};
     ghost use Rattle.std.specs.Box.{box_value};
-    ghost use Rattle.gix_pathspec.specs.Effort.{AskedSpecs, IsByHead};
+    ghost use Rattle.gix_pathspec.specs.Search.{Numbered};
+    ghost use Rattle.gix_pathspec.specs.Effort.{IsByHead};
 
-    ghost Value = { AskedSpecs };
+    ghost Value = { List Numbered };
 
-    ghost view = { λ s. record { specs = s.specs.specs; last_tested = s.effort.tested; last_compared = s.effort.compared; tested = s.specs.tested; compared = (box_value s.heads).compared } };
+    ghost view = { λ s. s.specs };
 
-    ghost invariant = { λ s. IsByHead s.specs.specs (box_value s.heads) s.common_prefix.items };
+    ghost invariant = { λ s. IsByHead s.specs (box_value s.heads) s.common_prefix.items };
 }
 
 impl SpecsByHead {
     ghost use Rattle.std.specs.Option.{ForSome};
-    ghost use Rattle.gix_pathspec.specs.Found.{is_directory, IsWithin, default_match, answer_at};
+    ghost use Rattle.gix_pathspec.specs.Found.{is_directory, answer_found};
     ghost use Rattle.gix_pathspec.specs.Search.{answer};
-    ghost use Rattle.gix_pathspec.specs.SelectionLaws.{SelectsCommon};
 
-    /// Specs of which none was asked yet, with their places and their common prefix.
-    pub(crate) fn new(specs: CountedSpecs, heads: Box<PlacesByHead>, common: Vec<u8>) -> SpecsByHead
-        requires places { ArePlacesOf specs.specs (box_value heads) }
-        requires common { common.items ≡ common_prefix (specs_of specs.specs) }
-        requires specs_unasked { specs.tested ≡ 0 }
-        requires heads_unasked { (box_value heads).compared ≡ 0 }
-        ensures { result ≡ unasked specs.specs }
+    /// Specs with their places and their common prefix.
+    pub(crate) fn new(specs: CountedSpecs, heads: Box<CountedHeads>, common: Vec<u8>) -> SpecsByHead
+        requires places { ArePlacesOf specs (box_value heads) }
+        requires common { common.items ≡ common_prefix (specs_of specs) }
+        ensures { result ≡ specs }
     {
         SpecsByHead {
             specs,
             heads,
             common_prefix: common,
-            effort: NO_EFFORT,
         }
     }
 
     /// How many specs there are.
     pub(crate) fn len(&self) -> usize
-        ensures { result ≡ length self.now.specs }
+        ensures { result ≡ length self.now }
     {
         self.specs.len()
     }
 
     /// What every path that an include matches begins with.
     pub(crate) fn common_prefix(&self) -> &[u8]
-        ensures { result.now ≡ common_prefix (specs_of self.now.specs) }
+        ensures { result.now ≡ common_prefix (specs_of self.now) }
     {
         &self.common_prefix
     }
 
     /// The specs, whose questions about a path are counted.
     pub(crate) fn counted(&self) -> &CountedSpecs
-        ensures { result.now.specs ≡ self.now.specs }
+        ensures { result.now ≡ self.now }
     {
         &self.specs
     }
 
+    /// The heads of the specs, whose comparisons with a path are counted.
+    pub(crate) fn heads(&self) -> &CountedHeads {
+        &self.heads
+    }
+
     /// The specs by value.
     pub(crate) fn into_counted(self) -> CountedSpecs
-        ensures { result.specs ≡ self.specs }
+        ensures { result ≡ self }
     {
         self.specs
     }
 
-    /// How many specs the last match asked.
-    pub(crate) fn last_tested(&self) -> usize
-        ensures { result ≡ self.now.last_tested }
-    {
-        self.effort.tested
-    }
-
-    /// How many heads the last match compared with the path.
-    pub(crate) fn last_compared(&self) -> u128
-        ensures { result ≡ self.now.last_compared }
-    {
-        self.effort.compared
-    }
-
-    /// How many specs all matches asked, modulo 2^128.
-    pub(crate) fn total_tested(&self) -> u128
-        ensures { result ≡ self.now.tested }
-    {
-        self.specs.tested()
-    }
-
-    /// How many heads all matches compared, modulo 2^128.
-    pub(crate) fn total_compared(&self) -> u128
-        ensures { result ≡ self.now.compared }
-    {
-        self.heads.compared()
-    }
-
-    /// The place of the spec that settles a path, as [`Search::find_match`](crate::search::Search::find_match) says; what
-    /// settles a path that no spec matches is given.
+    /// The place of the first spec that matches a path, and how it does, as
+    /// [`Search::settle`](crate::search::Search::settle) says. None is found for the empty path, nor for one that lacks the
+    /// common prefix.
     ///
     /// # Errors
     /// The look-up's fault.
     pub(crate) fn find_match<L: LookUp>(
-        &mut self,
+        &self,
         path: BStr<'_>,
         is_dir: Option<bool>,
-        default: Option<MatchPlace>,
+        scratch: &mut Scratch,
         look_up: &mut L,
-    ) -> Result<Option<MatchPlace>, L::Fault>
-        requires default { default ≡ default_match self.old.specs }
-        ensures same { self.new.specs ≡ self.old.specs }
-        ensures answer { IfOk result (λ found. answer_at self.old.specs found
-            ≡ answer (L.table look_up.old) self.old.specs
+    ) -> Result<Option<(usize, MatchKind)>, L::Fault>
+        requires { Fits self.now scratch.old }
+        ensures room { SameRoom scratch.old scratch.new }
+        ensures answer { IfOk result (λ found. answer_found self.now (bstr_bytes path.entry) found
+            ≡ answer (L.table look_up.old) self.now
             (bstr_bytes path.entry) (is_directory is_dir)) }
-        ensures within { IfOk result (λ found. ForSome found (IsWithin self.old.specs)) }
-        ensures begins { IfOk result (λ found.
-            SelectsCommon self.old.specs (bstr_bytes path.entry) (answer_at self.old.specs found)) }
+        ensures within { IfOk result (λ found. ForSome found (λ at. at.0 < length self.now)) }
         ensures table_stays { L.table look_up.new ≡ L.table look_up.old }
         ensures ok_leaves_count { OnOk result (L.failures look_up.new ≡ L.failures look_up.old) }
         ensures err_counts { OnErr result
             (L.failures look_up.new ≡ next_count (L.failures look_up.old)) }
 
         // What is asked and compared is counted, and all of it is told; also where the look-up fails.
-        ensures tested { Counts self.old.tested self.new.last_tested self.new.tested }
-        ensures compared { Counts self.old.compared self.new.last_compared self.new.compared }
-        ensures few_tested { self.new.last_tested
-            ≤ candidate_count self.old.specs (bstr_bytes path.entry) }
-        ensures few_compared { IsFewCompared self.old.specs self.new.last_compared }
-        ensures little_compared { IsLittleCompared self.old.specs (bstr_bytes path.entry)
-            self.new.last_compared }
-        ensures looked { IfOk result (λ found. IsTrue (is_spec_place found)
-            → (1 ≤ self.new.last_tested) × (1 ≤ self.new.last_compared)) }
-        ensures unasked { IsTrue (is_unasked self.old.specs (bstr_bytes path.entry))
-            → (self.new.last_tested ≡ 0) × (self.new.last_compared ≡ 0) }
+        ensures tested { Counts scratch.old.tested scratch.new.last_tested scratch.new.tested }
+        ensures compared { Counts scratch.old.compared scratch.new.last_compared
+            scratch.new.compared }
+        ensures few_tested { scratch.new.last_tested
+            ≤ candidate_count self.now (bstr_bytes path.entry) }
+        ensures few_compared { IsFewCompared self.now scratch.new.last_compared }
+        ensures little_compared { IsLittleCompared self.now (bstr_bytes path.entry)
+            scratch.new.last_compared }
+        ensures looked { IfOk result (λ found. IsSome found
+            → (1 ≤ scratch.new.last_tested) × (1 ≤ scratch.new.last_compared)) }
+        ensures unasked { IsTrue (is_unasked self.now (bstr_bytes path.entry))
+            → (scratch.new.last_tested ≡ 0) × (scratch.new.last_compared ≡ 0) }
     {
-        self.effort = NO_EFFORT;
+        scratch.effort = NO_EFFORT;
         if path.as_bytes().is_empty() {
-            return Ok(Some(MatchPlace::Nil { number: 0 }));
+            return Ok(None);
         }
         if !begins_with(path.as_bytes(), &self.common_prefix, false) {
             return Ok(None);
         }
         let is_dir = is_dir.unwrap_or(false);
-        if let Some((place, kind)) = first_match(
-            &mut self.specs,
-            &mut self.heads,
-            &mut self.effort,
-            path,
-            is_dir,
-            look_up,
-        )? {
-            return Ok(Some(MatchPlace::Spec { place, kind }));
-        }
-        Ok(default)
+        first_match(&self.specs, &self.heads, scratch, path, is_dir, look_up)
     }
 }
 
 /// The place of the first spec that matches a path, and how it does. Only specs are asked whose head begins the path.
 fn first_match<L: LookUp>(
-    specs: &mut CountedSpecs,
-    heads: &mut PlacesByHead,
-    effort: &mut Effort,
+    specs: &CountedSpecs,
+    heads: &CountedHeads,
+    scratch: &mut Scratch,
     path: BStr<'_>,
     is_dir: bool,
     look_up: &mut L,
 ) -> Result<Option<(usize, MatchKind)>, L::Fault>
-    requires grouped { ArePlacesOf specs.old.specs heads.old }
-    requires none { effort.old.tested ≡ 0 }
-    ensures same { specs.new.specs ≡ specs.old.specs }
-    ensures groups { HasSameGroups heads.old heads.new }
+    requires grouped { ArePlacesOf specs.now heads.now }
+    requires fits { Fits specs.now scratch.old }
+    requires none { scratch.old.last_tested ≡ 0 }
+    ensures room { SameRoom scratch.old scratch.new }
     ensures first { IfOk result (λ found.
-        IsFirstFound (L.table look_up.old) specs.old.specs (bstr_bytes path.entry) is_dir found) }
+        IsFirstFound (L.table look_up.old) specs.now (bstr_bytes path.entry) is_dir found) }
     ensures table_stays { L.table look_up.new ≡ L.table look_up.old }
     ensures ok_leaves_count { OnOk result (L.failures look_up.new ≡ L.failures look_up.old) }
     ensures err_counts { OnErr result
         (L.failures look_up.new ≡ next_count (L.failures look_up.old)) }
     // What was looked at is told.
-    ensures tested { Counts specs.old.tested effort.new.tested specs.new.tested }
-    ensures few_tested { effort.new.tested
-        ≤ candidate_count specs.old.specs (bstr_bytes path.entry) }
-    ensures compared { Counts heads.old.compared effort.new.compared heads.new.compared }
-    ensures few_compared { IsFewCompared specs.old.specs effort.new.compared }
+    ensures tested { Counts scratch.old.tested scratch.new.last_tested scratch.new.tested }
+    ensures few_tested { scratch.new.last_tested
+        ≤ candidate_count specs.now (bstr_bytes path.entry) }
+    ensures compared { Counts scratch.old.compared scratch.new.last_compared scratch.new.compared }
+    ensures few_compared { IsFewCompared specs.now scratch.new.last_compared }
     ensures looked { IfOk result (λ found. IsSome found
-        → (1 ≤ effort.new.tested) × (1 ≤ effort.new.compared)) }
+        → (1 ≤ scratch.new.last_tested) × (1 ≤ scratch.new.last_compared)) }
 {
-    let deepest = heads.deepest(path.as_bytes());
-    effort.compared = deepest.compared;
+    let deepest = heads.deepest(path.as_bytes(), &mut scratch.heads);
+    scratch.effort.compared = deepest.compared;
     match deepest.head {
         Some(head) => {
             first_candidate(
                 specs,
                 heads,
                 head,
-                &mut effort.tested,
+                &mut scratch.specs,
+                &mut scratch.effort.tested,
                 path,
                 is_dir,
                 look_up,
@@ -243,27 +292,29 @@ fn first_match<L: LookUp>(
 /// The place of the first spec that matches a path, and how it does, of those whose head begins the one with a number.
 /// Each spec that is asked is counted.
 fn first_candidate<L: LookUp>(
-    specs: &mut CountedSpecs,
-    heads: &PlacesByHead,
+    specs: &CountedSpecs,
+    heads: &CountedHeads,
     head: usize,
+    scratch: &mut SpecScratch,
     tested: &mut usize,
     path: BStr<'_>,
     is_dir: bool,
     look_up: &mut L,
 ) -> Result<Option<(usize, MatchKind)>, L::Fault>
-    requires grouped { ArePlacesOf specs.old.specs heads.now }
+    requires grouped { ArePlacesOf specs.now heads.now }
+    requires room { HasRoom specs.now scratch.old.tokens scratch.old.names }
     requires head { head < length heads.now.heads }
     requires chain { IsChainOf heads.now.heads (bstr_bytes path) head }
     requires none { tested.old ≡ 0 }
-    ensures same { specs.new.specs ≡ specs.old.specs }
+    ensures room { KeepsRoom scratch.old scratch.new }
     ensures first { IfOk result (λ found.
-        IsFirstFound (L.table look_up.old) specs.old.specs (bstr_bytes path.entry) is_dir found) }
+        IsFirstFound (L.table look_up.old) specs.now (bstr_bytes path.entry) is_dir found) }
     ensures table_stays { L.table look_up.new ≡ L.table look_up.old }
     ensures ok_leaves_count { OnOk result (L.failures look_up.new ≡ L.failures look_up.old) }
     ensures err_counts { OnErr result
         (L.failures look_up.new ≡ next_count (L.failures look_up.old)) }
-    ensures counted { Counts specs.old.tested tested.new specs.new.tested }
-    ensures few { tested.new ≤ candidate_count specs.old.specs (bstr_bytes path.entry) }
+    ensures counted { Counts scratch.old.tested tested.new scratch.new.tested }
+    ensures few { tested.new ≤ candidate_count specs.now (bstr_bytes path.entry) }
     ensures asked { IfOk result (λ found. IsSome found → 1 ≤ tested.new) }
 {
     let count = specs.len();
@@ -274,7 +325,7 @@ fn first_candidate<L: LookUp>(
             None => return Ok(None),
         };
         *tested += 1;
-        if let Some(kind) = specs.matches(place, path, is_dir, look_up)? {
+        if let Some(kind) = specs.matches(place, path, is_dir, scratch, look_up)? {
             return Ok(Some((place, kind)));
         }
         from = place + 1;

@@ -4,17 +4,19 @@ mod directories;
 mod found;
 mod init;
 mod lines;
-pub mod matching;
+mod matching;
 mod patterns;
 mod pruning;
 mod reach;
+mod scratch;
 mod spec;
 pub(crate) mod texts;
 
 use crate::Pattern;
+pub use crate::by_head::Scratch;
 use crate::by_head::SpecsByHead;
 use bstr::BString;
-pub use found::{Match, MatchPlace};
+pub use found::Match;
 pub use init::BuildError;
 pub use patterns::{IntoPatterns, Patterns};
 use reach::Reach;
@@ -36,10 +38,13 @@ pub enum MatchKind {
 
 /// Specs that are asked together about paths: excludes first, each group in the order in which the specs were given.
 ///
-/// It has made all the room that matching needs: no call on it but [`Search::try_clone`] takes memory.
+/// A match that is lent a [`Scratch`] only reads it ([`Search::settle`]), so walkers can share a search. No call on it but
+/// [`Search::try_clone`] and [`Search::new_scratch`] takes memory.
 #[derive(Drop)]
 pub struct Search {
     specs: SpecsByHead,
+    /// The room for the matches of [`Search::pattern_matching_relative_path`].
+    scratch: Scratch,
     /// Which paths the includes reach.
     reach: Reach,
     /// The spec `:`, which answers where no spec does.
@@ -56,9 +61,9 @@ impl Model for Search {
 
     ghost Value = { SearchContents };
 
-    ghost view = { λ s. record { specs = s.specs.specs; source = option_map bstring_bytes s.source; last_tested = s.specs.last_tested; last_compared = s.specs.last_compared; tested = s.specs.tested; compared = s.specs.compared } };
+    ghost view = { λ s. record { specs = s.specs; source = option_map bstring_bytes s.source; last_tested = s.scratch.last_tested; last_compared = s.scratch.last_compared; tested = s.scratch.tested; compared = s.scratch.compared } };
 
-    ghost invariant = { λ s. IsSearch s.specs.specs s.reach s.nil };
+    ghost invariant = { λ s. IsSearch s.specs s.reach s.nil s.scratch };
 }
 
 impl fmt::Debug for Search {

@@ -2,12 +2,13 @@
 ghost use Rattle.std.specs.Prelude.{◌≡◌, ◌≢◌, ◌↔◌, [], IfOk, IsTrue};
 ghost use Rattle.bstr.specs.BStr.{bstr_bytes};
 ghost use Rattle.pathspec_parts.specs.Paths.{without_last_slash};
-ghost use Rattle.gix_pathspec.specs.Search.{KeepsSpecs};
+ghost use Rattle.gix_pathspec.specs.Room.{Fits, SameRoom};
 ghost use Rattle.pathspec_callers.specs.Selections.{IsChosenFile, HoldsNothing};
 
 use bstr::BStr;
 use gix_pathspec::Search;
 use gix_pathspec::attributes::LookUp;
+use gix_pathspec::search::Scratch;
 use pathspec_parts::path::strip_last_slash;
 
 /// Whether a search selects a file.
@@ -15,18 +16,17 @@ use pathspec_parts::path::strip_last_slash;
 /// # Errors
 /// The fault of the look-up.
 pub fn is_selected<L: LookUp>(
-    search: &mut Search,
+    search: &Search,
     file: BStr<'_>,
+    scratch: &mut Scratch,
     look_up: &mut L,
 ) -> Result<bool, L::Fault>
+    requires { Fits search.now.specs scratch.old }
     ensures chosen { bstr_bytes file.entry ≢ [] → IfOk result (λ selected. IsTrue selected
-        ↔ IsChosenFile (L.table look_up.old) search.old (bstr_bytes file.entry)) }
-    ensures same { KeepsSpecs search.old search.new }
+        ↔ IsChosenFile (L.table look_up.old) search.now (bstr_bytes file.entry)) }
+    ensures room { SameRoom scratch.old scratch.new }
 {
-    match search.find_match(file, Some(false), look_up)? {
-        Some(place) => Ok(!search.match_at(place).is_excluded()),
-        None => Ok(false),
-    }
+    search.is_selected(file, Some(false), scratch, look_up)
 }
 
 /// Whether a walker may skip a directory: then nothing at or below it is chosen, whatever a look-up says.

@@ -37,11 +37,11 @@ pub fn chosen_lines(
 pub fn chosen_entries<L: LookUp>(
     alloc: Global,
     tree: &Tree,
-    search: &mut Search,
+    search: &Search,
     look_up: &mut L,
 ) -> Result<Vec<usize>, SelectError<L::Fault>>
     ensures { IfOk result (λ given. given.items ≡ chosen_entries
-        (L.table look_up.old) (specs_of search.old.specs) tree.now.entries) }
+        (L.table look_up.old) (specs_of search.now.specs) tree.now.entries) }
 {
     let Ok(mut cursor) = Cursor::new(alloc, tree) else {
         return Err(SelectError::Memory);

@@ -62,18 +62,11 @@ pub record IsGrouped (texts heads : List (List ℕ)) (starts order : List ℕ) :
 abbrev pub IsInChain : List (List ℕ) → List ℕ → List ℕ → ℕ → ℕ → Type 0
 IsInChain heads starts order j place = (k : ℕ) × (k < length heads) × (begins_with (head_at heads j) (head_at heads k) ≡ true) × IsInGroup starts order k place
 
--- what a table of places is seen as: its groups, and how often a head was compared with a text, modulo 2 ^ 128
-pub record CountedPlaces : Type 0 where
+-- what places by head are seen as: their groups
+pub record GroupedPlaces : Type 0 where
   pub heads : List (List ℕ)
   pub starts : List ℕ
   pub order : List ℕ
-  pub compared : ℕ
-
--- the tables have the same groups
-pub record HasSameGroups (old new : CountedPlaces) : Type 0 where
-  pub heads : new.heads ≡ old.heads
-  pub starts : new.starts ≡ old.starts
-  pub order : new.order ≡ old.order
 
 -- the lesser of two numbers, of those that are there
 abbrev pub earlier : Option ℕ → Option ℕ → Option ℕ

@@ -6,11 +6,6 @@ use Rattle.std.specs.Cmp.Lexicographic.{slice_cmp}
 use Rattle.pathspec_glob.specs.Bytes.{begins_with}
 use Rattle.pathspec_heads.specs.Agreement.{agreement, is_behind}
 
--- heads, and how often one of them was compared with a text since they were made, modulo 2 ^ 128
-pub record CountedHeads : Type 0 where
-  pub heads : List (List ℕ)
-  pub compared : ℕ
-
 -- the head at a place
 abbrev pub head_at : List (List ℕ) → ℕ → List ℕ
 head_at heads place = get_or heads place []

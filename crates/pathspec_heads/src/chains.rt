@@ -1,10 +1,10 @@
 //! Which heads begin a text: one search for the last head that isn't behind it, and then links, without a comparison.
-ghost use Rattle.std.specs.Prelude.{◌≡◌, ◌⊎◌, ℕ, ◌+◌, ◌^◌, ◌<◌, ◌≤◌, length, take, Some, IfOk, IfSome};
+ghost use Rattle.std.specs.Prelude.{◌≡◌, ◌⊎◌, ℕ, ◌+◌, ◌^◌, ◌<◌, ◌≤◌, List, length, take, Some, IfOk, IfSome};
 ghost use Rattle.pathspec_glob.specs.Bytes.{begins_with};
 ghost use Rattle.pathspec_glob.specs.Counts.{Counts};
-ghost use Rattle.pathspec_heads.specs.Heads.{CountedHeads, head_at, IsRising, IsLinked, IsLastFront, IsChain, IsChainOf, Brackets};
+ghost use Rattle.pathspec_heads.specs.Heads.{head_at, IsRising, IsLinked, IsLastFront, IsChain, IsChainOf, Brackets};
 
-use crate::heads::{Heads, Texts};
+use crate::heads::{Heads, Scratch, Texts};
 use std::alloc::{AllocError, Global};
 use std::marker::Model;
 
@@ -15,16 +15,14 @@ use std::marker::Model;
 pub struct Chains {
     heads: Heads,
     links: Vec<Option<usize>>,
-    // Where the last search ended; the next one looks here first.
-    hint: usize,
 }
 
 impl Model for Chains {
-    ghost Value = { CountedHeads };
+    ghost Value = { List (List ℕ) };
 
     ghost view = { λ c. c.heads };
 
-    ghost invariant = { λ c. IsChain c.heads.heads c.links.items };
+    ghost invariant = { λ c. IsChain c.heads c.links.items };
 }
 
 /// What was found for a text.
@@ -62,16 +60,21 @@ struct PartitionPoint {
 }
 
 /// Compares the head at the index with the text.
-fn narrowed(heads: &mut Heads, text: &[u8], between: Between, index: usize) -> Between
+fn narrowed(
+    heads: &Heads,
+    text: &[u8],
+    between: Between,
+    index: usize,
+    scratch: &mut Scratch,
+) -> Between
     requires index { (between.low ≤ index) × (index < between.high) }
-    requires so_far { Brackets heads.old.heads text.now between.low between.high between.agreed }
-    ensures so_far { Brackets heads.old.heads text.now result.low result.high result.agreed }
+    requires so_far { Brackets heads.now text.now between.low between.high between.agreed }
+    ensures so_far { Brackets heads.now text.now result.low result.high result.agreed }
     ensures smaller { ((result.low ≡ between.low) × (result.high ≡ index))
         ⊎ ((result.low ≡ index + 1) × (result.high ≡ between.high)) }
-    ensures heads { heads.new.heads ≡ heads.old.heads }
-    ensures counted { Counts heads.old.compared 1 heads.new.compared }
+    ensures counted { Counts scratch.old 1 scratch.new }
 {
-    let comparison = heads.compare(index, text);
+    let comparison = heads.compare(index, text, scratch);
     if comparison.is_behind {
         Between {
             low: between.low,
@@ -87,16 +90,16 @@ fn narrowed(heads: &mut Heads, text: &[u8], between: Between, index: usize) -> B
     }
 }
 
-/// Looks whether the search ends at the hint.
-fn by_hint(heads: &mut Heads, text: &[u8], hint: usize) -> Progress
-    ensures so_far { Brackets heads.old.heads text.now
+/// Looks whether the search ends at the hint of the scratch.
+fn by_hint(heads: &Heads, text: &[u8], scratch: &mut Scratch) -> Progress
+    ensures so_far { Brackets heads.now text.now
         result.between.low result.between.high result.between.agreed }
-    ensures heads { heads.new.heads ≡ heads.old.heads }
-    ensures counted { Counts heads.old.compared result.compared heads.new.compared }
+    ensures counted { Counts scratch.old result.compared scratch.new }
     ensures few { result.compared ≤ 2 }
-    ensures asked { 0 < length heads.old.heads → 1 ≤ result.compared }
-    ensures count { length heads.old.heads < 2 ^ 64 }
+    ensures asked { 0 < length heads.now → 1 ≤ result.compared }
+    ensures count { length heads.now < 2 ^ 64 }
 {
+    let hint = scratch.hint;
     let whole = Between {
         low: 0,
         high: heads.texts().len(),
@@ -109,40 +112,39 @@ fn by_hint(heads: &mut Heads, text: &[u8], hint: usize) -> Progress
         };
     }
     if hint == 0 || hint > whole.high {
-        let between = narrowed(heads, text, whole, 0);
+        let between = narrowed(heads, text, whole, 0, scratch);
         return Progress {
             between,
             compared: 1,
         };
     }
-    let first = narrowed(heads, text, whole, hint - 1);
+    let first = narrowed(heads, text, whole, hint - 1, scratch);
     if first.low < hint || first.high == hint {
         return Progress {
             between: first,
             compared: 1,
         };
     }
-    let between = narrowed(heads, text, first, hint);
+    let between = narrowed(heads, text, first, hint, scratch);
     Progress {
         between,
         compared: 2,
     }
 }
 
-/// The index after that of the last head that isn't behind the text. It looks at the hint first.
-fn sought(heads: &mut Heads, text: &[u8], hint: usize) -> PartitionPoint
-    ensures found { Brackets heads.old.heads text.now result.low result.low result.agreed }
-    ensures heads { heads.new.heads ≡ heads.old.heads }
-    ensures counted { Counts heads.old.compared result.compared heads.new.compared }
-    ensures cost { (b : ℕ) → length heads.old.heads < 2 ^ b → result.compared ≤ b + 2 }
-    ensures asked { 0 < length heads.old.heads → 1 ≤ result.compared }
+/// The index after that of the last head that isn't behind the text. It looks at the hint of the scratch first.
+fn sought(heads: &Heads, text: &[u8], scratch: &mut Scratch) -> PartitionPoint
+    ensures found { Brackets heads.now text.now result.low result.low result.agreed }
+    ensures counted { Counts scratch.old result.compared scratch.new }
+    ensures cost { (b : ℕ) → length heads.now < 2 ^ b → result.compared ≤ b + 2 }
+    ensures asked { 0 < length heads.now → 1 ≤ result.compared }
 {
-    let progress = by_hint(heads, text, hint);
+    let progress = by_hint(heads, text, scratch);
     let mut between = progress.between;
     let mut compared = progress.compared;
     while between.low < between.high {
         let middle = between.low + (between.high - between.low) / 2;
-        between = narrowed(heads, text, between, middle);
+        between = narrowed(heads, text, between, middle, scratch);
         compared += 1;
     }
     PartitionPoint {
@@ -211,32 +213,27 @@ impl Chains {
     /// # Errors
     /// Memory runs out.
     pub fn new(alloc: Global, heads: Heads) -> Result<Chains, AllocError>
-        requires { IsRising heads.heads }
+        requires { IsRising heads }
         ensures { IfOk result (λ chains. chains ≡ heads) }
     {
         let links = linked(alloc, heads.texts())?;
-        Ok(Chains {
-            heads,
-            links,
-            hint: 0,
-        })
+        Ok(Chains { heads, links })
     }
 
     /// The last head that begins the text, if one does, and how many heads were compared with it. The heads that begin
     /// the text are those that begin this one.
     ///
-    /// It compares at most as many heads as their count has binary digits, and two: where texts come in byte order
-    /// often one or two. It takes no memory.
-    pub fn deepest(&mut self, text: &[u8]) -> Deepest
-        ensures found { IsLastFront self.old.heads (length self.old.heads) text.now result.head }
-        ensures chain { IfSome result.head (λ j. IsChainOf self.old.heads text.now j) }
-        ensures heads { self.new.heads ≡ self.old.heads }
-        ensures counted { Counts self.old.compared result.compared self.new.compared }
-        ensures cost { (b : ℕ) → length self.old.heads < 2 ^ b → result.compared ≤ b + 2 }
-        ensures asked { 0 < length self.old.heads → 1 ≤ result.compared }
+    /// It compares at most as many heads as their count has binary digits, and two: where the texts of one scratch come
+    /// in byte order often one or two. It takes no memory.
+    pub fn deepest(&self, text: &[u8], scratch: &mut Scratch) -> Deepest
+        ensures found { IsLastFront self.now (length self.now) text.now result.head }
+        ensures chain { IfSome result.head (λ j. IsChainOf self.now text.now j) }
+        ensures counted { Counts scratch.old result.compared scratch.new }
+        ensures cost { (b : ℕ) → length self.now < 2 ^ b → result.compared ≤ b + 2 }
+        ensures asked { 0 < length self.now → 1 ≤ result.compared }
     {
-        let point = sought(&mut self.heads, text, self.hint);
-        self.hint = point.low;
+        let point = sought(&self.heads, text, scratch);
+        scratch.hint = point.low;
         if point.low == 0 {
             return Deepest {
                 head: None,
@@ -248,17 +245,10 @@ impl Chains {
         Deepest { head, compared }
     }
 
-    /// How often a head was compared with a text, modulo 2^128.
-    pub fn compared(&self) -> u128
-        ensures { result ≡ self.now.compared }
-    {
-        self.heads.compared()
-    }
-
     /// The last head before the one at the index that begins it.
     pub fn link(&self, index: usize) -> Option<usize>
-        requires { index < length self.now.heads }
-        ensures { IsLastFront self.now.heads index (head_at self.now.heads index) result }
+        requires { index < length self.now }
+        ensures { IsLastFront self.now index (head_at self.now index) result }
     {
         self.links[index]
     }

@@ -1,11 +1,12 @@
-//! Different heads in byte order, which are compared with a text by one question that counts.
+//! Different heads in byte order, which are compared with a text by one question that counts, in a scratch.
 ghost use Rattle.std.specs.Prelude.{◌≡◌, ◌+◌, ◌<◌, ◌≤◌, length, map, slice_index};
 ghost use Rattle.std.specs.Int.{w64, to_le_bytes};
 ghost use Rattle.pathspec_glob.specs.Counts.{Counts};
 ghost use Rattle.pathspec_heads.specs.Agreement.{agreement, is_behind, eight_bytes};
-ghost use Rattle.pathspec_heads.specs.Heads.{CountedHeads, head_at};
+ghost use Rattle.pathspec_heads.specs.Heads.{head_at};
 ghost use Rattle.pathspec_heads.specs.Stems.{with_slash};
 
+use crate::places::PlacesByHead;
 use std::fmt;
 use std::marker::Model;
 
@@ -72,51 +73,80 @@ impl Texts {
     }
 }
 
-/// Heads whose only question about a text is how one of them compares with it. Each such comparison is counted, and
-/// the count is never set back.
+/// What searches for heads write: how many heads they compared with texts, and where the last search ended.
 #[derive(Debug, Drop)]
-pub struct Heads {
-    texts: Texts,
+pub struct Scratch {
+    // Only `Heads::compare` raises it, and nothing sets it back.
     compared: u128,
+    // Where the next search looks first. It may be any number.
+    pub(crate) hint: usize,
 }
 
-impl Model for Heads {
-    ghost Value = { CountedHeads };
+impl Model for Scratch {
+    ghost use Rattle.std.specs.Prelude.{ℕ};
 
-    ghost view = { λ h. record { heads = h.texts; compared = h.compared } };
+    ghost Value = { ℕ };
+
+    ghost view = { λ s. s.compared };
 }
 
-impl Heads {
-    /// Heads that were not yet compared.
-    pub fn new(texts: Texts) -> Heads
-        ensures { result ≡ record { heads = texts; compared = 0 } }
+impl Scratch {
+    /// No comparison yet. Only places make a scratch: a search in chains has none but the one that it is lent.
+    pub(crate) fn new(_places: &PlacesByHead) -> Scratch
+        ensures { result ≡ 0 }
     {
-        Heads { texts, compared: 0 }
-    }
-
-    /// The heads, of which only lengths are told.
-    pub fn texts(&self) -> &Texts
-        ensures { result.now ≡ self.now.heads }
-    {
-        &self.texts
+        Scratch {
+            compared: 0,
+            hint: 0,
+        }
     }
 
     /// How often a head was compared with a text, modulo 2^128.
     pub fn compared(&self) -> u128
-        ensures { result ≡ self.now.compared }
+        ensures { result ≡ self.now }
     {
         self.compared
     }
+}
+
+/// Heads whose only question about a text is how one of them compares with it. Each such comparison is counted in a
+/// scratch, and the count is never set back.
+#[derive(Debug, Drop)]
+pub struct Heads {
+    texts: Texts,
+}
+
+impl Model for Heads {
+    ghost use Rattle.std.specs.Prelude.{List, ℕ};
+
+    ghost Value = { List (List ℕ) };
+
+    ghost view = { λ h. h.texts };
+}
+
+impl Heads {
+    /// These heads.
+    pub fn new(texts: Texts) -> Heads
+        ensures { result ≡ texts }
+    {
+        Heads { texts }
+    }
+
+    /// The heads, of which only lengths are told.
+    pub fn texts(&self) -> &Texts
+        ensures { result.now ≡ self.now }
+    {
+        &self.texts
+    }
 
     /// How a head compares with a text. It looks at each byte in which they agree once.
-    pub fn compare(&mut self, index: usize, text: &[u8]) -> Comparison
-        requires { index < length self.old.heads }
-        ensures agreed { result.agreed ≡ agreement (head_at self.old.heads index) text.now }
-        ensures behind { result.is_behind ≡ is_behind (head_at self.old.heads index) text.now }
-        ensures heads { self.new.heads ≡ self.old.heads }
-        ensures counted { Counts self.old.compared 1 self.new.compared }
+    pub fn compare(&self, index: usize, text: &[u8], scratch: &mut Scratch) -> Comparison
+        requires { index < length self.now }
+        ensures agreed { result.agreed ≡ agreement (head_at self.now index) text.now }
+        ensures behind { result.is_behind ≡ is_behind (head_at self.now index) text.now }
+        ensures counted { Counts scratch.old 1 scratch.new }
     {
-        self.compared = self.compared.wrapping_add(1);
+        scratch.compared = scratch.compared.wrapping_add(1);
         compared(&self.texts.all[index], text)
     }
 }

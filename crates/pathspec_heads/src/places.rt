@@ -3,10 +3,11 @@ ghost use Rattle.std.specs.Prelude.{◌≡◌, ℕ, ◌+◌, ◌^◌, ◌<◌, �
 ghost use Rattle.std.specs.List.Sorted.{IsNonDecreasing};
 ghost use Rattle.pathspec_glob.specs.Counts.{Counts};
 ghost use Rattle.pathspec_heads.specs.Heads.{IsLastFront, IsChainOf};
-ghost use Rattle.pathspec_heads.specs.Groups.{CountedPlaces, HasSameGroups, IsGrouped, IsInGroup, IsInChain, IsLeastFrom, earlier, end_of};
+ghost use Rattle.pathspec_heads.specs.Groups.{GroupedPlaces, IsGrouped, IsInGroup, IsInChain, IsLeastFrom, earlier, end_of};
 
 use crate::chains::{Chains, Deepest};
 use crate::groups::{grouped, sorted};
+pub use crate::heads::Scratch;
 use crate::heads::{Heads, Texts};
 use std::alloc::{AllocError, Global};
 use std::marker::Model;
@@ -22,13 +23,13 @@ pub struct PlacesByHead {
 }
 
 impl Model for PlacesByHead {
-    ghost use Rattle.pathspec_heads.specs.Groups.{CountedPlaces, IsOrder};
+    ghost use Rattle.pathspec_heads.specs.Groups.{GroupedPlaces, IsOrder};
 
-    ghost Value = { CountedPlaces };
+    ghost Value = { GroupedPlaces };
 
-    ghost view = { λ p. record { heads = p.chains.heads; starts = p.starts.items; order = p.order.items; compared = p.chains.compared } };
+    ghost view = { λ p. record { heads = p.chains; starts = p.starts.items; order = p.order.items } };
 
-    ghost invariant = { λ p. IsOrder p.chains.heads p.starts.items p.order.items };
+    ghost invariant = { λ p. IsOrder p.chains p.starts.items p.order.items };
 }
 
 /// The least number in an ascending list from one on.
@@ -65,7 +66,6 @@ impl PlacesByHead {
     pub fn new(alloc: Global, heads: Vec<Vec<u8>>) -> Result<PlacesByHead, AllocError>
         ensures grouped { IfOk result (λ places. IsGrouped (map (λ head. head.items) heads.items)
             places.heads places.starts places.order) }
-        ensures counted { IfOk result (λ places. places.compared ≡ 0) }
     {
         let entries = sorted(alloc, heads)?;
         let groups = grouped(alloc, entries)?;
@@ -77,23 +77,23 @@ impl PlacesByHead {
         })
     }
 
-    /// The last head that begins the text, as [`Chains::deepest`] finds it.
-    pub fn deepest(&mut self, text: &[u8]) -> Deepest
-        ensures found { IsLastFront self.old.heads (length self.old.heads) text.now result.head }
-        ensures chain { IfSome result.head (λ j. IsChainOf self.old.heads text.now j) }
-        ensures same { HasSameGroups self.old self.new }
-        ensures counted { Counts self.old.compared result.compared self.new.compared }
-        ensures cost { (b : ℕ) → length self.old.heads < 2 ^ b → result.compared ≤ b + 2 }
-        ensures asked { 0 < length self.old.heads → 1 ≤ result.compared }
+    /// What searches for these heads write to. Places may be shared by several walkers, each with a scratch of its own:
+    /// one calls `places.deepest(path, &mut mine)` where another calls `places.deepest(path, &mut other)`.
+    pub fn new_scratch(&self) -> Scratch
+        ensures { result ≡ 0 }
     {
-        self.chains.deepest(text)
+        Scratch::new(self)
     }
 
-    /// How often a head was compared with a text, modulo 2^128.
-    pub fn compared(&self) -> u128
-        ensures { result ≡ self.now.compared }
+    /// The last head that begins the text, as [`Chains::deepest`] finds it.
+    pub fn deepest(&self, text: &[u8], scratch: &mut Scratch) -> Deepest
+        ensures found { IsLastFront self.now.heads (length self.now.heads) text.now result.head }
+        ensures chain { IfSome result.head (λ j. IsChainOf self.now.heads text.now j) }
+        ensures counted { Counts scratch.old result.compared scratch.new }
+        ensures cost { (b : ℕ) → length self.now.heads < 2 ^ b → result.compared ≤ b + 2 }
+        ensures asked { 0 < length self.now.heads → 1 ≤ result.compared }
     {
-        self.chains.compared()
+        self.chains.deepest(text, scratch)
     }
 
     /// Where the group of a head ends in the order of the places.

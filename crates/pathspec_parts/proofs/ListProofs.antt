@@ -1,6 +1,6 @@
 -- Lists that are made from a range of numbers, their ends, and one changed element.
-use Rattle.std.proofs.Common.{◌≡◌, ◌≢◌, ℕ, zero, suc, ◌+◌, ◌-◌, ◌<◌, ◌≤◌, Bool, true, false, cond, refl, sym, ◌∙◌, ap, subst, List, [], ◌∷◌, ◌++◌, length, map, set, take, arith, inl, inr, Some}
-use Rattle.std.proofs.lemmas.List.{append-nil, map-append, length_push, take-append-le, take_all}
+use Rattle.std.proofs.Common.{◌≡◌, ◌≢◌, ℕ, zero, suc, ◌+◌, ◌-◌, ◌<◌, ◌≤◌, Bool, true, false, cond, refl, sym, ◌∙◌, ap, subst, List, [], ◌∷◌, ◌++◌, length, map, set, take, get_or, arith, inl, inr, Some}
+use Rattle.std.proofs.lemmas.List.{append-nil, map-append, take_more, length_push, take-append-le, take_all}
 use Rattle.std.proofs.lemmas.List.Elements.{Contains-append_left, Contains-push, Contains-push_cases}
 use Rattle.std.proofs.lemmas.List.FromFn.{filter_of_map_range_with_len_more}
 use Rattle.std.proofs.lemmas.List.Sums.{sum_by-append}
@@ -147,3 +147,20 @@ module _ {X : Type 0} (number : X → ℕ) (f : ℕ → X) (numbered : (i : ℕ)
         more-no q n (sym (h n (omega arith) other) ∙ y)
         ∙ filter_range-without_last p q n t xs x (sym (more-no p n y) ∙ e) k (λ i lt. h i (omega (arith, lt))) off on
   ]
+
+-- ---- two lists of which something is read
+
+-- what is read of the elements at a place, where it is the same of all
+pub map-at : {X Y Z : Type 0} (f : X → Z) (g : Y → Z) (xs : List X) (ys : List Y) (i : ℕ) (x : X) (y : Y) → map f xs ≡ map g ys → i < length ys → x ≡ get_or xs i x → y ≡ get_or ys i y → f x ≡ g y
+map-at f g [] [] i x y e l p q = absurd (omega (arith, l))
+map-at f g [] (b ∷ ys) i x y e l p q = cc
+map-at f g (a ∷ xs) [] i x y e l p q = cc
+map-at f g (a ∷ xs) (b ∷ ys) zero x y e l p q = let same : f a ≡ g b = cc in ap f p ∙ same ∙ ap g (sym q)
+map-at f g (a ∷ xs) (b ∷ ys) (suc i) x y e l p q = let rest : map f xs ≡ map g ys = cc in map-at f g xs ys i x y rest (omega (arith, l)) p q
+
+-- one more place
+pub map-more : {X Y Z : Type 0} (f : X → Z) (g : Y → Z) (xs : List X) (ys : List Y) (i : ℕ) (x : X) (y : Y) → i < length xs → i < length ys → x ≡ get_or xs i x → y ≡ get_or ys i y → f x ≡ g y → map f (take i xs) ≡ map g (take i ys) → map f (take (i + 1) xs) ≡ map g (take (i + 1) ys)
+map-more f g xs ys i x y l m p q e same =
+    let front : take (i + 1) xs ≡ take i xs ++ x ∷ [] = take_more xs i x l ∙ ap (λ z. take i xs ++ z ∷ []) (sym p) in
+    let back : take (i + 1) ys ≡ take i ys ++ y ∷ [] = take_more ys i y m ∙ ap (λ z. take i ys ++ z ∷ []) (sym q) in
+    rw (front, back, map-append, map-append, same, e) refl

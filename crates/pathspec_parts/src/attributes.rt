@@ -5,11 +5,13 @@ ghost use Rattle.pathspec_parts.specs.Attributes.{Table, next_count};
 ghost use Rattle.pathspec_parts.specs.Outcomes.{IsReset, names_of, question_of, reply_of};
 
 mod name;
+mod no_attributes;
 mod outcome;
 mod state;
 
 use bstr::BStr;
 pub use name::Name;
+pub use no_attributes::NoAttributes;
 pub use outcome::Outcome;
 pub use pathspec_glob::Case;
 pub use state::{Assignment, State, StateRef};

@@ -1,11 +1,11 @@
 -- What words and the environment ask for, and what an input has for it.
-use Rattle.std.specs.Prelude.{◌≡◌, ℕ, List, Option, Some, None, if◌then◌else◌, Result, Ok, Err}
+use Rattle.std.specs.Prelude.{ℕ, List, Option, Some, None, if◌then◌else◌, Result, Ok, Err}
 use Rattle.pathspec_parts.specs.AttributeRows.{Row}
 use Rattle.pathspec_pattern.specs.declared.defaults.Defaults.{Defaults}
 use Rattle.pathspec_pattern.specs.Environment.{Words, defaults_of}
 use Rattle.gix_pathspec.specs.Results.{◌>>=◌}
 use Rattle.gix_pathspec.specs.Faults.{Fault}
-use Rattle.gix_pathspec.specs.Search.{Numbered, SearchContents, KeepsSpecs}
+use Rattle.gix_pathspec.specs.Search.{Numbered, SearchContents}
 use Rattle.gix_pathspec.specs.Lines.{search_of_texts, search_of_lines}
 use Rattle.pathspec_select.specs.RequestFaults.{RequestFault}
 use Rattle.pathspec_select.specs.RequestFaults.RequestFault.{BadEnvironment, NoEnd, BadSpec}
@@ -50,18 +50,6 @@ pub record JobContents : Type 0 where
   pub specs : JobSpecs SearchContents
   -- the byte that ends a record
   pub separator : ℕ
-
--- the search has the specs that it had, and its source; or a search is built with what it was
-abbrev pub KeepsJobSpecs : JobSpecs SearchContents → JobSpecs SearchContents → Type 0
-KeepsJobSpecs (FromWords old) (FromWords new) = KeepsSpecs old new
-KeepsJobSpecs (FromWords old) (FromInput new) = ⊥
-KeepsJobSpecs (FromInput old) (FromWords new) = ⊥
-KeepsJobSpecs (FromInput old) (FromInput new) = new ≡ old
-
--- the job is as it was, but for what its search was asked
-pub record KeepsJob (old new : JobContents) : Type 0 where
-  pub specs : KeepsJobSpecs old.specs new.specs
-  pub separator : new.separator ≡ old.separator
 
 -- ---- what is asked for
 

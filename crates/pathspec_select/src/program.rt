@@ -1,12 +1,11 @@
 //! The program, over any reader and writer.
 ghost use Rattle.std.specs.Prelude.{◌≡◌, Some, map, string_bytes, OnOk};
-ghost use Rattle.gix_pathspec.specs.Search.{KeepsSpecs};
 ghost use Rattle.gix_pathspec.specs.SelectionLaws.{ChosenIsTest};
 ghost use Rattle.pathspec_select.specs.Environment.{words_of};
 ghost use Rattle.pathspec_select.specs.Program.{Ends, EndsJob, CountsRefusal};
 ghost use Rattle.pathspec_select.specs.Choice.{WritesRecords, WritesChosen};
 ghost use Rattle.pathspec_select.specs.Input.{InputIsInParts};
-ghost use Rattle.pathspec_select.specs.Requests.{KeepsJob, numbered_specs};
+ghost use Rattle.pathspec_select.specs.Requests.{numbered_specs};
 ghost use Rattle.pathspec_select.specs.Requests.JobSpecs.{FromWords};
 ghost use Rattle.pathspec_select.specs.Refusals.{refused_listing, refused_walk};
 
@@ -53,8 +52,8 @@ pub fn run<R: Read, W: Write>(
 {
     // The proof reads here that the test is the statement.
     Search::chosen_is_test();
-    let (mut job, mut rows) = Job::from_words(alloc, words, environment)?;
-    run_with(alloc, &mut job, reader, writer, &mut rows)
+    let (job, mut rows) = Job::from_words(alloc, words, environment)?;
+    run_with(alloc, &job, reader, writer, &mut rows)
 }
 
 /// Does a job over a reader and a writer, with any look-up of attributes: reads an input, walks over the tree of its listing
@@ -79,32 +78,31 @@ pub fn run<R: Read, W: Write>(
 #[tactic(auto, using(crate::proofs::InputProofs::input_is_in_parts))]
 pub fn run_with<R: Read, W: Write, L: LookUp<Fault = AllocError>>(
     alloc: Global,
-    job: &mut Job,
+    job: &Job,
     reader: &mut R,
     writer: &mut W,
     look_up: &mut L,
 ) -> Result<(), Refusal>
-    ensures ends { EndsJob (L.table look_up.old) (numbered_specs job.old.specs) job.old.separator
+    ensures ends { EndsJob (L.table look_up.old) (numbered_specs job.now.specs) job.now.separator
         (R.remaining reader.old) (W.contents writer.old) (W.contents writer.new) result }
     ensures chosen { OnOk result (WritesRecords (L.table look_up.old)
-        (numbered_specs job.old.specs) job.old.separator (R.remaining reader.old)
+        (numbered_specs job.now.specs) job.now.separator (R.remaining reader.old)
         (W.contents writer.old) (W.contents writer.new)) }
     // An input with a line `--` is the lines of the specs, that line and the listing.
     ensures parts { OnOk result InputIsInParts }
-    ensures job { KeepsJob job.old job.new }
     ensures table_stays { L.table look_up.new ≡ L.table look_up.old }
     ensures counts { CountsRefusal (L.failures look_up.old) (L.failures look_up.new) result }
 {
     let bytes = devices::read_to_end(alloc, reader)?;
     let separator = job.separator;
-    match &mut job.specs {
+    match &job.specs {
         JobSpecs::FromWords(search) => {
             write_chosen(alloc, search, bytes.as_slice(), separator, writer, look_up)
         }
         JobSpecs::FromInput(builder) => {
             let Parts { specs, listing } = input::divide(bytes.as_slice())?;
-            let mut search = builder.build(alloc, specs)?;
-            write_chosen(alloc, &mut search, listing, separator, writer, look_up)
+            let search = builder.build(alloc, specs)?;
+            write_chosen(alloc, &search, listing, separator, writer, look_up)
         }
     }
 }
@@ -115,15 +113,14 @@ pub fn run_with<R: Read, W: Write, L: LookUp<Fault = AllocError>>(
 /// The first fault, in this order: [`Refusal::Line`]; [`Refusal::Write`]; and [`Refusal::Memory`] at its place.
 fn write_chosen<W: Write, L: LookUp<Fault = AllocError>>(
     alloc: Global,
-    search: &mut Search,
+    search: &Search,
     listing: &[u8],
     separator: u8,
     writer: &mut W,
     look_up: &mut L,
 ) -> Result<(), Refusal>
-    ensures ends { EndsJob (L.table look_up.old) (FromWords search.old.specs) separator
+    ensures ends { EndsJob (L.table look_up.old) (FromWords search.now.specs) separator
         (Some listing.now) (W.contents writer.old) (W.contents writer.new) result }
-    ensures search { KeepsSpecs search.old search.new }
     ensures table_stays { L.table look_up.new ≡ L.table look_up.old }
     ensures counts { CountsRefusal (L.failures look_up.old) (L.failures look_up.new) result }
 {

@@ -1,18 +1,18 @@
 //! The entries of a tree that a search chooses, by a walk that looks only where one can lie.
 ghost use Rattle.std.specs.Prelude.{◌≡◌, ◌≢◌, ◌&&◌, [], Some, length, if◌then◌else◌, IfOk, OnOk, OnErr};
-ghost use Rattle.bstr.specs.BStr.{bstr_bytes};
-ghost use Rattle.pathspec_parts.specs.Attributes.{next_count};
 ghost use Rattle.pathspec_parts.specs.Cursors.{IsNew, path_at, is_dir_at, after_enter, append_if};
 ghost use Rattle.gix_pathspec.specs.Matching.{is_chosen};
-ghost use Rattle.gix_pathspec.specs.Search.{KeepsSpecs, specs_of};
+ghost use Rattle.gix_pathspec.specs.Room.{Fits, SameRoom};
+ghost use Rattle.gix_pathspec.specs.Search.{specs_of};
 ghost use Rattle.pathspec_select.specs.Walks.{IsWalk, HasWalked, GivenIsOne, EnteredIsOne, can_hold};
 ghost use Rattle.pathspec_select.specs.SelectAnswers.{CountsFailure};
 
 use bstr::BStr;
 use gix_pathspec::Search;
+use gix_pathspec::search::Scratch;
 use pathspec_parts::attributes::LookUp;
 use pathspec_parts::tree::Cursor;
-use std::alloc::Global;
+use std::alloc::{AllocError, Global};
 use std::fmt::Debug;
 
 /// Why a walk ended before it came to the end of its tree.
@@ -37,39 +37,43 @@ pub enum SelectError<F> {
 /// holds for all specs that parse and normalise, every tree and every steady look-up.
 ///
 /// Each entry that the walk comes to is asked of the search once, and each directory once more, whether it is entered.
-/// What lies in a directory that isn't entered costs nothing. Only the numbers that are given take memory.
+/// What lies in a directory that isn't entered costs nothing. It takes memory for a scratch of the search and for the numbers
+/// that it gives. The search is only read, so walks can share it.
 ///
 /// # Errors
-/// [`SelectError::LookUp`], only where the look-up failed in this call, and [`SelectError::Memory`]. The search then has its
-/// specs as before, and the cursor stands at the entry that was asked.
+/// [`SelectError::LookUp`], only where the look-up failed in this call, and [`SelectError::Memory`]. The cursor then stands at
+/// the entry that was asked.
 pub fn select<L: LookUp>(
     alloc: Global,
     cursor: &mut Cursor<'_>,
-    search: &mut Search,
+    search: &Search,
     look_up: &mut L,
 ) -> Result<Vec<usize>, SelectError<L::Fault>>
     requires { IsNew cursor.old }
     // Exactly the chosen entries, by a walk that enters only directories which can hold one.
-    ensures walk { IfOk result (λ given. IsWalk (L.table look_up.old) (specs_of search.old.specs)
+    ensures walk { IfOk result (λ given. IsWalk (L.table look_up.old) (specs_of search.now.specs)
         cursor.old.entries given.items cursor.new.entered) }
     // They are one list, that of the definition.
-    ensures given { GivenIsOne (L.table look_up.old) (specs_of search.old.specs) }
+    ensures given { GivenIsOne (L.table look_up.old) (specs_of search.now.specs) }
     // Exactly the directories that it came to and that can hold a chosen path.
-    ensures entered { OnOk result (HasWalked (specs_of search.old.specs)
+    ensures entered { OnOk result (HasWalked (specs_of search.now.specs)
         cursor.old.entries (length cursor.old.entries) cursor.new.entered) }
     // They are one list too.
     ensures trail { EnteredIsOne }
     ensures tree { cursor.new.entries ≡ cursor.old.entries }
-    ensures search { KeepsSpecs search.old search.new }
     ensures table_stays { L.table look_up.new ≡ L.table look_up.old }
     ensures counts { CountsFailure (L.failures look_up.old) (L.failures look_up.new) result }
 {
     // The proof reads here that no nil spec has a prefix directory, and that paths are bytes.
     search.nil_specs_lack_a_prefix();
     search.spec_paths_are_bytes();
+    let mut scratch = match search.new_scratch(alloc) {
+        Ok(scratch) => scratch,
+        Err(AllocError) => return Err(SelectError::Memory),
+    };
     let mut given = Vec::new(alloc);
     while let Some(number) = cursor.next() {
-        visit(cursor, search, look_up, number, &mut given)?;
+        visit(cursor, search, &mut scratch, look_up, number, &mut given)?;
     }
     Ok(given)
 }
@@ -77,53 +81,34 @@ pub fn select<L: LookUp>(
 /// Gives the entry at which the cursor stands where it is chosen, and enters it where something below it can be.
 fn visit<L: LookUp>(
     cursor: &mut Cursor<'_>,
-    search: &mut Search,
+    search: &Search,
+    scratch: &mut Scratch,
     look_up: &mut L,
     number: usize,
     given: &mut Vec<usize>,
 ) -> Result<(), SelectError<L::Fault>>
-    requires { path_at cursor.old ≢ [] }
+    requires path { path_at cursor.old ≢ [] }
+    requires fits { Fits search.now.specs scratch.old }
+    ensures room { SameRoom scratch.old scratch.new }
     ensures given { OnOk result (given.new.items ≡ append_if
-        (is_chosen (L.table look_up.old) (specs_of search.old.specs)
+        (is_chosen (L.table look_up.old) (specs_of search.now.specs)
         (path_at cursor.old) (is_dir_at cursor.old))
         number given.old.items) }
     ensures entered { OnOk result (cursor.new ≡
-        (if is_dir_at cursor.old && can_hold (specs_of search.old.specs) (path_at cursor.old)
+        (if is_dir_at cursor.old && can_hold (specs_of search.now.specs) (path_at cursor.old)
         then after_enter cursor.old else cursor.old)) }
     ensures tree { cursor.new.entries ≡ cursor.old.entries }
-    ensures search { KeepsSpecs search.old search.new }
     ensures table_stays { L.table look_up.new ≡ L.table look_up.old }
     ensures counts { CountsFailure (L.failures look_up.old) (L.failures look_up.new) result }
 {
-    let answer = is_chosen(search, cursor.path(), cursor.is_dir(), look_up);
-    let is_chosen = answer.map_err(SelectError::LookUp)?;
-    if is_chosen && given.push(number).is_err() {
+    let is_dir = Some(cursor.is_dir());
+    let answer = search.is_selected(cursor.path(), is_dir, scratch, look_up);
+    let is_selected = answer.map_err(SelectError::LookUp)?;
+    if is_selected && given.push(number).is_err() {
         return Err(SelectError::Memory);
     }
     if cursor.is_dir() && search.can_match_relative_path(cursor.path(), Some(true)) {
         cursor.enter();
     }
     Ok(())
-}
-
-/// Whether a search chooses a path that isn't empty.
-fn is_chosen<L: LookUp>(
-    search: &mut Search,
-    path: BStr<'_>,
-    is_dir: bool,
-    look_up: &mut L,
-) -> Result<bool, L::Fault>
-    requires { bstr_bytes path ≢ [] }
-    ensures chosen { IfOk result (λ chosen. chosen ≡ is_chosen (L.table look_up.old)
-        (specs_of search.old.specs) (bstr_bytes path.entry) is_dir) }
-    ensures search { KeepsSpecs search.old search.new }
-    ensures table_stays { L.table look_up.new ≡ L.table look_up.old }
-    ensures ok_leaves_count { OnOk result (L.failures look_up.new ≡ L.failures look_up.old) }
-    ensures err_counts { OnErr result
-        (L.failures look_up.new ≡ next_count (L.failures look_up.old)) }
-{
-    match search.find_match(path, Some(is_dir), look_up)? {
-        Some(place) => Ok(!search.match_at(place).is_excluded()),
-        None => Ok(false),
-    }
 }

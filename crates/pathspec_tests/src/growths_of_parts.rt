@@ -84,8 +84,9 @@ impl Making for GroupPlaces {
     }
 
     fn make(&self, alloc: Global, given: Vec<Vec<u8>>) -> Result<Option<usize>, AllocError> {
-        let mut places = PlacesByHead::new(alloc, given)?;
-        Ok(first_place(&mut places, b"a/b/c"))
+        let places = PlacesByHead::new(alloc, given)?;
+        let mut scratch = places.new_scratch();
+        Ok(first_place(&places, &mut scratch, b"a/b/c"))
     }
 
     fn is_same(&self, value: &Option<usize>, other: &Option<usize>) -> bool {

@@ -22,7 +22,7 @@ fn end_of_walk(
     alloc: Global,
     number: usize,
     tree: &Tree,
-    search: &mut Search,
+    search: &Search,
     marks: &mut Marks,
     want: &[usize],
 ) -> Result<Ended, Fail> {
@@ -46,9 +46,9 @@ impl Call for Select {
     fn end(&self, alloc: Global, number: usize) -> Result<Ended, Fail> {
         let mut marks = Marks::new();
         let tree = tree_of(alloc, &["a/", "b", "x", "..", "c/", "d", "..", "x"])?;
-        let mut search = search_of(alloc, self.0, "")?;
-        let end = end_of_walk(alloc, number, &tree, &mut search, &mut marks, self.1)?;
-        let again = end_of_walk(alloc, NONE, &tree, &mut search, &mut marks, self.1)?;
+        let search = search_of(alloc, self.0, "")?;
+        let end = end_of_walk(alloc, number, &tree, &search, &mut marks, self.1)?;
+        let again = end_of_walk(alloc, NONE, &tree, &search, &mut marks, self.1)?;
         Ok(with_again(end, again))
     }
 }
@@ -169,7 +169,7 @@ fn a_run_ends_or_memory_ran_out_and_nothing_is_written(rt: HostRuntime) -> Resul
 fn end_of_job(
     alloc: Global,
     number: usize,
-    job: &mut Job,
+    job: &Job,
     rows: &mut Rows,
     row: &Run,
 ) -> Result<Ended, Fail> {
@@ -185,7 +185,7 @@ fn end_of_job(
 fn end_of_jobs(
     alloc: Global,
     number: usize,
-    job: &mut Job,
+    job: &Job,
     rows: &mut Rows,
     row: &Run,
 ) -> Result<Ended, Fail> {
@@ -200,8 +200,8 @@ struct RunJob(Run);
 
 impl Call for RunJob {
     fn end(&self, alloc: Global, number: usize) -> Result<Ended, Fail> {
-        let (mut job, mut rows) = job_of(alloc, self.0.0, self.0.1)??;
-        end_of_jobs(alloc, number, &mut job, &mut rows, &self.0)
+        let (job, mut rows) = job_of(alloc, self.0.0, self.0.1)??;
+        end_of_jobs(alloc, number, &job, &mut rows, &self.0)
     }
 }
 

@@ -3,12 +3,14 @@ use crate::building::{are_same, is_cloned};
 use crate::growths::{
     ALL, Call, Changes, Changing, Ended, Makes, Making, NONE, assert_calls, refuse,
 };
-use crate::searches::{Settled, search_of_list, settled};
+use crate::look_ups::Marks;
+use crate::searches::{Settled, search_of_list, settled, settled_in};
 use crate::support::{pattern_of, search_of, text_of};
 use bstr::{BStr, BString};
+use gix_pathspec::search::Scratch;
 use gix_pathspec::{BuildError, Defaults, Error, MagicSignature, Pattern, Search, parse};
 use pathspec_parts::attributes::Assignment;
-use std::alloc::Global;
+use std::alloc::{AllocError, Global};
 use std::test::Fail;
 
 /// A spec with all that takes memory.
@@ -303,10 +305,44 @@ fn a_search_is_copied_or_memory_ran_out(rt: HostRuntime) -> Result<(), Fail> {
     assert_calls(&rt, rt.alloc(), &[CloneSearch])
 }
 
+/// The call that makes a scratch of a search of these texts, which are given in the directory `a`.
+#[derive(Clone, Copy)]
+struct NewScratch(&'static [&'static str]);
+
+impl Call for NewScratch {
+    fn end(&self, alloc: Global, number: usize) -> Result<Ended, Fail> {
+        let search = search_of(alloc, self.0, "a")?;
+        refuse(alloc, number);
+        let answer = search.new_scratch(alloc);
+        refuse(alloc, NONE);
+        let again = search.fits(&search.new_scratch(alloc)?);
+        Ok(match answer {
+            Ok(scratch) => Ended::Answered.if_right(again && search.fits(&scratch)),
+            Err(AllocError) => Ended::Refused.if_right(again),
+        })
+    }
+}
+
+#[test]
+fn a_scratch_is_made_or_memory_ran_out(rt: HostRuntime) -> Result<(), Fail> {
+    const CALLS: &[NewScratch] = &[
+        NewScratch(&[]),
+        NewScratch(&["x", ":!y"]),
+        NewScratch(&["*[!b-d]?x*", ":!**/x"]),
+        NewScratch(&[
+            ":(attr:a -b !c d=e)*.c",
+            ":(exclude,attr:a)x",
+            ":(glob)**/y",
+        ]),
+    ];
+    assert_calls(&rt, rt.alloc(), CALLS)
+}
+
 /// What a search tells of a path and of itself, without memory.
 #[derive(Clone, Copy, PartialEq, Eq)]
 struct Told {
     found: Settled,
+    found_in_scratch: Settled,
     can_match: bool,
     directory_matches: bool,
     common: usize,
@@ -333,11 +369,19 @@ fn directory_of(search: &Search) -> Option<usize> {
 }
 
 /// Asks a search all that takes no memory.
-fn answers_of(search: &mut Search, path: &str) -> Result<Told, Fail> {
+fn answers_of(search: &mut Search, scratch: &mut Scratch, path: &str) -> Result<Told, Fail> {
     let found = settled(search, path.as_bytes(), Some(true))?;
+    let found_in_scratch = settled_in(
+        search,
+        path.as_bytes(),
+        Some(true),
+        scratch,
+        &mut Marks::new(),
+    )?;
     let path = BStr::new(path.as_bytes());
     Ok(Told {
         found,
+        found_in_scratch: found_in_scratch.ok_or("the look-up fails")?,
         can_match: search.can_match_relative_path(path, Some(true)),
         directory_matches: search.directory_matches_prefix(path, true),
         common: search.common_prefix().as_bytes().len(),
@@ -355,11 +399,13 @@ struct Asked(&'static [&'static str], &'static str);
 impl Call for Asked {
     fn end(&self, alloc: Global, _: usize) -> Result<Ended, Fail> {
         let mut search = search_of(alloc, self.0, "a/b")?;
-        let want = answers_of(&mut search, self.1)?;
+        let mut scratch = search.new_scratch(alloc)?;
+        let want = answers_of(&mut search, &mut scratch, self.1)?;
         refuse(alloc, ALL);
-        let answer = answers_of(&mut search, self.1);
+        let answer = answers_of(&mut search, &mut scratch, self.1);
         refuse(alloc, NONE);
-        Ok(Ended::Answered.if_right(answer? == want))
+        let is_same = want.found == want.found_in_scratch;
+        Ok(Ended::Answered.if_right(answer? == want && is_same))
     }
 }
 

@@ -56,6 +56,8 @@ mod reading;
 #[cfg(test)]
 mod readme;
 #[cfg(test)]
+mod scratches;
+#[cfg(test)]
 mod searches;
 #[cfg(test)]
 mod specs_first;

@@ -1,9 +1,9 @@
 //! Rows on which spec settles a path.
 use crate::look_ups::Marks;
-use crate::searches::{Settled, is_written, patterns_of, search_of_list, settled};
+use crate::searches::{Settled, is_written, patterns_of, search_of_list, settled, settled_in};
 use crate::support::{Row, assert_each, assert_rising, search_of};
 use bstr::BStr;
-use gix_pathspec::search::{Match, MatchKind, MatchPlace};
+use gix_pathspec::search::{Match, MatchKind, Scratch};
 use gix_pathspec::{Pattern, Search};
 use std::alloc::{AllocError, Global};
 use std::test::Fail;
@@ -217,25 +217,20 @@ fn is_asked(
     asked: u64,
 ) -> Result<bool, Fail> {
     let mut marks = Marks::failing_after(asked);
-    let found = search.find_match(BStr::new(path.as_bytes()), None, &mut marks)?;
+    let path = BStr::new(path.as_bytes());
+    let found = search.pattern_matching_relative_path(path, None, &mut marks)?;
     Ok(is_verbatim(found, want) && marks.asked == asked && marks.failed == 0)
 }
 
-/// Whether just the spec at this place matches, and that verbatim, or none does.
-fn is_verbatim(found: Option<MatchPlace>, want: Option<usize>) -> bool {
+/// Whether just the spec with this number matches, and that verbatim, or none does.
+fn is_verbatim(found: Option<Match<'_>>, want: Option<usize>) -> bool {
     match found {
-        Some(
-            MatchPlace::Spec {
-                place,
-                kind: MatchKind::Verbatim,
-            },
-        ) => want == Some(place),
-        Some(_) => false,
+        Some(found) => found.kind == MatchKind::Verbatim && want == Some(found.sequence_number),
         None => want.is_none(),
     }
 }
 
-/// Texts, a file, the place of the spec that matches it verbatim, and how many questions and how many specs were asked.
+/// Texts, a file, the number of the spec that matches it verbatim, and how many questions and how many specs were asked.
 #[derive(Clone, Copy)]
 struct Asked(
     &'static [&'static str],
@@ -248,7 +243,14 @@ struct Asked(
 impl Row for Asked {
     fn holds(&self, alloc: Global) -> Result<bool, Fail> {
         let mut search = search_of(alloc, self.0, "")?;
-        Ok(is_asked(&mut search, self.1, self.2, self.3)? && search.last_tested() == self.4)
+        let is_asked = is_asked(&mut search, self.1, self.2, self.3)?;
+        let mut scratch = search.new_scratch(alloc)?;
+        let mut marks = Marks::failing_after(self.3);
+        let settled = settled_in(&search, self.1.as_bytes(), None, &mut scratch, &mut marks)?;
+        let want = self.2.map(|number| (number, MatchKind::Verbatim));
+        let is_settled = settled == Some(want) && marks.asked == self.3;
+        let are_tested = search.last_tested() == self.4 && scratch.last_tested() == self.4;
+        Ok(is_asked && is_settled && are_tested)
     }
 }
 
@@ -320,39 +322,44 @@ fn a_fault_changes_no_later_answer(rt: HostRuntime) -> Result<(), Fail> {
     assert_each(&rt, rt.alloc(), &[FailsAfter(0), FailsAfter(1)])
 }
 
-/// Whether two searches tell the same of their last match and of all, and come from the same place.
-fn are_left_same(search: &Search, other: &Search) -> bool {
-    search.last_tested() == other.last_tested()
-        && search.last_compared() == other.last_compared()
-        && search.total_tested() == other.total_tested()
-        && search.total_compared() == other.total_compared()
-        && search.source == other.source
+/// Whether a search and a scratch tell the same of their last match and of all.
+fn are_left_same(search: &Search, scratch: &Scratch) -> bool {
+    search.last_tested() == scratch.last_tested()
+        && search.last_compared() == scratch.last_compared()
+        && search.total_tested() == scratch.total_tested()
+        && search.total_compared() == scratch.total_compared()
 }
 
 /// A search that comes from a list, and has settled a file.
 fn asked_search(alloc: Global) -> Result<Box<Search>, Fail> {
     let mut search = search_of_list(alloc, &["a/x", ":(attr:gen)x", ":!a/y"], "")?;
-    search.find_match(BStr::new(b"x"), None, &mut Marks::new())?;
+    search.pattern_matching_relative_path(BStr::new(b"x"), None, &mut Marks::new())?;
     Ok(search)
 }
 
 /// A file, after how many answers the look-up fails, and whether a spec settles the file, or None where the look-up fails:
-/// a match is lent by a search that is left as `find_match` leaves it.
+/// a match that a search lends in its own scratch leaves it as `settle` leaves the scratch that it is lent.
 #[derive(Clone, Copy)]
 struct Left(&'static str, u64, Option<bool>);
 
 impl Row for Left {
     fn holds(&self, alloc: Global) -> Result<bool, Fail> {
-        let (mut search, mut other) = (asked_search(alloc)?, asked_search(alloc)?);
+        let (mut search, other) = (asked_search(alloc)?, asked_search(alloc)?);
+        let mut scratch = other.new_scratch(alloc)?;
+        settled_in(&other, b"x", None, &mut scratch, &mut Marks::new())?;
         let is_found = lends(&mut search, self.0, &mut Marks::failing_after(self.1));
-        let path = BStr::new(self.0.as_bytes());
-        let _ = other.find_match(path, None, &mut Marks::failing_after(self.1));
-        Ok(is_found == self.2 && are_left_same(&search, &other))
+        let mut marks = Marks::failing_after(self.1);
+        let settled = settled_in(&other, self.0.as_bytes(), None, &mut scratch, &mut marks)?;
+        let is_settled = settled.map(|settled| settled.is_some());
+        let is_left = are_left_same(&search, &scratch) && search.source == other.source;
+        Ok(is_found == self.2 && is_settled == self.2 && is_left)
     }
 }
 
 #[test]
-fn lending_a_match_leaves_the_search_as_finding_it_does(rt: HostRuntime) -> Result<(), Fail> {
+fn lending_a_match_leaves_the_search_as_settling_leaves_a_scratch(
+    rt: HostRuntime,
+) -> Result<(), Fail> {
     const ROWS: &[Left] = &[
         Left("a/x", 0, Some(true)),
         Left("a/y", 0, Some(true)),

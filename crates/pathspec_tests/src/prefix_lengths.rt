@@ -164,25 +164,20 @@ fn a_million_digits_are_read(rt: HostRuntime) -> Result<(), Fail> {
 }
 
 /// Whether two searches select the same entries of two trees.
-fn select_the_same(alloc: Global, search: &mut Search, again: &mut Search) -> Result<bool, Fail> {
+fn select_the_same(alloc: Global, search: &Search, again: &Search) -> Result<bool, Fail> {
     let cases = tree_of(alloc, &["a/", "b", "..", "A/", "b", "..", "b"])?;
     let names = tree_of(alloc, &["a/", "x", "..", "b"])?;
     Ok(selects(alloc, &cases, search, again)? && selects(alloc, &names, search, again)?)
 }
 
 /// The numbers of the entries of a tree that a search selects.
-fn selected(alloc: Global, tree: &Tree, search: &mut Search) -> Result<Vec<usize>, Fail> {
+fn selected(alloc: Global, tree: &Tree, search: &Search) -> Result<Vec<usize>, Fail> {
     let mut cursor = Cursor::new(alloc, tree)?;
     Ok(select(alloc, &mut cursor, search, &mut Marks::new())?)
 }
 
 /// Whether two searches select the same entries of a tree.
-fn selects(
-    alloc: Global,
-    tree: &Tree,
-    search: &mut Search,
-    again: &mut Search,
-) -> Result<bool, Fail> {
+fn selects(alloc: Global, tree: &Tree, search: &Search, again: &Search) -> Result<bool, Fail> {
     let first = selected(alloc, tree, search)?;
     Ok(are_same(first.as_slice(), selected(alloc, tree, again)?.as_slice()))
 }
@@ -200,8 +195,8 @@ impl Row for Stored {
             return Err("the prefix isn't clean".into());
         }
         let root = BStr::new(b"/r");
-        let (mut search, mut again) = search_and_stored(alloc, texts.as_slice(), prefix, root)?;
-        select_the_same(alloc, &mut search, &mut again)
+        let (search, again) = search_and_stored(alloc, texts.as_slice(), prefix, root)?;
+        select_the_same(alloc, &search, &again)
     }
 }
 

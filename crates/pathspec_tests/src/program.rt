@@ -566,7 +566,7 @@ fn what_is_written_before_a_fault_is_a_front(rt: HostRuntime) -> Result<(), Fail
 /// Whether a job with a look-up writes just this, or is told just this where it is refused and writes nothing.
 fn does<L: LookUp<Fault = AllocError>>(
     alloc: Global,
-    job: &mut Job,
+    job: &Job,
     listing: &[u8],
     look_up: &mut L,
     want: &[u8],
@@ -581,7 +581,7 @@ fn does<L: LookUp<Fault = AllocError>>(
 /// Whether a job writes just this, and asks about just these paths, each with a line feed after it.
 fn asks(
     alloc: Global,
-    job: &mut Job,
+    job: &Job,
     listing: &[u8],
     want: &[u8],
     asked: &[u8],
@@ -593,16 +593,8 @@ fn asks(
 
 #[test]
 fn what_cannot_be_chosen_is_not_asked_about(rt: HostRuntime) -> Result<(), Fail> {
-    let (mut job, _) = job_of(rt.alloc(), "a/b b/c :(exclude,attr:g).", UNSET)??;
-    assert!(rt;
-        asks(
-            rt.alloc(),
-            &mut job,
-            b"a/b\nc/d\n",
-            b"a/b\n",
-            b"a\na/b\nc\n"
-        )?
-    );
+    let (job, _) = job_of(rt.alloc(), "a/b b/c :(exclude,attr:g).", UNSET)??;
+    assert!(rt; asks(rt.alloc(), &job, b"a/b\nc/d\n", b"a/b\n", b"a\na/b\nc\n")?);
     Ok(())
 }
 
@@ -619,7 +611,7 @@ pub(super) struct Again(
 /// Whether a job writes just this for inputs, one after another, or is told just this where it is refused.
 fn does_each(
     alloc: Global,
-    job: &mut Job,
+    job: &Job,
     marks: &mut Marks,
     runs: &[(&[u8], &[u8])],
 ) -> Result<bool, AllocError> {
@@ -634,8 +626,8 @@ fn does_each(
 impl Row for Again {
     fn holds(&self, alloc: Global) -> Result<bool, Fail> {
         let mut marks = Marks::failing_after(self.1);
-        let (mut job, _) = job_of(alloc, self.0, UNSET)??;
-        Ok(does_each(alloc, &mut job, &mut marks, self.3)? && marks.failed == self.2)
+        let (job, _) = job_of(alloc, self.0, UNSET)??;
+        Ok(does_each(alloc, &job, &mut marks, self.3)? && marks.failed == self.2)
     }
 }
 

@@ -1,10 +1,10 @@
 //! The examples of the repository's README.
 use crate::support::{Row, assert_each};
 use bstr::BStr;
-use gix_pathspec::{BuildError, Defaults, Pattern, Search};
+use gix_pathspec::attributes::NoAttributes;
+use gix_pathspec::{BuildError, Defaults, Pattern, Search, search};
 use pathspec_parts::attributes::Case;
 use pathspec_parts::glob::{Glob, Mode, Scratch};
-use pathspec_select::Rows;
 use std::alloc::Global;
 use std::test::Fail;
 
@@ -15,15 +15,14 @@ fn build(alloc: Global, text: &[u8]) -> Result<Search, BuildError> {
 }
 
 /// Whether a search selects a file, and looks for none in `docs`.
-fn selects(search: &mut Search, no_attributes: &mut Rows, path: &str) -> (bool, bool) {
-    let found = search.pattern_matching_relative_path(
-        BStr::new(path.as_bytes()),
-        Some(false),
-        no_attributes,
-    );
-    let is_selected = matches!(&found, Ok(Some(found)) if !found.is_excluded());
+fn selects(search: &Search, scratch: &mut search::Scratch, path: &str) -> (bool, bool) {
+    if !search.fits(scratch) {
+        return (false, false);
+    }
+    let path = BStr::new(path.as_bytes());
+    let answer = search.is_selected(path, Some(false), scratch, &mut NoAttributes);
     let skips = !search.can_match_relative_path(BStr::new(b"docs"), Some(true));
-    (is_selected, skips)
+    (answer == Ok(true), skips)
 }
 
 /// A path, and whether the specs of the README's program select it.
@@ -32,9 +31,9 @@ struct Named(&'static str, bool);
 
 impl Row for Named {
     fn holds(&self, alloc: Global) -> Result<bool, Fail> {
-        let mut search = Box::new(alloc, build(alloc, b"src/*.rs\n:!src/gen\n")?)?;
-        let mut no_attributes = Rows::new(alloc);
-        Ok(selects(&mut search, &mut no_attributes, self.0) == (self.1, true))
+        let search = Box::new(alloc, build(alloc, b"src/*.rs\n:!src/gen\n")?)?;
+        let mut scratch = search.new_scratch(alloc)?;
+        Ok(selects(&search, &mut scratch, self.0) == (self.1, true))
     }
 }
 

@@ -2,7 +2,8 @@
 use crate::look_ups::Marks;
 use crate::support::{build_from, pattern_of, search_of};
 use bstr::{BStr, BString};
-use gix_pathspec::search::MatchKind;
+use gix_pathspec::attributes::LookUp;
+use gix_pathspec::search::{MatchKind, Scratch};
 use gix_pathspec::{Defaults, Error, Pattern, Search};
 use std::alloc::{AllocError, Global};
 use std::test::Fail;
@@ -21,6 +22,31 @@ pub(super) fn settled(
         Some(found) => Ok(Some((found.sequence_number, found.kind))),
         None => Ok(None),
     }
+}
+
+/// What settles a path in a scratch, or None where the look-up fails. The totals of the scratch grow by what it tells.
+pub(super) fn settled_in<L: LookUp>(
+    search: &Search,
+    path: &[u8],
+    is_dir: Option<bool>,
+    scratch: &mut Scratch,
+    look_up: &mut L,
+) -> Result<Option<Settled>, Fail> {
+    if !search.fits(scratch) {
+        return Err("the scratch doesn't fit the search".into());
+    }
+    let (tested, compared) = (scratch.total_tested(), scratch.total_compared());
+    let found = match search.settle(BStr::new(path), is_dir, scratch, look_up) {
+        Ok(Some(found)) => Some(Some((found.sequence_number, found.kind))),
+        Ok(None) => Some(None),
+        Err(_) => None,
+    };
+    let tested = tested.wrapping_add(scratch.last_tested() as u128);
+    let compared = compared.wrapping_add(scratch.last_compared());
+    if scratch.total_tested() != tested || scratch.total_compared() != compared {
+        return Err("a total of the scratch doesn't tell of the match".into());
+    }
+    Ok(found)
 }
 
 /// Whether a pattern has this long text.

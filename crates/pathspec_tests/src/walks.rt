@@ -43,10 +43,10 @@ struct Walk(
 
 impl Row for Walk {
     fn holds(&self, alloc: Global) -> Result<bool, Fail> {
-        let mut search = search_of(alloc, self.0, self.1)?;
+        let search = search_of(alloc, self.0, self.1)?;
         let tree = tree_of(alloc, self.2)?;
         let end = End::Gives(self.3, self.4);
-        Ok(is_walk(alloc, &tree, &mut search, &mut Marks::new(), end)?)
+        Ok(is_walk(alloc, &tree, &search, &mut Marks::new(), end)?)
     }
 }
 
@@ -74,7 +74,7 @@ fn is_end(found: Option<&[usize]>, cursor: &Cursor<'_>, end: End<'_>) -> bool {
 fn is_walk(
     alloc: Global,
     tree: &Tree,
-    search: &mut Search,
+    search: &Search,
     marks: &mut Marks,
     end: End<'_>,
 ) -> Result<bool, AllocError> {
@@ -112,11 +112,11 @@ struct FailsAfter(u64, &'static str);
 
 impl Row for FailsAfter {
     fn holds(&self, alloc: Global) -> Result<bool, Fail> {
-        let mut search = search_of(alloc, &[":(attr:gen)."], "")?;
+        let search = search_of(alloc, &[":(attr:gen)."], "")?;
         let tree = tree_of(alloc, &["x", "a/", "b"])?;
         let mut marks = Marks::failing_after(self.0);
         for end in [End::Fails(self.1), End::Gives(&[0], &[1])] {
-            if !is_walk(alloc, &tree, &mut search, &mut marks, end)? {
+            if !is_walk(alloc, &tree, &search, &mut marks, end)? {
                 return Ok(false);
             }
         }

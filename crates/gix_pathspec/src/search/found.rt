@@ -1,15 +1,17 @@
 //! What a search finds for a path.
-ghost use Rattle.std.specs.Prelude.{◌≡◌, ◌≤◌, IsTrue, IfOk, OnOk, OnErr};
+ghost use Rattle.std.specs.Prelude.{◌≡◌, ◌≢◌, ◌↔◌, ◌<◌, ◌≤◌, [], length, IsTrue, IfOk, OnOk, OnErr};
 ghost use Rattle.bstr.specs.BStr.{bstr_bytes};
 ghost use Rattle.pathspec_parts.specs.Attributes.{next_count};
 ghost use Rattle.gix_pathspec.specs.Specs.{is_exclude};
 ghost use Rattle.gix_pathspec.specs.Patterns.{pattern_spec};
 ghost use Rattle.pathspec_glob.specs.Counts.{Counts};
-ghost use Rattle.gix_pathspec.specs.Effort.{candidate_count, IsFewCompared, IsLittleCompared, is_unasked, is_spec_place};
-ghost use Rattle.gix_pathspec.specs.Search.{KeepsSpecs};
+ghost use Rattle.gix_pathspec.specs.Matching.{is_chosen, IsChosen};
+ghost use Rattle.gix_pathspec.specs.Search.{specs_of};
+ghost use Rattle.gix_pathspec.specs.Room.{Fits, SameRoom};
+ghost use Rattle.gix_pathspec.specs.Effort.{candidate_count, IsFewCompared, IsLittleCompared, IsBySpec, is_unasked};
 
 use crate::Pattern;
-use crate::search::{MatchKind, Search};
+use crate::search::{MatchKind, Scratch, Search};
 use bstr::BStr;
 use pathspec_parts::attributes::LookUp;
 
@@ -36,32 +38,17 @@ impl<'a> Match<'a> {
     }
 }
 
-/// A [`Match`] as plain data, which borrows nothing from the search that found it.
-#[derive(Clone, Copy, Debug, PartialEq, Eq)]
-pub enum MatchPlace {
-    /// A spec of the search.
-    Spec {
-        /// Its place in search order, from 0.
-        place: usize,
-        /// How it came to match.
-        kind: MatchKind,
-    },
-    /// The nil pattern, which always matches.
-    Nil {
-        /// Its number in the match.
-        number: usize,
-    },
-}
-
 impl Search {
-    ghost use Rattle.std.specs.Prelude.{Some};
     ghost use Rattle.std.specs.Option.{option_map, ForSome};
-    ghost use Rattle.gix_pathspec.specs.Found.{is_directory, IsWithin, default_match, answer_at, match_view};
-    ghost use Rattle.gix_pathspec.specs.Search.{answer};
-    ghost use Rattle.gix_pathspec.specs.SelectionLaws.{SelectsChosen, SelectsCommon, OrderIsFree, ChosenIsTest};
+    ghost use Rattle.gix_pathspec.specs.Reading.{nil_spec};
+    ghost use Rattle.gix_pathspec.specs.Found.{is_directory, answer_found, match_view};
+    ghost use Rattle.gix_pathspec.specs.Search.{answer, selects};
+    ghost use Rattle.gix_pathspec.specs.SelectionLaws.{SelectsChosen, SelectsCommon, OrderIsFree, ChosenIsTest, FittedBeginsHead, FittedBeginsStem, FittedMatches};
 
-    /// The place of the spec that settles a path: of the first in search order that matches it. [`Search::match_at`]
-    /// gives the match at this place, and [`Search::pattern_matching_relative_path`] does both.
+    /// The spec that settles a path: the first in search order that matches it. A path is selected where this match
+    /// isn't excluded (gitglossary, "pathspec").
+    ///
+    /// The search is only read, so walkers can share it, each with a scratch of its own.
     ///
     /// A directory's path has no slash at its end: `:(glob)s*` matches the directory `src`, but not `src/`.
     ///
@@ -69,129 +56,167 @@ impl Search {
     /// path that no spec matches, if there are only excludes.
     ///
     /// It looks at each byte of the common prefix once. Of a path that begins with it, it compares at most as many heads
-    /// with it as the count of specs has binary digits, and two ([`Search::last_compared`]). Then it asks the specs whose
-    /// head begins the path, in search order, up to the first that matches ([`Search::last_tested`]). Each of them looks
+    /// with it as the count of specs has binary digits, and two ([`Scratch::last_compared`]). Then it asks the specs whose
+    /// head begins the path, in search order, up to the first that matches ([`Scratch::last_tested`]). Each of them looks
     /// at each byte of its own path a fixed number of times, beside the steps of its glob; and to find it, it looks at as
     /// many places for each head that begins the path as their count has binary digits. The look-up is asked once, on a
     /// reset outcome, for each spec that lists attributes and fits. It takes no memory.
     ///
     /// # Errors
-    /// The look-up's fault, and only where the look-up failed in this call. The search then has its specs as before.
-    pub fn find_match<L: LookUp>(
-        &mut self,
+    /// The look-up's fault, and only where the look-up failed in this call.
+    pub fn settle<L: LookUp>(
+        &self,
         path: BStr<'_>,
         is_dir: Option<bool>,
+        scratch: &mut Scratch,
         look_up: &mut L,
-    ) -> Result<Option<MatchPlace>, L::Fault>
-        ensures same { KeepsSpecs self.old self.new }
-        ensures answer { IfOk result (λ found. answer_at self.old.specs found
-            ≡ answer (L.table look_up.old) self.old.specs
+    ) -> Result<Option<Match<'_>>, L::Fault>
+        requires { Fits self.now.specs scratch.old }
+        ensures answer { IfOk result (λ found. option_map match_view found
+            ≡ answer (L.table look_up.old) self.now.specs
             (bstr_bytes path.entry) (is_directory is_dir)) }
-        ensures within { IfOk result (λ found. ForSome found (IsWithin self.old.specs)) }
         ensures selected { IfOk result (λ found.
-            SelectsChosen (L.table look_up.old) self.old.specs
-            (bstr_bytes path.entry) (is_directory is_dir) (answer_at self.old.specs found)) }
+            SelectsChosen (L.table look_up.old) self.now.specs
+            (bstr_bytes path.entry) (is_directory is_dir) (option_map match_view found)) }
         ensures begins { IfOk result (λ found.
-            SelectsCommon self.old.specs (bstr_bytes path.entry) (answer_at self.old.specs found)) }
+            SelectsCommon self.now.specs (bstr_bytes path.entry) (option_map match_view found)) }
         // So the order in which the specs were given doesn't change what is selected.
         ensures order { OrderIsFree }
         // So the list of chosen paths can be written as a filter, by the test `is_chosen`.
         ensures test { ChosenIsTest }
+        // What a spec fits begins with its head and its stem, and without attributes it matches what it fits.
+        ensures fitted { FittedBeginsHead × FittedBeginsStem × FittedMatches }
         ensures table_stays { L.table look_up.new ≡ L.table look_up.old }
         ensures ok_leaves_count { OnOk result (L.failures look_up.new ≡ L.failures look_up.old) }
         ensures err_counts { OnErr result
             (L.failures look_up.new ≡ next_count (L.failures look_up.old)) }
+        ensures room { SameRoom scratch.old scratch.new }
 
         // What is asked and compared is counted, and all of it is told; also where the look-up fails.
-        ensures tested { Counts self.old.tested self.new.last_tested self.new.tested }
-        ensures compared { Counts self.old.compared self.new.last_compared self.new.compared }
-        ensures few_tested { self.new.last_tested
-            ≤ candidate_count self.old.specs (bstr_bytes path.entry) }
-        ensures few_compared { IsFewCompared self.old.specs self.new.last_compared }
-        ensures little_compared { IsLittleCompared self.old.specs (bstr_bytes path.entry)
-            self.new.last_compared }
-        ensures looked { IfOk result (λ found. IsTrue (is_spec_place found)
-            → (1 ≤ self.new.last_tested) × (1 ≤ self.new.last_compared)) }
-        ensures unasked { IsTrue (is_unasked self.old.specs (bstr_bytes path.entry))
-            → (self.new.last_tested ≡ 0) × (self.new.last_compared ≡ 0) }
+        ensures tested { Counts scratch.old.tested scratch.new.last_tested scratch.new.tested }
+        ensures compared { Counts scratch.old.compared scratch.new.last_compared
+            scratch.new.compared }
+        ensures few_tested { scratch.new.last_tested
+            ≤ candidate_count self.now.specs (bstr_bytes path.entry) }
+        ensures few_compared { IsFewCompared self.now.specs scratch.new.last_compared }
+        ensures little_compared { IsLittleCompared self.now.specs (bstr_bytes path.entry)
+            scratch.new.last_compared }
+        ensures looked { IfOk result (λ found.
+            IsBySpec self.now.specs (bstr_bytes path.entry) (option_map match_view found)
+            → (1 ≤ scratch.new.last_tested) × (1 ≤ scratch.new.last_compared)) }
+        ensures unasked { IsTrue (is_unasked self.now.specs (bstr_bytes path.entry))
+            → (scratch.new.last_tested ≡ 0) × (scratch.new.last_compared ≡ 0) }
     {
-        let default = self.default_match();
-        self.specs.find_match(path, is_dir, default, look_up)
+        let found = self.specs.find_match(path, is_dir, scratch, look_up)?;
+        Ok(self.match_found(path, found))
     }
 
-    /// How many specs the last match asked whether they match the path; a spec at which the look-up failed is one. It is 0
-    /// before the first match, and where the path was empty or lacked the common prefix.
+    /// Whether the search selects a path: no exclude matches it and some include does, or there is no include.
+    ///
+    /// The cost and the paths are those of [`Search::settle`].
+    ///
+    /// # Errors
+    /// The look-up's fault, and only where the look-up failed in this call.
+    pub fn is_selected<L: LookUp>(
+        &self,
+        path: BStr<'_>,
+        is_dir: Option<bool>,
+        scratch: &mut Scratch,
+        look_up: &mut L,
+    ) -> Result<bool, L::Fault>
+        requires { Fits self.now.specs scratch.old }
+        ensures answer { IfOk result (λ selected. selected
+            ≡ selects (answer (L.table look_up.old) self.now.specs
+            (bstr_bytes path.entry) (is_directory is_dir))) }
+        ensures selected { IfOk result (λ selected. bstr_bytes path.entry ≢ []
+            → IsTrue selected ↔ IsChosen (L.table look_up.old) (specs_of self.now.specs)
+            (bstr_bytes path.entry) (is_directory is_dir)) }
+        ensures chosen { IfOk result (λ selected. bstr_bytes path.entry ≢ []
+            → selected ≡ is_chosen (L.table look_up.old) (specs_of self.now.specs)
+            (bstr_bytes path.entry) (is_directory is_dir)) }
+        ensures room { SameRoom scratch.old scratch.new }
+        ensures tested { Counts scratch.old.tested scratch.new.last_tested scratch.new.tested }
+        ensures compared { Counts scratch.old.compared scratch.new.last_compared
+            scratch.new.compared }
+        ensures few_tested { scratch.new.last_tested
+            ≤ candidate_count self.now.specs (bstr_bytes path.entry) }
+        ensures few_compared { IsFewCompared self.now.specs scratch.new.last_compared }
+        ensures little_compared { IsLittleCompared self.now.specs (bstr_bytes path.entry)
+            scratch.new.last_compared }
+        ensures table_stays { L.table look_up.new ≡ L.table look_up.old }
+        ensures ok_leaves_count { OnOk result (L.failures look_up.new ≡ L.failures look_up.old) }
+        ensures err_counts { OnErr result
+            (L.failures look_up.new ≡ next_count (L.failures look_up.old)) }
+    {
+        match self.settle(path, is_dir, scratch, look_up)? {
+            Some(found) => Ok(!found.is_excluded()),
+            None => Ok(false),
+        }
+    }
+
+    /// How many specs the last match of [`Search::pattern_matching_relative_path`] asked, as [`Scratch::last_tested`] says.
     pub fn last_tested(&self) -> usize
         ensures { result ≡ self.now.last_tested }
     {
-        self.specs.last_tested()
+        self.scratch.last_tested()
     }
 
-    /// How many heads of specs the last match compared with the path. It is 0 where [`Search::last_tested`] says so.
+    /// How many heads of specs that match compared with the path.
     pub fn last_compared(&self) -> u128
         ensures { result ≡ self.now.last_compared }
     {
-        self.specs.last_compared()
+        self.scratch.last_compared()
     }
 
-    /// How many specs all matches of this search asked, modulo 2^128.
+    /// How many specs all these matches asked, modulo 2^128.
     pub fn total_tested(&self) -> u128
         ensures { result ≡ self.now.tested }
     {
-        self.specs.total_tested()
+        self.scratch.total_tested()
     }
 
-    /// How many heads all matches of this search compared, modulo 2^128.
+    /// How many heads all these matches compared, modulo 2^128.
     pub fn total_compared(&self) -> u128
         ensures { result ≡ self.now.compared }
     {
-        self.specs.total_compared()
+        self.scratch.total_compared()
     }
 
-    /// What settles a path that no spec matches: the nil pattern, if there are only excludes.
-    fn default_match(&self) -> Option<MatchPlace>
-        ensures { result ≡ default_match self.now.specs }
-    {
-        if self.has_include() {
-            None
-        } else {
-            Some(MatchPlace::Nil {
-                number: self.specs.len(),
-            })
-        }
-    }
-
-    /// The match at a place of this search.
-    pub fn match_at(&self, found: MatchPlace) -> Match<'_>
-        requires { IsWithin self.now.specs found }
-        ensures { Some (match_view result) ≡ answer_at self.now.specs (Some found) }
+    /// The match at the place of the first spec that matches the path, or where none does what settles it then.
+    fn match_found(&self, path: BStr<'_>, found: Option<(usize, MatchKind)>) -> Option<Match<'_>>
+        requires { ForSome found (λ at. at.0 < length self.now.specs) }
+        ensures { option_map match_view result
+            ≡ answer_found self.now.specs (bstr_bytes path.entry) found }
     {
         match found {
-            MatchPlace::Spec { place, kind } => Match {
+            Some((place, kind)) => Some(Match {
                 pattern: self.specs.as_slice()[place].pattern(),
                 sequence_number: self.specs.as_slice()[place].number(),
                 kind,
-            },
-            MatchPlace::Nil { number } => Match {
-                pattern: &self.nil,
-                sequence_number: number,
-                kind: MatchKind::Always,
-            },
+            }),
+            None if path.as_bytes().is_empty() => Some(self.nil_match(0)),
+            None if self.has_include() => None,
+            None => Some(self.nil_match(self.specs.len())),
         }
     }
 
-    /// The spec that settles a path: the first in search order that matches it. A path is selected where this match
-    /// isn't excluded (gitglossary, "pathspec").
-    ///
-    /// A directory's path has no slash at its end: `:(glob)s*` matches the directory `src`, but not `src/`.
-    ///
-    /// A path is a directory where `is_dir` is `Some(true)`. An empty path is settled by the nil pattern, and so is a
-    /// path that no spec matches, if there are only excludes.
-    ///
-    /// The cost is that of [`Search::find_match`].
+    /// The nil pattern, which always matches, under a number.
+    fn nil_match(&self, number: usize) -> Match<'_>
+        ensures { match_view result
+            ≡ record { pattern = nil_spec; number = number; kind = MatchKind.Always } }
+    {
+        Match {
+            pattern: &self.nil,
+            sequence_number: number,
+            kind: MatchKind::Always,
+        }
+    }
+
+    /// The spec that settles a path, as [`Search::settle`] finds it, in a scratch that the search holds (gix-pathspec's call of
+    /// this name).
     ///
     /// # Errors
-    /// The look-up's fault, and only where the look-up failed in this call. The search then has its specs as before.
+    /// The look-up's fault, and only where the look-up failed in this call. The search has its specs as before.
     pub fn pattern_matching_relative_path<L: LookUp>(
         &mut self,
         path: BStr<'_>,
@@ -211,9 +236,9 @@ impl Search {
         ensures err_counts { OnErr result
             (L.failures look_up.new ≡ next_count (L.failures look_up.old)) }
     {
-        match self.find_match(path, is_dir, look_up)? {
-            Some(place) => Ok(Some(self.match_at(place))),
-            None => Ok(None),
-        }
+        let found = self
+            .specs
+            .find_match(path, is_dir, &mut self.scratch, look_up)?;
+        Ok(self.match_found(path, found))
     }
 }

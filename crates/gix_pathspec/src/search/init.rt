@@ -11,14 +11,15 @@ ghost use Rattle.gix_pathspec.specs.Patterns.{pattern_spec};
 ghost use Rattle.gix_pathspec.specs.NormalForm.{NormalFormIsNormal};
 ghost use Rattle.gix_pathspec.specs.Prefixes.{common_front, common_prefix};
 ghost use Rattle.gix_pathspec.specs.Search.{KeepsSpecs, HasNoEffort, specs_of, numbered_from, default_to_prefix, in_search_order, search_of, HoldsNormalForms};
-ghost use Rattle.gix_pathspec.specs.Effort.{ArePlacesOf, heads_in_order, unasked};
+ghost use Rattle.gix_pathspec.specs.Effort.{ArePlacesOf, heads_in_order};
 ghost use Rattle.gix_pathspec.specs.Building.{prefix_bytes, TellsFault, Builds, IsErrorAt, numbered_normal_form};
 ghost use Rattle.gix_pathspec.specs.SelectionLaws.{SpecPathsAreBytes};
 
 use crate::by_head::SpecsByHead;
 use crate::search::Search;
-use crate::search::counted::CountedSpecs;
+use crate::search::counted::{CountedHeads, CountedSpecs};
 use crate::search::reach::Reach;
+use crate::search::scratch::scratch_for;
 use crate::search::spec::CompiledSpec;
 use crate::{Error, MagicSignature, Pattern};
 use bstr::{BStr, BString};
@@ -66,7 +67,7 @@ impl Search {
     /// The prefix must be clean, as [`Pattern::normalize`] asks. None is the empty prefix.
     ///
     /// The cost is linear in the bytes of all specs, and for each spec in the prefix and the root; and their heads are
-    /// sorted. Each spec gets the room that its matches work in; nothing grows afterwards.
+    /// sorted. It has room for its own matches; nothing grows afterwards.
     ///
     /// # Errors
     /// [`BuildError::Spec`] for the first spec that has no normal form, and [`BuildError::Memory`].
@@ -113,11 +114,15 @@ impl Search {
         let alloc = *self.nil.attributes.allocator();
         let specs = clone_all(alloc, self.specs.as_slice())?;
         let reach = Reach::of_specs(alloc, &specs)?;
+        let specs = by_head(alloc, specs)?;
+        let scratch = scratch_for(alloc, &specs)?;
+        let source = clone_source(&self.source)?;
         Ok(Search {
-            specs: by_head(alloc, specs)?,
+            specs,
+            scratch,
             reach,
             nil: Pattern::nil(alloc),
-            source: clone_source(&self.source)?,
+            source,
         })
     }
 }
@@ -158,8 +163,11 @@ pub(super) fn build(
     let compiled = compile_all(alloc, patterns, prefix, root)?;
     let specs = in_search_order(alloc, compiled)?;
     let reach = Reach::of_specs(alloc, specs.as_slice())?;
+    let specs = by_head(alloc, specs)?;
+    let scratch = scratch_for(alloc, &specs)?;
     Ok(Search {
-        specs: by_head(alloc, specs)?,
+        specs,
+        scratch,
         reach,
         nil: Pattern::nil(alloc),
         source: None,
@@ -251,24 +259,21 @@ fn in_search_order(alloc: Global, specs: Vec<CompiledSpec>) -> Result<Vec<Compil
     Ok(ordered)
 }
 
-/// Specs by their heads, of which none was asked yet.
+/// Specs by their heads.
 fn by_head(alloc: Global, specs: Vec<CompiledSpec>) -> Result<SpecsByHead, AllocError>
-    ensures { IfOk result (λ held. held ≡ unasked specs.items) }
+    ensures { IfOk result (λ held. held ≡ specs.items) }
 {
     let common = common_prefix(alloc, specs.as_slice())?;
     let heads = places_by_head(alloc, specs.as_slice())?;
     Ok(SpecsByHead::new(CountedSpecs::new(specs), heads, common))
 }
 
-/// The places of specs by their heads, with nothing compared yet.
-fn places_by_head(alloc: Global, specs: &[CompiledSpec]) -> Result<Box<PlacesByHead>, AllocError>
-    ensures grouped { IfOk result (λ places. ArePlacesOf specs.now (box_value places)) }
-    ensures counted { IfOk result (λ places. (box_value places).compared ≡ 0) }
+/// The places of specs by their heads.
+fn places_by_head(alloc: Global, specs: &[CompiledSpec]) -> Result<Box<CountedHeads>, AllocError>
+    ensures { IfOk result (λ places. ArePlacesOf specs.now (box_value places)) }
 {
-    Ok(Box::new(
-        alloc,
-        PlacesByHead::new(alloc, heads_in_order(alloc, specs)?)?,
-    )?)
+    let places = PlacesByHead::new(alloc, heads_in_order(alloc, specs)?)?;
+    Ok(Box::new(alloc, CountedHeads::new(places))?)
 }
 
 /// The heads of specs in their order.

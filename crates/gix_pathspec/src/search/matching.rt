@@ -1,24 +1,23 @@
 //! Whether a spec matches a path, and how (gitglossary, "pathspec").
-ghost use Rattle.std.specs.Prelude.{◌≡◌, length, map, IsTrue, is_some};
+ghost use Rattle.std.specs.Prelude.{◌≡◌, ◌≤◌, length, map, IsTrue, is_some};
 ghost use Rattle.bstr.specs.BStr.{bstr_bytes};
 ghost use Rattle.pathspec_parts.specs.Bytes.{is_empty};
 ghost use Rattle.pathspec_parts.specs.Attributes.{Table};
 ghost use Rattle.pathspec_parts.specs.AttributeStates.{state_ref_view, assignment_view};
-ghost use Rattle.pathspec_parts.specs.Outcomes.{states_of};
+ghost use Rattle.pathspec_parts.specs.Outcomes.{names_of, states_of};
 ghost use Rattle.gix_pathspec.specs.Specs.{ignores_case};
 ghost use Rattle.gix_pathspec.specs.Matching.{fit, spec_matches, is_in_prefix_directory, is_glob_match, is_verbatim_match, is_prefix_match, takes_kind, case_of, same_state, have_states};
 ghost use Rattle.gix_pathspec.specs.Patterns.{pattern_spec};
-ghost use Rattle.gix_pathspec.specs.Compiled.{glob_of};
-ghost use Rattle.gix_pathspec.specs.SelectionLaws.{FittedBeginsHead, FittedBeginsStem};
+ghost use Rattle.gix_pathspec.specs.Room.{glob_of, tokens_of};
 
 use crate::search::MatchKind;
 use crate::search::spec::CompiledSpec;
-pub use crate::search::spec::GlobMatcher;
-use crate::search::texts::{begins_with, is_below, is_same_text};
+use crate::search::texts::{is_below, is_same_text};
 use crate::{MagicSignature, Pattern};
 use bitflags::Flags;
 use bstr::BStr;
 use pathspec_parts::attributes::{Assignment, Case, LookUp, Outcome, StateRef};
+use pathspec_parts::glob::{Glob, Scratch};
 
 /// How a pattern matches a path that isn't empty and is a directory or a file, if it does: always, or since its glob
 /// matches the path, or since the path is the pattern's or lies below it. Of several ways it is the first.
@@ -30,26 +29,24 @@ use pathspec_parts::attributes::{Assignment, Case, LookUp, Outcome, StateRef};
 ///
 /// Beside the steps of the glob, it looks at each byte of the pattern's path a fixed number of times. It takes no
 /// memory.
-pub fn match_kind(
+fn match_kind(
     pattern: &Pattern,
-    glob: &mut Option<GlobMatcher>,
+    glob: &Option<Glob>,
+    globs: &mut Scratch,
     path: BStr<'_>,
     is_dir: bool,
 ) -> Option<MatchKind>
-    requires { glob.old ≡ glob_of (pattern_spec pattern.now) }
+    requires glob { glob.now ≡ glob_of (pattern_spec pattern.now) }
+    requires room { tokens_of (pattern_spec pattern.now) ≤ globs.old.tokens }
     ensures kind { result ≡ fit (pattern_spec pattern.now) (bstr_bytes path.entry) is_dir }
-    ensures matches { IsTrue (is_empty (pattern_spec pattern.now).attributes) → (table : Table)
-        → is_some result ≡ spec_matches table (pattern_spec pattern.now) (bstr_bytes path.entry) is_dir }
-    ensures same { glob.new ≡ glob.old }
-    // What fits begins with the head, and, unless the pattern is nil, with the stem.
-    ensures begins { FittedBeginsHead × FittedBeginsStem }
+    ensures room { globs.new.tokens ≡ globs.old.tokens }
 {
     if !is_in_prefix_directory(pattern, path, is_dir) {
         return None;
     }
     if pattern.always_matches() {
         Some(MatchKind::Always)
-    } else if is_glob_match(pattern, glob, path, is_dir) {
+    } else if is_glob_match(pattern, glob, globs, path, is_dir) {
         Some(MatchKind::WildcardMatch)
     } else if is_verbatim_match(pattern, path, is_dir) {
         Some(MatchKind::Verbatim)
@@ -77,18 +74,20 @@ fn is_in_prefix_directory(pattern: &Pattern, path: BStr<'_>, is_dir: bool) -> bo
 /// Whether the pattern's glob, if it has one, matches the path, which is a directory where the pattern wants one.
 fn is_glob_match(
     pattern: &Pattern,
-    glob: &mut Option<GlobMatcher>,
+    glob: &Option<Glob>,
+    globs: &mut Scratch,
     path: BStr<'_>,
     is_dir: bool,
 ) -> bool
-    requires { glob.old ≡ glob_of (pattern_spec pattern.now) }
+    requires glob { glob.now ≡ glob_of (pattern_spec pattern.now) }
+    requires room { tokens_of (pattern_spec pattern.now) ≤ globs.old.tokens }
     ensures answer { result ≡ is_glob_match (pattern_spec pattern.now)
         (bstr_bytes path.entry) is_dir }
-    ensures same { glob.new ≡ glob.old }
+    ensures room { globs.new.tokens ≡ globs.old.tokens }
 {
     match glob {
         Some(glob) => {
-            takes_kind(pattern, is_dir) && glob.matches(path.as_bytes(), case_of(pattern))
+            takes_kind(pattern, is_dir) && glob.matches(path.as_bytes(), case_of(pattern), globs)
         }
         None => false,
     }
@@ -147,35 +146,24 @@ impl CompiledSpec {
     ghost use Rattle.pathspec_parts.specs.Attributes.{next_count};
     ghost use Rattle.gix_pathspec.specs.Matching.{has_attributes};
     ghost use Rattle.gix_pathspec.specs.Found.{matched_kind};
+    ghost use Rattle.gix_pathspec.specs.Room.{attribute_names};
 
-    /// How the spec fits a path that isn't empty and is a directory or a file, whatever attributes it has.
-    ///
-    /// A path that doesn't begin with the spec's head never reaches its glob.
-    fn fit(&mut self, path: BStr<'_>, is_dir: bool) -> Option<MatchKind>
-        ensures fit { result ≡ fit self.old.spec (bstr_bytes path.entry) is_dir }
-        ensures same { self.new ≡ self.old }
-    {
-        if begins_with(path.as_bytes(), self.head(), false) {
-            match_kind(&self.pattern, &mut self.glob, path, is_dir)
-        } else {
-            None
-        }
-    }
-
-    /// Whether the path has each attribute that the spec lists. The look-up is asked at most once, and only where the
-    /// spec lists any.
+    /// Whether the path has each attribute that the spec lists. The look-up is asked at most once, on a reset outcome, and
+    /// only where the spec lists any.
     ///
     /// # Errors
     /// The look-up's fault.
     fn has_attributes<L: LookUp>(
-        &mut self,
+        &self,
         path: BStr<'_>,
         is_dir: bool,
+        outcome: &mut Outcome,
         look_up: &mut L,
     ) -> Result<bool, L::Fault>
+        requires { names_of outcome.old ≡ attribute_names self.now.spec }
         ensures answer { IfOk result (λ has. has
-            ≡ has_attributes (L.table look_up.old) self.old.spec (bstr_bytes path.entry) is_dir) }
-        ensures same { self.new ≡ self.old }
+            ≡ has_attributes (L.table look_up.old) self.now.spec (bstr_bytes path.entry) is_dir) }
+        ensures names { names_of outcome.new ≡ names_of outcome.old }
         ensures table_stays { L.table look_up.new ≡ L.table look_up.old }
         ensures ok_leaves_count { OnOk result (L.failures look_up.new ≡ L.failures look_up.old) }
         ensures err_counts { OnErr result
@@ -184,9 +172,9 @@ impl CompiledSpec {
         if self.pattern.attributes.is_empty() {
             return Ok(true);
         }
-        self.outcome.reset();
-        let found = look_up.look_up(path, Case::Sensitive, is_dir, &mut self.outcome)?;
-        Ok(found && have_states(&self.outcome, &self.pattern.attributes))
+        outcome.reset();
+        let found = look_up.look_up(path, Case::Sensitive, is_dir, outcome)?;
+        Ok(found && have_states(outcome, &self.pattern.attributes))
     }
 
     /// How the spec matches a path that isn't empty and is a directory or a file: it fits in this way, and the path has
@@ -197,21 +185,31 @@ impl CompiledSpec {
     /// # Errors
     /// The look-up's fault.
     pub(super) fn matches<L: LookUp>(
-        &mut self,
+        &self,
         path: BStr<'_>,
         is_dir: bool,
+        globs: &mut Scratch,
+        outcome: &mut Outcome,
         look_up: &mut L,
     ) -> Result<Option<MatchKind>, L::Fault>
+        requires room { tokens_of self.now.spec ≤ globs.old.tokens }
+        requires names { names_of outcome.old ≡ attribute_names self.now.spec }
         ensures answer { IfOk result (λ kind. kind
-            ≡ matched_kind (L.table look_up.old) self.old.spec (bstr_bytes path.entry) is_dir) }
-        ensures same { self.new ≡ self.old }
+            ≡ matched_kind (L.table look_up.old) self.now.spec (bstr_bytes path.entry) is_dir) }
+        ensures room { globs.new.tokens ≡ globs.old.tokens }
+        ensures names { names_of outcome.new ≡ names_of outcome.old }
         ensures table_stays { L.table look_up.new ≡ L.table look_up.old }
         ensures ok_leaves_count { OnOk result (L.failures look_up.new ≡ L.failures look_up.old) }
         ensures err_counts { OnErr result
             (L.failures look_up.new ≡ next_count (L.failures look_up.old)) }
     {
-        match self.fit(path, is_dir) {
-            Some(kind) => Ok(self.has_attributes(path, is_dir, look_up)?.then_some(kind)),
+        match match_kind(&self.pattern, &self.glob, globs, path, is_dir) {
+            Some(kind) => {
+                Ok(
+                    self.has_attributes(path, is_dir, outcome, look_up)?
+                        .then_some(kind),
+                )
+            }
             None => Ok(None),
         }
     }

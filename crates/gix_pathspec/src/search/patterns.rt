@@ -99,7 +99,7 @@ impl Search {
 impl SpecsByHead {
     /// The specs, to read. A match stands outside the module `search`, so it can't call this.
     pub(super) fn as_slice(&self) -> &[CompiledSpec]
-        ensures { result.now ≡ self.now.specs }
+        ensures { result.now ≡ self.now }
     {
         self.counted().as_slice()
     }

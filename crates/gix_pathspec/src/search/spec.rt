@@ -1,71 +1,18 @@
 //! Specs that are made ready for matching.
-ghost use Rattle.std.specs.Prelude.{◌≡◌, ◌≤◌, length, IfOk, IfErr};
+ghost use Rattle.std.specs.Prelude.{◌≡◌, ◌↔◌, ◌≤◌, length, IsTrue, IfOk, IfErr};
 ghost use Rattle.gix_pathspec.specs.Errors.{IsMemory};
 ghost use Rattle.gix_pathspec.specs.Paths.{IsBytes};
+ghost use Rattle.gix_pathspec.specs.Patterns.{pattern_spec};
+ghost use Rattle.gix_pathspec.specs.Room.{glob_of};
 
 use crate::{Error, Pattern, SearchMode};
-use pathspec_parts::attributes::{Case, Outcome};
+use pathspec_parts::attributes::Outcome;
 use pathspec_parts::glob::{Glob, Mode, Scratch, first_wildcard};
 use std::alloc::{AllocError, Global};
 use std::fmt;
 use std::marker::Model;
 
-/// A glob with the room that its matches work in.
-#[derive(Debug, Drop)]
-pub struct GlobMatcher {
-    glob: Glob,
-    scratch: Scratch,
-}
-
-impl Model for GlobMatcher {
-    ghost use Rattle.std.specs.Prelude.{◌≤◌, length};
-    ghost use Rattle.pathspec_glob.specs.Globs.{GlobSource, glob_tokens};
-
-    ghost Value = { GlobSource };
-
-    ghost view = { λ m. m.glob };
-
-    ghost invariant = { λ m. length (glob_tokens m.glob) ≤ m.scratch.tokens };
-}
-
-impl GlobMatcher {
-    ghost use Rattle.pathspec_glob.specs.GlobRelation.{matches};
-    ghost use Rattle.pathspec_glob.specs.Globs.{glob_tokens};
-    ghost use Rattle.gix_pathspec.specs.Patterns.{pattern_spec};
-    ghost use Rattle.gix_pathspec.specs.Compiled.{glob_of};
-
-    /// The glob that a pattern is compared as, with its room; None for a pattern that isn't compared as a glob. The
-    /// cost is linear in the path.
-    ///
-    /// # Errors
-    /// Memory runs out.
-    fn compile(alloc: Global, pattern: &Pattern) -> Result<Option<GlobMatcher>, AllocError>
-        ensures { IfOk result (λ glob. glob ≡ glob_of (pattern_spec pattern.now)) }
-    {
-        if !pattern.has_wildcard() {
-            return Ok(None);
-        }
-        let mode = match pattern.search_mode {
-            SearchMode::ShellGlob => Mode::Shell,
-            SearchMode::Literal => return Ok(None),
-            SearchMode::PathAwareGlob => Mode::PathAware,
-        };
-        let glob = Glob::compile(alloc, pattern.path().as_bytes(), mode)?;
-        let scratch = Scratch::for_tokens(alloc, glob.tokens())?;
-        Ok(Some(GlobMatcher { glob, scratch }))
-    }
-
-    /// Whether the glob matches the whole text. It takes no memory, and at most (pattern bytes + 1) × (text bytes + 1)
-    /// steps, as [`Glob::matches`] does.
-    pub(super) fn matches(&mut self, text: &[u8], case: Case) -> bool
-        ensures answer { result ≡ matches self.old.mode case (glob_tokens self.old) text.now }
-        ensures same { self.new ≡ self.old }
-    {
-        self.glob.matches(text, case, &mut self.scratch)
-    }
-}
-
-/// A spec with its number and with the room that matching it works in. What is printed of it is the spec.
+/// A spec with its number, made ready for matching. What is printed of it is the spec.
 #[derive(Drop)]
 pub(crate) struct CompiledSpec {
     pub(super) pattern: Pattern,
@@ -73,9 +20,7 @@ pub(crate) struct CompiledSpec {
     /// How many bytes of the path are its stem.
     pub(super) stem: usize,
     /// None for a spec that isn't compared as a glob.
-    pub(super) glob: Option<GlobMatcher>,
-    /// A place for each attribute that the spec lists.
-    pub(super) outcome: Outcome,
+    pub(super) glob: Option<Glob>,
 }
 
 impl fmt::Debug for CompiledSpec {
@@ -93,16 +38,17 @@ impl Model for CompiledSpec {
 
     ghost view = { λ c. numbered_pattern c.number c.pattern };
 
-    ghost invariant = { λ c. IsCompiled (pattern_spec c.pattern) c.stem c.glob c.outcome };
+    ghost invariant = { λ c. IsCompiled (pattern_spec c.pattern) c.stem c.glob };
 }
 
 impl CompiledSpec {
     ghost use Rattle.gix_pathspec.specs.Patterns.{pattern_spec};
     ghost use Rattle.gix_pathspec.specs.Prefixes.{stem, head};
     ghost use Rattle.gix_pathspec.specs.Compiled.{numbered_pattern};
+    ghost use Rattle.pathspec_parts.specs.Outcomes.{names_of};
+    ghost use Rattle.gix_pathspec.specs.Room.{tokens_of, attribute_names};
 
-    /// Makes a pattern ready for matching, under its number. The cost is linear in its path and in the names of its
-    /// attributes.
+    /// Makes a pattern ready for matching, under its number. The cost is linear in its path.
     ///
     /// # Errors
     /// Memory runs out.
@@ -117,14 +63,12 @@ impl CompiledSpec {
         // The proof reads here that the path is bytes.
         let _ = pattern.path();
         let stem = CompiledSpec::stem_length(&pattern);
-        let glob = GlobMatcher::compile(alloc, &pattern)?;
-        let outcome = Outcome::for_assignments(alloc, pattern.attributes.as_slice())?;
+        let glob = compile_glob(alloc, &pattern)?;
         Ok(CompiledSpec {
             pattern,
             number,
             stem,
             glob,
-            outcome,
         })
     }
 
@@ -140,7 +84,7 @@ impl CompiledSpec {
         }
     }
 
-    /// An equal spec with room of its own, at the cost of [`CompiledSpec::new`].
+    /// An equal spec, at the cost of [`CompiledSpec::new`].
     ///
     /// # Errors
     /// [`Error::Memory`] alone.
@@ -173,10 +117,60 @@ impl CompiledSpec {
         &self.pattern
     }
 
+    /// How many tokens the spec's glob has, 0 where it isn't compared as one.
+    pub(super) fn tokens(&self) -> usize
+        ensures { result ≡ tokens_of self.now.spec }
+    {
+        match &self.glob {
+            Some(glob) => glob.tokens(),
+            None => 0,
+        }
+    }
+
+    /// A place for the state of each attribute that the spec lists.
+    ///
+    /// # Errors
+    /// Memory runs out.
+    pub(super) fn new_outcome(&self, alloc: Global) -> Result<Outcome, AllocError>
+        ensures { IfOk result (λ outcome. names_of outcome ≡ attribute_names self.now.spec) }
+    {
+        Outcome::for_assignments(alloc, &self.pattern.attributes)
+    }
+
+    /// Whether a match of the spec has room for its glob and for the states of its attributes.
+    pub(super) fn fits(&self, globs: &Scratch, outcome: &Outcome) -> bool
+        ensures { IsTrue result ↔ (tokens_of self.now.spec ≤ globs.now.tokens)
+            × (names_of outcome.now ≡ attribute_names self.now.spec) }
+    {
+        let has_room = match &self.glob {
+            Some(glob) => glob.fits(globs),
+            None => true,
+        };
+        has_room && outcome.is_for(&self.pattern.attributes)
+    }
+
     /// The place of the spec in the list that the search was made from.
     pub(crate) fn number(&self) -> usize
         ensures { result ≡ self.now.number }
     {
         self.number
     }
+}
+
+/// The glob that a pattern is compared as; None for a pattern that isn't compared as one. The cost is linear in the path.
+///
+/// # Errors
+/// Memory runs out.
+fn compile_glob(alloc: Global, pattern: &Pattern) -> Result<Option<Glob>, AllocError>
+    ensures { IfOk result (λ glob. glob ≡ glob_of (pattern_spec pattern.now)) }
+{
+    if !pattern.has_wildcard() {
+        return Ok(None);
+    }
+    let mode = match pattern.search_mode {
+        SearchMode::ShellGlob => Mode::Shell,
+        SearchMode::Literal => return Ok(None),
+        SearchMode::PathAwareGlob => Mode::PathAware,
+    };
+    Ok(Some(Glob::compile(alloc, pattern.path().as_bytes(), mode)?))
 }

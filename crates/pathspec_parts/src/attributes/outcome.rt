@@ -61,6 +61,14 @@ impl Outcome {
         self.places.is_empty()
     }
 
+    /// Whether it has a place for each of these assignments, in their order. The cost is linear in the bytes of their names.
+    pub fn is_for(&self, assignments: &[Assignment]) -> bool
+        ensures { IsTrue result
+            ↔ (names_of self.now ≡ map (λ a. a.name) (map assignment_view assignments.now)) }
+    {
+        self.len() == assignments.len() && have_names(&self.places, assignments)
+    }
+
     /// The attribute's name at a place.
     pub fn name(&self, place: usize) -> BStr<'_>
         requires { place < length self.now }
@@ -156,4 +164,18 @@ fn clear(places: &mut [Assignment])
     for place in places.iter_mut() {
         place.state = State::Unspecified;
     }
+}
+
+/// Whether two lists of one length have the same names, each at its place.
+fn have_names(left: &[Assignment], right: &[Assignment]) -> bool
+    requires { length left.now ≡ length right.now }
+    ensures { IsTrue result ↔ (map (λ a. a.name) (map assignment_view left.now)
+        ≡ map (λ a. a.name) (map assignment_view right.now)) }
+{
+    for (place, assignment) in left.iter().enumerate() {
+        if assignment.name.as_bytes().as_bytes() != right[place].name.as_bytes().as_bytes() {
+            return false;
+        }
+    }
+    true
 }

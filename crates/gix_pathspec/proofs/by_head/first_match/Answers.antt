@@ -1,5 +1,5 @@
 -- Where no head begins the path, no spec matches.
-use Rattle.std.proofs.Common.{subst, ap, length, None, arith}
+use Rattle.std.proofs.Common.{subst, length, None}
 use Rattle.bstr.specs.BStr.{bstr_bytes}
 use Rattle.pathspec_heads.specs.Heads.{IsLastFront}
 use Rattle.pathspec_heads.proofs.CandidateProofs.{no-candidates}
@@ -12,13 +12,13 @@ returns-in-None-clause-first g c =
     let h = c.args.heads.now.heads in
     let found = subst (λ o. IsLastFront h (length h) c.as_bytes.result.now o) c.in-None.is c.deepest-deepest.ensures.found in
     let last = subst (λ t. IsLastFront h (length h) t None) c.as_bytes.ensures found in
-    none-begins _ (bstr_bytes c.args.path) c.args.is_dir c.args.specs.now.specs (no-candidates (heads_in_order c.args.specs.now.specs) h c.args.heads.now.starts c.args.heads.now.order c.requires.grouped (bstr_bytes c.args.path) last)
+    none-begins _ (bstr_bytes c.args.path) c.args.is_dir c.args.specs.now (no-candidates (heads_in_order c.args.specs.now) h c.args.heads.now.starts c.args.heads.now.order c.requires.grouped (bstr_bytes c.args.path) last)
 
 pub first_candidate-requires-clause-head : goal.first_candidate-requires-clause-head
-first_candidate-requires-clause-head g c = omega (arith, (c.deepest-deepest.ensures.found.begins c.in-Some.head c.in-Some.is).0, ap length c.deepest-deepest.ensures.same.heads)
+first_candidate-requires-clause-head g c = (c.deepest-deepest.ensures.found.begins c.in-Some.head c.in-Some.is).0
 
 pub returns-in-Some-clause-few_compared : goal.returns-in-Some-clause-few_compared
-returns-in-Some-clause-few_compared g c = few-specs c.args.specs.now.specs c.args.heads.now.heads c.deepest-deepest.result.compared c.requires.grouped.few c.deepest-deepest.ensures.cost
+returns-in-Some-clause-few_compared g c = few-specs c.args.specs.now c.args.heads.now.heads c.deepest-deepest.result.compared c.requires.grouped.few c.deepest-deepest.ensures.cost
 
 pub returns-in-None-clause-few_compared : goal.returns-in-None-clause-few_compared
-returns-in-None-clause-few_compared g c = few-specs c.args.specs.now.specs c.args.heads.now.heads c.deepest-deepest.result.compared c.requires.grouped.few c.deepest-deepest.ensures.cost
+returns-in-None-clause-few_compared g c = few-specs c.args.specs.now c.args.heads.now.heads c.deepest-deepest.result.compared c.requires.grouped.few c.deepest-deepest.ensures.cost

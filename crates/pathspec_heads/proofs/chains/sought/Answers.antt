@@ -1,5 +1,4 @@
-use Rattle.std.proofs.Common.{◌-◌, arith, ◌∙◌, subst}
-use Rattle.pathspec_heads.specs.Heads.{Brackets}
+use Rattle.std.proofs.Common.{◌-◌, arith}
 use Rattle.pathspec_heads.proofs.SearchProofs.{halved, half_left, counts-more}
 use Rattle.pathspec_heads.proofs.chains.sought.Goals as goal
 
@@ -11,9 +10,8 @@ loop-between-preserved c =
     let i = c.loop-between.invariant in
     let n = c.narrowed-between in
     record {
-      so_far = subst (λ h. Brackets h c.args.text.now n.result.low n.result.high n.result.agreed) i.heads n.ensures.so_far;
-      heads = n.ensures.heads ∙ i.heads;
-      counted = counts-more c.args.heads.now.compared c.loop-between.compared c.loop-between.heads.compared n.new.heads.compared i.counted n.ensures.counted;
+      so_far = n.ensures.so_far;
+      counted = counts-more c.args.scratch.now c.loop-between.compared c.loop-between.scratch n.new.scratch i.counted n.ensures.counted;
       asked = λ p. omega (arith, i.asked p);
       cost = λ b l.
           let few = i.cost b l in

@@ -7,6 +7,7 @@ use Rattle.pathspec_parts.specs.Cursors.{CursorContents, IsNew, next_seen, appen
 use Rattle.gix_pathspec.specs.Specs.{Spec}
 use Rattle.gix_pathspec.specs.Matching.{is_chosen}
 use Rattle.gix_pathspec.specs.Search.{specs_of}
+use Rattle.gix_pathspec.proofs.RoomProofs.{fits-kept}
 use Rattle.gix_pathspec.specs.SelectionLaws.{NoNilPrefix, SpecPathsAreBytes}
 use Rattle.pathspec_select.specs.Walks.{IsWalk, HasWalked, HasChosen}
 use Rattle.pathspec_select.proofs.EnteredProofs.{given_is_one, entered_is_one}
@@ -17,15 +18,12 @@ use Rattle.pathspec_select.proofs.walk.select.Goals as goal
 start_as : (table : Table) (specs : List Spec) (c : CursorContents) → IsNew c → (given : List ℕ) → given ≡ [] → HasChosen table specs c.entries (next_number c) given c.entered
 start_as table specs c new given e = subst (λ xs. HasChosen table specs c.entries (next_number c) xs c.entered) (sym e) (at_start table specs c new)
 
--- what the visit says, by the specs and the look-up that the walk began with
-visit_is : (specs now : List Spec) (c m d : CursorContents) (n : ℕ) → m ≡ cursor_at c (Some n) → now ≡ specs → d ≡ after_visit now m → d ≡ after_visit specs (cursor_at c (Some n))
-visit_is specs now c m d n e a v = v ∙ (ap (after_visit now) e ∙ ap (λ x. after_visit x (cursor_at c (Some n))) a)
-
-given_is : (table before : Table) (specs now : List Spec) (c m : CursorContents) (n : ℕ) (given more : List ℕ) → m ≡ cursor_at c (Some n) → before ≡ table → now ≡ specs → more ≡ append_if (is_chosen before now (path_at m) (is_dir_at m)) n given
+-- what the visit gives, by the look-up that the walk began with
+given_is : (table before : Table) (specs : List Spec) (c m : CursorContents) (n : ℕ) (given more : List ℕ) → m ≡ cursor_at c (Some n) → before ≡ table → more ≡ append_if (is_chosen before specs (path_at m) (is_dir_at m)) n given
     → more ≡ append_if (is_chosen table specs (path_at (cursor_at c (Some n))) (is_dir_at (cursor_at c (Some n)))) n given
-given_is table before specs now c m n given more e b a v =
+given_is table before specs c m n given more e b v =
     let at = cursor_at c (Some n) in
-    v ∙ (ap (λ (x : CursorContents). append_if (is_chosen before now (path_at x) (is_dir_at x)) n given) e ∙ (ap (λ x. append_if (is_chosen x now (path_at at) (is_dir_at at)) n given) b ∙ ap (λ x. append_if (is_chosen table x (path_at at) (is_dir_at at)) n given) a))
+    v ∙ (ap (λ (x : CursorContents). append_if (is_chosen before specs (path_at x) (is_dir_at x)) n given) e ∙ ap (λ x. append_if (is_chosen x specs (path_at at) (is_dir_at at)) n given) b)
 
 -- one step, over the entries that the walk began with
 step : (table : Table) (specs : List Spec) → NoNilPrefix specs → (es : List Entry) (c d : CursorContents) (given more : List ℕ) → c.entries ≡ es → IsNested c.entries → HasChosen table specs es (next_number c) given c.entered
@@ -49,14 +47,13 @@ pub loop-number-init : goal.loop-number-init
 loop-number-init g c = record {
   course = start_as (g.L.LookUp.table c.args.look_up.now) (specs_of c.args.search.now.specs) c.args.cursor.now c.requires c.new-given.result.items c.new-given.ensures.items;
   tree = refl;
-  search = refl;
-  source = refl;
+  room = c.in-Ok.ensures.fits;
   table = refl;
   count = refl;
 }
 
-pub visit-requires : goal.visit-requires
-visit-requires g c =
+pub visit-requires-clause-path : goal.visit-requires-clause-path
+visit-requires-clause-path g c =
     let e = c.in-Some.ensures in
     λ q. path_some c.loop-number.cursor c.in-Some.number e.nested e.next (ap path_at (sym e.place) ∙ q)
 
@@ -64,7 +61,7 @@ pub loop-number-smaller : goal.loop-number-smaller
 loop-number-smaller g c =
     let e = c.in-Some.ensures in
     let v = c.in_ok-visit.ensures in
-    let specs = specs_of c.loop-number.search.specs in
+    let specs = specs_of c.args.search.now.specs in
     nearer_as specs c.loop-number.cursor c.visit.new.cursor c.in-Some.number (sym (v.tree ∙ ap (λ (x : CursorContents). x.entries) e.place)) e.next (v.entered ∙ ap (after_visit specs) e.place)
 
 pub loop-number-preserved : goal.loop-number-preserved
@@ -76,15 +73,12 @@ loop-number-preserved g c =
     let table = g.L.LookUp.table c.args.look_up.now in
     let before = g.L.LookUp.table c.loop-number.look_up in
     let specs = specs_of c.args.search.now.specs in
-    let now = specs_of c.loop-number.search.specs in
-    let same = ap specs_of i.search in
     record {
       course = step table specs c.nil_specs_lack_a_prefix.ensures c.args.cursor.now.entries at c.visit.new.cursor c.loop-number.given.items c.visit.new.given.items i.tree e.nested i.course c.in-Some.number e.next
-          (given_is table before specs now at c.next.new.self c.in-Some.number c.loop-number.given.items c.visit.new.given.items e.place i.table same v.given)
-          (visit_is specs now at c.next.new.self c.visit.new.cursor c.in-Some.number e.place same v.entered);
+          (given_is table before specs at c.next.new.self c.in-Some.number c.loop-number.given.items c.visit.new.given.items e.place i.table v.given)
+          (v.entered ∙ ap (after_visit specs) e.place);
       tree = v.tree ∙ (ap (λ (x : CursorContents). x.entries) e.place ∙ i.tree);
-      search = v.search.specs ∙ i.search;
-      source = v.search.source ∙ i.source;
+      room = fits-kept _ _ _ i.room v.room;
       table = v.table_stays ∙ i.table;
       count = v.counts ∙ i.count;
     }
@@ -114,3 +108,9 @@ returns-in_err-visit-clause-given g c = given_is_one (g.L.LookUp.table c.args.lo
 
 pub returns-in_err-visit-clause-trail : goal.returns-in_err-visit-clause-trail
 returns-in_err-visit-clause-trail g c = entered_is_one
+
+pub returns-in-Err-clause-given : goal.returns-in-Err-clause-given
+returns-in-Err-clause-given g c = given_is_one (g.L.LookUp.table c.args.look_up.now) (specs_of c.args.search.now.specs)
+
+pub returns-in-Err-clause-trail : goal.returns-in-Err-clause-trail
+returns-in-Err-clause-trail g c = entered_is_one

@@ -1,15 +1,15 @@
 use Rattle.std.proofs.Common.{◌≡◌, ◌-◌, length}
 use Rattle.pathspec_parts.specs.Cursors.{next_number}
+use Rattle.gix_pathspec.specs.Room.{Fits}
 use Rattle.gix_pathspec.specs.Search.{specs_of}
 use Rattle.pathspec_select.specs.Walks.{HasChosen}
 use Rattle.pathspec_select.proofs.walk.select.Given as goal
 
 abbrev pub invariant-loop-number : goal.invariant-loop-number
 invariant-loop-number g l = record {
-  course : HasChosen (g.L.LookUp.table l.fn.look_up) (specs_of l.fn.search.specs) l.fn.cursor.entries (next_number l.cursor) l.given.items l.cursor.entered;
+  course : HasChosen (g.L.LookUp.table l.fn.look_up) (specs_of l.search.specs) l.fn.cursor.entries (next_number l.cursor) l.given.items l.cursor.entered;
   tree : l.cursor.entries ≡ l.fn.cursor.entries;
-  search : l.search.specs ≡ l.fn.search.specs;
-  source : l.search.source ≡ l.fn.search.source;
+  room : Fits l.search.specs l.scratch;
   table : g.L.LookUp.table l.look_up ≡ g.L.LookUp.table l.fn.look_up;
   count : g.L.LookUp.failures l.look_up ≡ g.L.LookUp.failures l.fn.look_up;
 }

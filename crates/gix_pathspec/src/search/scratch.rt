@@ -1,0 +1,40 @@
+//! Scratches of searches.
+ghost use Rattle.std.specs.Prelude.{◌≡◌, ◌↔◌, IsTrue, IfOk};
+ghost use Rattle.gix_pathspec.specs.Room.{Fits, IsFresh};
+
+use crate::by_head::SpecsByHead;
+use crate::search::counted::SpecScratch;
+use crate::search::{Scratch, Search};
+use std::alloc::{AllocError, Global};
+
+impl Search {
+    /// Room for matches of this search, in which nothing was asked yet. Each walker that shares a search has a scratch of its
+    /// own. Its cost is linear in the tokens of the largest glob and in the names of attributes that the specs list.
+    ///
+    /// # Errors
+    /// Memory runs out.
+    pub fn new_scratch(&self, alloc: Global) -> Result<Scratch, AllocError>
+        ensures fits { IfOk result (Fits self.now.specs) }
+        ensures fresh { IfOk result IsFresh }
+    {
+        scratch_for(alloc, &self.specs)
+    }
+
+    /// Whether a scratch has room for matches of this search: one that [`Search::new_scratch`] made for it has, and so has one
+    /// of a search whose specs list the same attributes and have globs that are no shorter. Its cost is linear in the names of
+    /// attributes that the specs list.
+    pub fn fits(&self, scratch: &Scratch) -> bool
+        ensures { IsTrue result ↔ Fits self.now.specs scratch.now }
+    {
+        scratch.specs().fits(self.specs.counted())
+    }
+}
+
+/// Room for matches of these specs, in which nothing was asked yet.
+pub(super) fn scratch_for(alloc: Global, specs: &SpecsByHead) -> Result<Scratch, AllocError>
+    ensures fits { IfOk result (Fits specs.now) }
+    ensures fresh { IfOk result IsFresh }
+{
+    let room = SpecScratch::for_specs(alloc, specs.counted())?;
+    Ok(Scratch::new(room, specs.heads().new_scratch()))
+}
