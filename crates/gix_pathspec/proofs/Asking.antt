@@ -1,5 +1,5 @@
 -- The questions that the rows ask, each as one function that computes.
-use Rattle.std.proofs.Common.{ℕ, Bool, true, false, List, [], ◌∷◌, Option, map}
+use Rattle.std.proofs.Common.{◌≡◌, ℕ, Bool, true, false, List, [], ◌∷◌, Option, map}
 use Rattle.std.specs.Prelude.{bytes_eq}
 use Rattle.std.specs.Option.{option_map, option_and_then}
 use Rattle.std.specs.Result.{result_ok}
@@ -13,10 +13,15 @@ use Rattle.gix_pathspec.specs.Results.{all_ok, ◌>>=◌}
 use Rattle.gix_pathspec.specs.NormalForm.{normal_form, climb}
 use Rattle.gix_pathspec.specs.Matching.{fit, has_attributes, spec_matches}
 use Rattle.gix_pathspec.specs.Prefixes.{common_prefix, first_prefix_directory}
+use Rattle.gix_pathspec.specs.Tables.{stem_reaches}
 use Rattle.gix_pathspec.specs.Pruning.{reaches, can_match}
 use Rattle.gix_pathspec.specs.Directories.{directory_matches, common_directory}
 use Rattle.gix_pathspec.specs.Search.{Numbered, Answer, search_of, answer, selects, specs_of}
 use Rattle.pathspec_pattern.proofs.Asking.{parse}
+
+-- each row has the answer that is computed
+abbrev pub IsTable : {R A : Type 0} → (R → A) → (R → A) → List R → Type 0
+IsTable computed given rows = map computed rows ≡ map given rows
 
 -- how a spec fits a path
 unfoldable pub fitted : List ℕ → List ℕ → Bool → Option MatchKind
@@ -63,7 +68,7 @@ selected prefix texts path = option_map selects (answered prefix texts path fals
 
 -- whether something at or below a path can match
 unfoldable pub can_match_under : List ℕ → List (List ℕ) → List ℕ → Option Bool → Option Bool
-unfolding searched can_match common_prefix reaches
+unfolding searched can_match common_prefix reaches stem_reaches
 can_match_under prefix texts d is_dir = option_map (λ search. can_match (specs_of search) d is_dir) (searched prefix texts)
 
 -- the common prefix

@@ -8,7 +8,8 @@ use Rattle.std.specs.Char.{to_ascii_lowercase}
 use Rattle.gix_pathspec.specs.Bytes.{slash, is_empty, begins_with, fold_case}
 use Rattle.gix_pathspec.specs.Paths.{is_below, IsBelow, IsAtOrBelow}
 use Rattle.gix_pathspec.specs.Prefixes.{IsFrontOf}
-use Rattle.gix_pathspec.specs.Pruning.{agree, leads_to}
+use Rattle.gix_pathspec.specs.Stems.{leads_to}
+use Rattle.gix_pathspec.specs.Pruning.{agree}
 
 -- ---- what begins a text
 

@@ -6,6 +6,7 @@ use Rattle.gix_pathspec.specs.Bytes.{begins_with}
 use Rattle.gix_pathspec.specs.Specs.{Spec}
 use Rattle.gix_pathspec.specs.Matching.{fit, fits, has_attributes, spec_matches, is_chosen}
 use Rattle.gix_pathspec.specs.Prefixes.{stem, common_prefix}
+use Rattle.gix_pathspec.specs.Tables.{stem_reaches}
 use Rattle.gix_pathspec.specs.Pruning.{reaches, can_match}
 use Rattle.gix_pathspec.specs.PruningLaws.{PrunedIsNotChosen}
 use Rattle.gix_pathspec.specs.Directories.{directory_matches}
@@ -21,7 +22,7 @@ unfolding directory_matches common_prefix
 says_no = refl
 
 prunes : can_match (held_back ∷ []) (codes "x") (Some true) ≡ false
-unfolding can_match common_prefix reaches
+unfolding can_match common_prefix reaches stem_reaches
 prunes = refl
 
 but_chosen : is_chosen nothing_known (held_back ∷ []) (codes "x") true ≡ true

@@ -1,5 +1,5 @@
 -- Specs whose head doesn't begin a path don't match it, and how many are asked.
-use Rattle.std.proofs.Common.{◌≡◌, ℕ, suc, zero, ◌+◌, ◌*◌, ◌^◌, ◌-◌, IsTrue, ◌<◌, ◌≤◌, Bool, true, false, ◌&&◌, is_some, cond, refl, sym, ◌∙◌, ap, subst, List, [], ◌∷◌, length, drop, get_or, arith, Some, None, Option, slice_get}
+use Rattle.std.proofs.Common.{◌≡◌, ℕ, suc, zero, ◌+◌, ◌*◌, ◌-◌, ◌<◌, ◌≤◌, Bool, true, false, ◌&&◌, is_some, cond, refl, sym, ◌∙◌, ap, subst, List, [], ◌∷◌, length, drop, get_or, arith, Some, None, Option, slice_get}
 use Rattle.std.specs.List.{filter, list_any}
 use Rattle.std.proofs.Math.Nat.{mul-le-mul_right}
 use Rattle.gix_pathspec.specs.declared.search.MatchKind.TheVariants.{Always}
@@ -15,10 +15,10 @@ use Rattle.gix_pathspec.specs.Bytes.{is_empty, begins_with}
 use Rattle.gix_pathspec.specs.Attributes.{Table}
 use Rattle.gix_pathspec.specs.Specs.{Spec, is_include}
 use Rattle.gix_pathspec.specs.Matching.{fit, has_attributes, spec_matches}
-use Rattle.gix_pathspec.specs.Prefixes.{head, common_prefix}
+use Rattle.gix_pathspec.specs.Prefixes.{head}
 use Rattle.gix_pathspec.specs.Search.{Numbered, Answer, specs_of}
 use Rattle.gix_pathspec.specs.Found.{matched_kind, first_match, IsFirstMatch, answer_found}
-use Rattle.gix_pathspec.specs.Effort.{kind_at, heads_in_order, is_candidate, candidate_count, IsFewCompared, IsLittleCompared, is_unasked, IsBySpec}
+use Rattle.gix_pathspec.specs.Effort.{kind_at, heads_in_order, is_candidate, candidate_count, IsFewCompared, IsLittleCompared, IsBySpec}
 use Rattle.gix_pathspec.proofs.FoundProofs.{empty-nil, fit-headless, first_match-here, first_match-later}
 
 both_false : {A : Type 0} (o : Option A) (b : Bool) → None ≡ o → (is_some o && b) ≡ false
@@ -159,15 +159,6 @@ same-table table table' ns path is_dir i t = ap (λ u. kind_at u ns path is_dir 
 
 -- ---- how many heads are compared
 
-pub few-specs : (ns : List Numbered) (heads : List (List ℕ)) (n : ℕ) → length heads ≤ length (heads_in_order ns) → ((b : ℕ) → length heads < 2 ^ b → n ≤ b + 2) → IsFewCompared ns n
-few-specs ns heads n few h b l = h b (omega (arith, l, few, count-heads ns))
-
-pub few-none : (ns : List Numbered) → IsFewCompared ns 0
-few-none ns b l = omega arith
-
-pub little-none : (ns : List Numbered) (path : List ℕ) → IsLittleCompared ns path 0
-little-none ns path b l = omega arith
-
 pub little-from : (ns : List Numbered) (path : List ℕ) (n : ℕ) → is_empty path ≡ false → IsFewCompared ns n → IsLittleCompared ns path n
 little-from ns [] n e h b l = cc
 little-from ns (x ∷ path) n e h b l =
@@ -188,6 +179,3 @@ by-spec ns path None h = at (is_empty path) refl (list_any is_include (specs_of 
     at true e i h = empty-nil path e h.0
     at false e true h = absurd h
     at false e false h = absurd (omega (arith, h.1))
-
-pub is_asked : {A : Type 0} (ns : List Numbered) (path : List ℕ) → is_empty path ≡ false → begins_with path (common_prefix (specs_of ns)) ≡ true → IsTrue (is_unasked ns path) → A
-is_asked ns path e b h = let no : false ≡ true = rw (e, b) at h in cc

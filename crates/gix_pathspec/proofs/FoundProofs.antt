@@ -1,5 +1,5 @@
 -- How a spec matches a path, attributes included, and which spec of a search settles a path.
-use Rattle.std.proofs.Common.{◌≡◌, ◌≢◌, ℕ, IsTrue, ◌+◌, ◌<◌, Bool, true, false, ◌&&◌, ◌==◌, cond, refl, sym, ◌∙◌, ap, List, [], ◌∷◌, length, map, drop, get_or, slice_get, arith, Some, None, Option, is_some, subst}
+use Rattle.std.proofs.Common.{◌≡◌, ◌≢◌, ℕ, IsTrue, ◌+◌, ◌<◌, Bool, true, false, not, ◌&&◌, ◌||◌, ◌==◌, cond, refl, sym, ◌∙◌, ap, List, [], ◌∷◌, length, map, drop, get_or, slice_get, arith, Some, None, Option, is_some, subst}
 use Rattle.std.proofs.lemmas.Bool.{both_ways, ne_eqb}
 use Rattle.std.proofs.lemmas.List.{length-map, get_or-map, drop_more, at_drop_more}
 use Rattle.std.proofs.lemmas.Option.{slice_get_read, get_or_from_slice_get}
@@ -20,6 +20,7 @@ use Rattle.gix_pathspec.specs.Prefixes.{head, common_prefix}
 use Rattle.gix_pathspec.specs.Search.{Numbered, Answer, specs_of, in_search_order, answer, answer_of, answer_with, selects}
 use Rattle.gix_pathspec.specs.Room.{attribute_names}
 use Rattle.gix_pathspec.specs.Found.{matched_kind, first_match, IsFirstMatch, IsFirstFound, answer_found}
+use Rattle.gix_pathspec.specs.Effort.{is_unasked}
 use Rattle.gix_pathspec.specs.SelectionLaws.{SelectsChosen, SelectsCommon}
 use Rattle.gix_pathspec.proofs.SelectedProofs.{selects_chosen}
 use Rattle.gix_pathspec.proofs.HeadProofs.{fitted_begins_head}
@@ -114,11 +115,6 @@ module _ (table : Table) (ns : List Numbered) (path : List ℕ) (is_dir : Bool) 
 
 -- ---- the answer
 
--- the nil pattern settles the empty path
-pub answer-empty : (table : Table) (ns : List Numbered) (path : List ℕ) (is_dir : Bool) → is_empty path ≡ true → answer_found ns path None ≡ answer table ns path is_dir
-unfolding answer
-answer-empty table ns path is_dir e = rw e refl
-
 -- the answer of a spec that fits
 fitted-answer : (ns : List Numbered) (path : List ℕ) (is_dir : Bool) (kind : MatchKind) (o : Option Numbered) → option_and_then (λ n. fit n.spec path is_dir) o ≡ Some kind → option_and_then (λ n. answer_with n (Some kind)) o ≡ answer_of ns path is_dir o
 fitted-answer ns path is_dir kind None h = cc
@@ -145,27 +141,40 @@ no_front specs path h = at (filter is_include specs) refl
     at [] e = let no : true ≡ false = rw e at h in cc
     at (s ∷ includes) e = some_filtered is_include specs s includes e
 
-module _ (table : Table) (ns : List Numbered) (path : List ℕ) (is_dir : Bool) (some : is_empty path ≡ false) where
-  -- a path that lacks the common prefix
-  pub answer-outside : begins_with path (common_prefix (specs_of ns)) ≡ false → answer_found ns path None ≡ answer table ns path is_dir
+-- a path that needs no look at the specs is settled by the nil pattern, or by none
+pub answer-unasked : (table : Table) (ns : List Numbered) (path : List ℕ) (is_dir : Bool) → is_unasked ns path ≡ true → answer_found ns path None ≡ answer table ns path is_dir
+unfolding answer
+answer-unasked table ns path is_dir h = at (is_empty path) refl (begins_with path (common_prefix (specs_of ns))) refl
+  where
+    at : (e : Bool) → is_empty path ≡ e → (b : Bool) → begins_with path (common_prefix (specs_of ns)) ≡ b → answer_found ns path None ≡ answer table ns path is_dir
+    at true e b is = rw e refl
+    at false e false is = let include = no_front (specs_of ns) path is in rw (e, is, include) refl
+    at false e true is = let no : false ≡ true = rw (e, is) at h in cc
+
+-- another path isn't empty, and begins with the common prefix
+pub asked-parts : (ns : List Numbered) (path : List ℕ) → is_unasked ns path ≡ false → (is_empty path ≡ false) × (begins_with path (common_prefix (specs_of ns)) ≡ true)
+asked-parts ns path h = both (is_empty path) (begins_with path (common_prefix (specs_of ns))) h
+  where
+    both : (e b : Bool) → (e || not b) ≡ false → (e ≡ false) × (b ≡ true)
+    both true b h = cc
+    both false true h = (refl, refl)
+    both false false h = cc
+
+module _ (table : Table) (ns : List Numbered) (path : List ℕ) (is_dir : Bool) (asked : is_unasked ns path ≡ false) where
+  answer-inside : answer_of ns path is_dir (first_match table ns path is_dir) ≡ answer table ns path is_dir
   unfolding answer
-  answer-outside h = let include = no_front (specs_of ns) path h in rw (some, h, include) refl
+  answer-inside = let p = asked-parts ns path asked in rw (p.0, p.1) refl
 
-  module _ (inside : begins_with path (common_prefix (specs_of ns)) ≡ true) where
-    answer-inside : answer_of ns path is_dir (first_match table ns path is_dir) ≡ answer table ns path is_dir
-    unfolding answer
-    answer-inside = rw (some, inside) refl
+  -- what was found among the specs stands for the answer
+  answer-first : (found : Option (ℕ × MatchKind)) → IsFirstFound table ns path is_dir found → answer_found ns path found ≡ answer table ns path is_dir
+  answer-first (Some found) m = fitted-answer ns path is_dir found.1 (slice_get ns found.0) m.fits ∙ ap (answer_of ns path is_dir) (sym m.first) ∙ answer-inside
+  answer-first None none = let some = (asked-parts ns path asked).0 in let e : answer_found ns path None ≡ answer_of ns path is_dir None = rw some refl in e ∙ ap (answer_of ns path is_dir) (sym none) ∙ answer-inside
 
-    -- what was found among the specs stands for the answer
-    answer-first : (found : Option (ℕ × MatchKind)) → IsFirstFound table ns path is_dir found → answer_found ns path found ≡ answer table ns path is_dir
-    answer-first (Some found) m = fitted-answer ns path is_dir found.1 (slice_get ns found.0) m.fits ∙ ap (answer_of ns path is_dir) (sym m.first) ∙ answer-inside
-    answer-first None none = let e : answer_found ns path None ≡ answer_of ns path is_dir None = rw some refl in e ∙ ap (answer_of ns path is_dir) (sym none) ∙ answer-inside
-
-    -- said of equal specs
-    pub answer-found : (specs : List Numbered) (known : Bool) → specs ≡ ns → known ≡ is_dir → (found : Option (ℕ × MatchKind)) → IsFirstFound table specs path known found → answer_found ns path found ≡ answer table ns path is_dir
-    answer-found specs known same dir found m =
-        let of_specs = subst (λ (ms : List Numbered). IsFirstFound table ms path known found) same m in
-        answer-first found (subst (λ (d : Bool). IsFirstFound table ns path d found) dir of_specs)
+  -- said of equal specs
+  pub answer-found : (specs : List Numbered) (known : Bool) → specs ≡ ns → known ≡ is_dir → (found : Option (ℕ × MatchKind)) → IsFirstFound table specs path known found → answer_found ns path found ≡ answer table ns path is_dir
+  answer-found specs known same dir found m =
+      let of_specs = subst (λ (ms : List Numbered). IsFirstFound table ms path known found) same m in
+      answer-first found (subst (λ (d : Bool). IsFirstFound table ns path d found) dir of_specs)
 
 -- what was found lies in the search
 pub found-within : (table : Table) (ns specs : List Numbered) (path : List ℕ) (is_dir : Bool) → specs ≡ ns → (found : Option (ℕ × MatchKind)) → IsFirstFound table specs path is_dir found → ForSome found (λ at. at.0 < length ns)

@@ -18,7 +18,6 @@ pub mod SharpPruningProofs
 pub mod DirectoryProofs
 mod Asking
 mod MatchingRows
-mod PrefixRows
 pub mod TextProofs
 pub mod SpecListProofs
 pub mod PruningCalls

@@ -6,18 +6,19 @@ use Rattle.std.specs.Prelude.{◌≢◌, bytes_eq, IsTrue, Contains}
 use Rattle.std.specs.List.{list_any}
 use Rattle.gix_pathspec.specs.Bytes.{slash, is_empty, begins_with, fold_case}
 use Rattle.gix_pathspec.specs.Paths.{is_below}
-use Rattle.gix_pathspec.specs.Prefixes.{stem, common_prefix, IsFrontOf}
-use Rattle.gix_pathspec.specs.Pruning.{takes_only_below, leads_to, reaches, agree, is_total_exclude, can_match}
+use Rattle.gix_pathspec.specs.Prefixes.{stem, common_prefix}
+use Rattle.gix_pathspec.specs.Stems.{leads_to}
+use Rattle.gix_pathspec.specs.Tables.{stem_reaches, stem_takes_only_below}
+use Rattle.gix_pathspec.specs.Pruning.{stem_of, reaches, agree, is_total_exclude, can_match}
 use Rattle.gix_pathspec.specs.PruningLaws.{IsNear, PruningIsNear}
 use Rattle.gix_pathspec.specs.Specs.{Spec, is_include, ignores_case, always_matches, has_wildcard}
 use Rattle.gix_pathspec.proofs.ChosenProofs.{contained_where}
-use Rattle.gix_pathspec.proofs.BeginsProofs.{front-itself, front-through, front-folded, begins_with-from_front, IsBelow-from_is_below, which_of_four}
-use Rattle.gix_pathspec.proofs.HeadProofs.{stem_begins_path}
+use Rattle.gix_pathspec.proofs.BeginsProofs.{front-itself, begins_with-from_front, IsBelow-from_is_below, which_of_four}
 use Rattle.gix_pathspec.proofs.SelectedProofs.{empty_is_nil}
 
--- what lies below y begins with what begins y
-front_of_below : (x y z : List ℕ) → IsFrontOf x y → is_below z y ≡ true → begins_with z x ≡ true
-front_of_below x y z p h = let q = IsBelow-from_is_below z y h in begins_with-from_front x z (front-through x y z p (slash ∷ q.0, q.1))
+-- what lies below a text begins with it
+front_of_below : (x z : List ℕ) → is_below z x ≡ true → begins_with z x ≡ true
+front_of_below x z h = let q = IsBelow-from_is_below z x h in begins_with-from_front x z (slash ∷ q.0, q.1)
 
 -- what leads to d begins it or lies below it
 leads_near : (stem d : List ℕ) (wild : Bool) → leads_to stem wild d ≡ true → IsTrue (begins_with d stem) ⊎ IsTrue (begins_with stem (d ++ slash ∷ []))
@@ -26,7 +27,7 @@ leads_near stem d wild h = elim (which_of_four (is_below stem d) (bytes_eq d ste
   | inr w ↦ elim w [
     | inl e ↦ inl (rw ((bytes_eq-Decides d stem).0 e) (begins_with-from_front stem stem (front-itself stem)))
     | inr w ↦ elim w [
-      | inl b ↦ inl (front_of_below stem stem d (front-itself stem) b)
+      | inl b ↦ inl (front_of_below stem d b)
       | inr b ↦ let p = and_parts wild (begins_with d stem) b in inl p.1
     ]
   ]
@@ -34,11 +35,11 @@ leads_near stem d wild h = elim (which_of_four (is_below stem d) (bytes_eq d ste
 
 -- so a spec that reaches d is near it
 reached_near : (s : Spec) (d : List ℕ) (asked : Option Bool) → reaches s d asked ≡ true → IsNear s d
-unfolding reaches
+unfolding reaches stem_reaches
 reached_near s d asked h = elim (cases_Bool (always_matches s)) [
   | inl a ↦ inl a
-  | inr a ↦ elim (cases_Bool (takes_only_below s asked)) [
-    | inl w ↦ let b = rw (a, w) at h in let f = ignores_case s in inr (inl (front_of_below (fold_case f (stem s)) (fold_case f s.path) (fold_case f d) (front-folded f (stem s) s.path (stem_begins_path s)) b))
+  | inr a ↦ elim (cases_Bool (stem_takes_only_below (stem_of s) asked)) [
+    | inl w ↦ let b = rw (a, w) at h in inr (inl (front_of_below (fold_case (ignores_case s) (stem s)) (fold_case (ignores_case s) d) b))
     | inr w ↦ let l = rw (a, w) at h in inr (leads_near (fold_case (ignores_case s) (stem s)) (fold_case (ignores_case s) d) (has_wildcard s) l)
   ]
 ]

@@ -5,14 +5,16 @@ use Rattle.std.specs.Prelude.{◌≢◌}
 use Rattle.std.specs.List.{list_any}
 use Rattle.gix_pathspec.specs.Bytes.{is_empty, fold_case}
 use Rattle.gix_pathspec.specs.Matching.{takes_kind, fits, glob_matches}
-use Rattle.gix_pathspec.specs.Paths.{is_below, IsAtOrBelow}
+use Rattle.gix_pathspec.specs.Paths.{IsAtOrBelow}
 use Rattle.gix_pathspec.specs.Prefixes.{stem, common_prefix, IsFrontOf}
-use Rattle.gix_pathspec.specs.Pruning.{takes_only_below, leads_to, reaches, agree, is_total_exclude, can_match}
+use Rattle.gix_pathspec.specs.Stems.{leads_to, lies_below}
+use Rattle.gix_pathspec.specs.Tables.{stem_reaches, stem_takes_only_below}
+use Rattle.gix_pathspec.specs.Pruning.{stem_of, reaches, agree, is_total_exclude, can_match}
 use Rattle.gix_pathspec.specs.PruningLaws.{NoIncludeFits, PruningIsSafe, FilePruningIsSafe}
 use Rattle.gix_pathspec.specs.Specs.{Spec, is_include, ignores_case, wants_directory, always_matches, has_wildcard}
 use Rattle.gix_pathspec.proofs.ChosenProofs.{list_any-contained}
 use Rattle.gix_pathspec.proofs.BeginsProofs.{front-itself, folded-append, tail_of, folded-tail, leads_to-from_fronts, agree-from_fronts}
-use Rattle.gix_pathspec.proofs.HeadProofs.{first_two, fits-ways, fits-stem}
+use Rattle.gix_pathspec.proofs.HeadProofs.{first_two, fits-ways, fits-stem, stem_is_path, not_nil}
 use Rattle.gix_pathspec.proofs.SelectedProofs.{common_prefix-none, fitted_begins_common}
 
 -- the stem of a spec and a directory lead to one another where the spec fits a path at or below it
@@ -26,14 +28,14 @@ fitted_leads s d path is_dir a h below =
     leads_to-from_fronts (fold_case f (stem s)) (fold_case f d) r.rest (fold_case f t.0) (has_wildcard s) same (folded-tail f t.0 t.2) r.tail
 
 -- only of a file is it asked whether a spec takes no more than what lies below it
-pub takes_only_below-else : (s : Spec) (asked : Option Bool) → asked ≢ Some false → takes_only_below s asked ≡ false
+pub takes_only_below-else : (s : Spec) (asked : Option Bool) → asked ≢ Some false → stem_takes_only_below (stem_of s) asked ≡ false
 takes_only_below-else s None n = refl
 takes_only_below-else s (Some true) n = refl
 takes_only_below-else s (Some false) n = absurd (n refl)
 
 -- so it reaches the directory
 reaches-dir : (s : Spec) (d path : List ℕ) (is_dir : Bool) (asked : Option Bool) → asked ≢ Some false → IsAtOrBelow path d → fits s path is_dir ≡ true → reaches s d asked ≡ true
-unfolding reaches
+unfolding reaches stem_reaches
 reaches-dir s d path is_dir asked n below h = elim (cases_Bool (always_matches s)) [
   | inl a ↦ rw a refl
   | inr a ↦ rw (a, takes_only_below-else s asked n) (fitted_leads s d path is_dir a h below)
@@ -44,10 +46,10 @@ no_file : (s : Spec) → wants_directory s ≡ true → takes_kind s false ≡ t
 no_file s w h = let no : false ≡ true = rw w at h in cc
 
 -- a spec that wants a directory and has no wildcard fits only the files below its path
-wanted_below : (s : Spec) (d : List ℕ) → always_matches s ≡ false → (wants_directory s && not (has_wildcard s)) ≡ true → fits s d false ≡ true → is_below (fold_case (ignores_case s) d) (fold_case (ignores_case s) s.path) ≡ true
+wanted_below : (s : Spec) (d : List ℕ) → always_matches s ≡ false → (wants_directory s && not (has_wildcard s)) ≡ true → fits s d false ≡ true → lies_below (fold_case (ignores_case s) (stem s)) (fold_case (ignores_case s) d) ≡ true
 wanted_below s d a w h =
     let p = and_parts (wants_directory s) (not (has_wildcard s)) w in
-    elim (fits-ways s d false h).1 [
+    rw (stem_is_path s (not_nil s a) (not-true (has_wildcard s) p.1)) (elim (fits-ways s d false h).1 [
       | inl always ↦ absurd (both_ways (always_matches s) a always)
       | inr q ↦ elim q [
         | inl g ↦ absurd (both_ways (has_wildcard s) (not-true (has_wildcard s) p.1) (first_two (has_wildcard s) (glob_matches s.mode s d) (takes_kind s false) g).0)
@@ -56,11 +58,11 @@ wanted_below s d a w h =
           | inr b ↦ b
         ]
       ]
-    ]
+    ])
 
 -- a spec reaches a file that it fits
 reaches-file : (s : Spec) (d : List ℕ) → fits s d false ≡ true → reaches s d (Some false) ≡ true
-unfolding reaches
+unfolding reaches stem_reaches
 reaches-file s d h = elim (cases_Bool (always_matches s)) [
   | inl a ↦ rw a refl
   | inr a ↦ elim (cases_Bool (wants_directory s && not (has_wildcard s))) [

@@ -13,7 +13,9 @@ use Rattle.gix_pathspec.specs.Matching.{is_in_prefix_directory, takes_kind, is_v
 use Rattle.gix_pathspec.specs.Paths.{IsBytes, IsBelow, IsAtOrBelow, is_below}
 use Rattle.gix_pathspec.specs.Plain.{is_plain, is_plain_but_for_attributes}
 use Rattle.gix_pathspec.specs.Prefixes.{stem}
-use Rattle.gix_pathspec.specs.Pruning.{leads_to, reaches, is_total_exclude, can_match}
+use Rattle.gix_pathspec.specs.Stems.{leads_to}
+use Rattle.gix_pathspec.specs.Tables.{stem_reaches}
+use Rattle.gix_pathspec.specs.Pruning.{reaches, is_total_exclude, can_match}
 use Rattle.gix_pathspec.specs.PruningLaws.{HasOnlyIncludes, CanTake, PruningIsSharp, PruningIsSharpForFits}
 use Rattle.gix_pathspec.specs.SelectionLaws.{SpecPathsAreBytes}
 use Rattle.gix_pathspec.specs.Specs.{Spec, is_include, ignores_case, wants_directory, always_matches, has_wildcard, prefix_directory}
@@ -89,7 +91,7 @@ plain-leads_to stem d h = elim (which_of_four (is_below stem d) (bytes_eq d stem
 
 -- so it reaches what always matches, or what its path leads to
 plain_reaches : (s : Spec) (d : List ℕ) (asked : Option Bool) → Plain s → asked ≢ Some false → always_matches s ≡ false → reaches s d asked ≡ leads_to (fold_case (ignores_case s) s.path) false (fold_case (ignores_case s) d)
-unfolding reaches
+unfolding reaches stem_reaches
 plain_reaches s d asked h n m = rw (m, takes_only_below-else s asked n, stem_is_path s (not_nil s m) h.wild, h.wild) refl
 
 -- ---- below a path, without case

@@ -6,7 +6,8 @@ use Rattle.gix_pathspec.specs.Bytes.{is_empty, begins_with}
 use Rattle.pathspec_heads.specs.Groups.{GroupedPlaces, IsGrouped}
 use Rattle.gix_pathspec.specs.Attributes.{Table}
 use Rattle.gix_pathspec.specs.Prefixes.{head, common_prefix}
-use Rattle.gix_pathspec.specs.Search.{Numbered, Answer, specs_of}
+use Rattle.pathspec_glob.specs.Counts.{Counts}
+use Rattle.gix_pathspec.specs.Search.{Numbered, Answer, MatchCounts, specs_of}
 use Rattle.gix_pathspec.specs.Found.{matched_kind}
 
 -- the heads of the specs in search order
@@ -41,6 +42,14 @@ IsFewCompared specs compared = (b : ℕ) → length specs < 2 ^ b → compared �
 -- so they are at most (path bytes + 1) times (b + 1)
 abbrev pub IsLittleCompared : List Numbered → List ℕ → ℕ → Type 0
 IsLittleCompared specs path compared = (b : ℕ) → length specs < 2 ^ b → compared ≤ (length path + 1) * (b + 1)
+
+-- What the last match asked and compared is counted. It asked no more specs than have a head that begins the path, and
+-- compared few heads.
+pub record IsCounted (specs : List Numbered) (path : List ℕ) (old new : MatchCounts) : Type 0 where
+  pub tested : Counts old.tested new.last_tested new.tested
+  pub compared : Counts old.compared new.last_compared new.compared
+  pub few_tested : new.last_tested ≤ candidate_count specs path
+  pub few_compared : IsFewCompared specs new.last_compared
 
 -- a path that is answered without a look at the specs: it is empty, or lacks the common prefix
 abbrev pub is_unasked : List Numbered → List ℕ → Bool

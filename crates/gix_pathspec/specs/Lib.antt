@@ -7,6 +7,8 @@ pub use Rattle.pathspec_parts.specs.Outcomes
 pub use Rattle.pathspec_parts.specs.AttributeRows
 pub use Rattle.pathspec_parts.specs.Tokens
 pub use Rattle.pathspec_parts.specs.GlobRelation
+pub use Rattle.pathspec_heads.specs.Stems
+pub use Rattle.pathspec_heads.specs.Tables
 pub use Rattle.pathspec_pattern.specs.Results
 pub use Rattle.pathspec_pattern.specs.Faults
 pub use Rattle.pathspec_pattern.specs.Errors

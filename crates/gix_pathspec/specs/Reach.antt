@@ -2,15 +2,10 @@
 use Rattle.std.specs.Prelude.{◌≡◌, not, ◌&&◌, List, map, filter}
 use Rattle.std.specs.List.{list_any}
 use Rattle.std.specs.Box.{box_value}
-use Rattle.pathspec_heads.specs.Tables.{StemParts, IsTableOf}
+use Rattle.gix_pathspec.specs.Tables.{StemParts, IsTableOf}
 use Rattle.gix_pathspec.specs.declared.search.reach.Reach.{Reach}
-use Rattle.gix_pathspec.specs.Specs.{Spec, is_include, ignores_case, wants_directory, always_matches, has_wildcard}
-use Rattle.gix_pathspec.specs.Prefixes.{stem}
-use Rattle.gix_pathspec.specs.Pruning.{is_total_exclude}
-
--- the stem of a spec, and what the spec says
-abbrev pub stem_of : Spec → StemParts
-stem_of s = record { text = stem s; ignores_case = ignores_case s; has_wildcard = has_wildcard s; wants_directory = wants_directory s }
+use Rattle.gix_pathspec.specs.Specs.{Spec, is_include, always_matches}
+use Rattle.gix_pathspec.specs.Pruning.{stem_of, is_total_exclude}
 
 -- the stems of the includes that don't always match
 abbrev pub stems_of : List Spec → List StemParts

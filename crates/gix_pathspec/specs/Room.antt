@@ -5,7 +5,7 @@ use Rattle.pathspec_pattern.specs.declared.SearchMode.TheVariants.{ShellGlob, Li
 use Rattle.pathspec_glob.specs.declared.Mode.TheVariants.{Shell, PathAware}
 use Rattle.pathspec_glob.specs.Globs.{GlobSource, glob_tokens}
 use Rattle.gix_pathspec.specs.Specs.{Spec, has_wildcard}
-use Rattle.gix_pathspec.specs.Search.{Numbered}
+use Rattle.gix_pathspec.specs.Search.{Numbered, MatchCounts}
 
 -- the glob of a pattern in a search mode; a literal one has none
 abbrev pub glob_in_mode : SearchMode → List ℕ → Option GlobSource
@@ -34,44 +34,26 @@ tokens_of s = glob_size (glob_of s)
 abbrev pub names_in_order : List Numbered → List (List (List ℕ))
 names_in_order specs = map (λ n. attribute_names n.spec) specs
 
--- What specs are asked in: room for globs of so many tokens, and an outcome for each spec, of which the names are seen; and how often a spec was asked, modulo 2 ^ 128.
-pub record SpecRoom : Type 0 where
+-- The room that specs are asked in: for globs of so many tokens, and an outcome for each spec, of which the names are seen.
+pub record Room : Type 0 where
   pub tokens : ℕ
   pub names : List (List (List ℕ))
-  pub tested : ℕ
 
--- it is the same room
-pub record KeepsRoom (old new : SpecRoom) : Type 0 where
-  pub tokens : new.tokens ≡ old.tokens
-  pub names : new.names ≡ old.names
+-- room, and how often a spec was asked in it, modulo 2 ^ 128
+pub record SpecRoom : Type 0 where
+  pub room : Room
+  pub tested : ℕ
 
 -- the room has what the globs and the attributes of the specs want
-pub record HasRoom (specs : List Numbered) (tokens : ℕ) (names : List (List (List ℕ))) : Type 0 where
-  pub globs : All (λ n. tokens_of n.spec ≤ tokens) specs
-  pub outcomes : names ≡ names_in_order specs
+pub record HasRoom (specs : List Numbered) (room : Room) : Type 0 where
+  pub globs : All (λ n. tokens_of n.spec ≤ room.tokens) specs
+  pub outcomes : room.names ≡ names_in_order specs
 
--- What the matches of a walker write: the room that they work in; how many specs the last match asked and how many heads it
--- compared with the path; and how many all matches asked and compared, modulo 2 ^ 128.
+-- what the matches of a walker write: the room that they work in, and their counts
 pub record ScratchContents : Type 0 where
-  pub tokens : ℕ
-  pub names : List (List (List ℕ))
-  pub last_tested : ℕ
-  pub last_compared : ℕ
-  pub tested : ℕ
-  pub compared : ℕ
+  pub room : Room
+  pub counts : MatchCounts
 
 -- the scratch was made for these specs, or for others that want no more
 abbrev pub Fits : List Numbered → ScratchContents → Type 0
-Fits specs scratch = HasRoom specs scratch.tokens scratch.names
-
--- it has the same room, whatever it counts
-pub record SameRoom (old new : ScratchContents) : Type 0 where
-  pub tokens : new.tokens ≡ old.tokens
-  pub names : new.names ≡ old.names
-
--- nothing was asked and compared in it yet
-pub record IsFresh (scratch : ScratchContents) : Type 0 where
-  pub last_tested : scratch.last_tested ≡ 0
-  pub last_compared : scratch.last_compared ≡ 0
-  pub tested : scratch.tested ≡ 0
-  pub compared : scratch.compared ≡ 0
+Fits specs scratch = HasRoom specs scratch.room

@@ -22,27 +22,31 @@ pub record Numbered : Type 0 where
 abbrev pub specs_of : List Numbered → List Spec
 specs_of search = map (λ n. n.spec) search
 
--- What a search holds: its specs in search order, and where they come from; how many specs the last match asked and how
--- many heads it compared with the path; and how many all matches asked and compared, modulo 2 ^ 128.
-pub record SearchContents : Type 0 where
-  pub specs : List Numbered
-  pub source : Option (List ℕ)
+-- How many specs the last match asked, and how many heads it compared with the path; and how many all matches asked and
+-- compared, modulo 2 ^ 128.
+pub record MatchCounts : Type 0 where
   pub last_tested : ℕ
   pub last_compared : ℕ
   pub tested : ℕ
   pub compared : ℕ
 
+-- nothing was asked and compared yet
+pub record IsFresh (counts : MatchCounts) : Type 0 where
+  pub last_tested : counts.last_tested ≡ 0
+  pub last_compared : counts.last_compared ≡ 0
+  pub tested : counts.tested ≡ 0
+  pub compared : counts.compared ≡ 0
+
+-- What a search holds: its specs in search order, where they come from, and the counts of its own matches.
+pub record SearchContents : Type 0 where
+  pub specs : List Numbered
+  pub source : Option (List ℕ)
+  pub counts : MatchCounts
+
 -- the search has the specs that it had, and its source
 pub record KeepsSpecs (old new : SearchContents) : Type 0 where
   pub specs : new.specs ≡ old.specs
   pub source : new.source ≡ old.source
-
--- nothing was asked and compared yet
-pub record HasNoEffort (search : SearchContents) : Type 0 where
-  pub last_tested : search.last_tested ≡ 0
-  pub last_compared : search.last_compared ≡ 0
-  pub tested : search.tested ≡ 0
-  pub compared : search.compared ≡ 0
 
 -- a fault with the number of its spec
 abbrev pub at_number : {A : Type 0} → ℕ → Result A Fault → Result A (ℕ × Fault)

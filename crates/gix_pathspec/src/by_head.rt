@@ -11,9 +11,9 @@ ghost use Rattle.pathspec_glob.specs.Counts.{Counts};
 ghost use Rattle.pathspec_heads.specs.Heads.{IsChainOf};
 ghost use Rattle.gix_pathspec.specs.Found.{IsFirstFound};
 ghost use Rattle.gix_pathspec.specs.Prefixes.{common_prefix};
-ghost use Rattle.gix_pathspec.specs.Search.{specs_of};
-ghost use Rattle.gix_pathspec.specs.Room.{HasRoom, KeepsRoom, Fits, IsFresh, SameRoom};
-ghost use Rattle.gix_pathspec.specs.Effort.{ArePlacesOf, candidate_count, IsFewCompared, IsLittleCompared, is_unasked};
+ghost use Rattle.gix_pathspec.specs.Search.{specs_of, IsFresh};
+ghost use Rattle.gix_pathspec.specs.Room.{HasRoom, Fits};
+ghost use Rattle.gix_pathspec.specs.Effort.{ArePlacesOf, candidate_count, IsCounted, IsLittleCompared, is_unasked};
 
 use crate::search::MatchKind;
 use crate::search::counted::{CountedHeads, CountedSpecs, SpecScratch};
@@ -62,7 +62,7 @@ impl Model for Scratch {
 
     ghost Value = { ScratchContents };
 
-    ghost view = { λ s. record { tokens = s.specs.tokens; names = s.specs.names; last_tested = s.effort.tested; last_compared = s.effort.compared; tested = s.specs.tested; compared = s.heads } };
+    ghost view = { λ s. record { room = s.specs.room; counts = record { last_tested = s.effort.tested; last_compared = s.effort.compared; tested = s.specs.tested; compared = s.heads } } };
 }
 
 impl Scratch {
@@ -70,9 +70,8 @@ impl Scratch {
     pub(crate) fn new(specs: SpecScratch, heads: places::Scratch) -> Scratch
         requires specs_unasked { specs.tested ≡ 0 }
         requires heads_unasked { heads ≡ 0 }
-        ensures room { result.tokens ≡ specs.tokens }
-        ensures names { result.names ≡ specs.names }
-        ensures fresh { IsFresh result }
+        ensures room { result.room ≡ specs.room }
+        ensures fresh { IsFresh result.counts }
     {
         Scratch {
             specs,
@@ -83,8 +82,7 @@ impl Scratch {
 
     /// What questions to specs write.
     pub(crate) fn specs(&self) -> &SpecScratch
-        ensures tokens { result.now.tokens ≡ self.now.tokens }
-        ensures names { result.now.names ≡ self.now.names }
+        ensures { result.now.room ≡ self.now.room }
     {
         &self.specs
     }
@@ -92,28 +90,28 @@ impl Scratch {
     /// How many specs the last match asked whether they match the path; a spec at which the look-up failed is one. It is 0
     /// before the first match, and where the path was empty or lacked the common prefix.
     pub fn last_tested(&self) -> usize
-        ensures { result ≡ self.now.last_tested }
+        ensures { result ≡ self.now.counts.last_tested }
     {
         self.effort.tested
     }
 
     /// How many heads of specs the last match compared with the path. It is 0 where [`Scratch::last_tested`] says so.
     pub fn last_compared(&self) -> u128
-        ensures { result ≡ self.now.last_compared }
+        ensures { result ≡ self.now.counts.last_compared }
     {
         self.effort.compared
     }
 
     /// How many specs all matches in this scratch asked, modulo 2^128.
     pub fn total_tested(&self) -> u128
-        ensures { result ≡ self.now.tested }
+        ensures { result ≡ self.now.counts.tested }
     {
         self.specs.tested()
     }
 
     /// How many heads all matches in this scratch compared, modulo 2^128.
     pub fn total_compared(&self) -> u128
-        ensures { result ≡ self.now.compared }
+        ensures { result ≡ self.now.counts.compared }
     {
         self.heads.compared()
     }
@@ -206,7 +204,7 @@ impl SpecsByHead {
         look_up: &mut L,
     ) -> Result<Option<(usize, MatchKind)>, L::Fault>
         requires { Fits self.now scratch.old }
-        ensures room { SameRoom scratch.old scratch.new }
+        ensures room { scratch.new.room ≡ scratch.old.room }
         ensures answer { IfOk result (λ found. answer_found self.now (bstr_bytes path.entry) found
             ≡ answer (L.table look_up.old) self.now
             (bstr_bytes path.entry) (is_directory is_dir)) }
@@ -217,28 +215,28 @@ impl SpecsByHead {
             (L.failures look_up.new ≡ next_count (L.failures look_up.old)) }
 
         // What is asked and compared is counted, and all of it is told; also where the look-up fails.
-        ensures tested { Counts scratch.old.tested scratch.new.last_tested scratch.new.tested }
-        ensures compared { Counts scratch.old.compared scratch.new.last_compared
-            scratch.new.compared }
-        ensures few_tested { scratch.new.last_tested
-            ≤ candidate_count self.now (bstr_bytes path.entry) }
-        ensures few_compared { IsFewCompared self.now scratch.new.last_compared }
+        ensures counted { IsCounted self.now (bstr_bytes path.entry)
+            scratch.old.counts scratch.new.counts }
         ensures little_compared { IsLittleCompared self.now (bstr_bytes path.entry)
-            scratch.new.last_compared }
+            scratch.new.counts.last_compared }
         ensures looked { IfOk result (λ found. IsSome found
-            → (1 ≤ scratch.new.last_tested) × (1 ≤ scratch.new.last_compared)) }
+            → (1 ≤ scratch.new.counts.last_tested) × (1 ≤ scratch.new.counts.last_compared)) }
         ensures unasked { IsTrue (is_unasked self.now (bstr_bytes path.entry))
-            → (scratch.new.last_tested ≡ 0) × (scratch.new.last_compared ≡ 0) }
+            → (scratch.new.counts.last_tested ≡ 0) × (scratch.new.counts.last_compared ≡ 0) }
     {
         scratch.effort = NO_EFFORT;
-        if path.as_bytes().is_empty() {
-            return Ok(None);
-        }
-        if !begins_with(path.as_bytes(), &self.common_prefix, false) {
+        if self.is_unasked(path.as_bytes()) {
             return Ok(None);
         }
         let is_dir = is_dir.unwrap_or(false);
         first_match(&self.specs, &self.heads, scratch, path, is_dir, look_up)
+    }
+
+    /// Whether a path is answered without a look at the specs: it is empty, or lacks the common prefix.
+    fn is_unasked(&self, path: &[u8]) -> bool
+        ensures { result ≡ is_unasked self.now path.now }
+    {
+        path.is_empty() || !begins_with(path, &self.common_prefix, false)
     }
 }
 
@@ -253,22 +251,18 @@ fn first_match<L: LookUp>(
 ) -> Result<Option<(usize, MatchKind)>, L::Fault>
     requires grouped { ArePlacesOf specs.now heads.now }
     requires fits { Fits specs.now scratch.old }
-    requires none { scratch.old.last_tested ≡ 0 }
-    ensures room { SameRoom scratch.old scratch.new }
+    requires none { scratch.old.counts.last_tested ≡ 0 }
+    ensures room { scratch.new.room ≡ scratch.old.room }
     ensures first { IfOk result (λ found.
         IsFirstFound (L.table look_up.old) specs.now (bstr_bytes path.entry) is_dir found) }
     ensures table_stays { L.table look_up.new ≡ L.table look_up.old }
     ensures ok_leaves_count { OnOk result (L.failures look_up.new ≡ L.failures look_up.old) }
     ensures err_counts { OnErr result
         (L.failures look_up.new ≡ next_count (L.failures look_up.old)) }
-    // What was looked at is told.
-    ensures tested { Counts scratch.old.tested scratch.new.last_tested scratch.new.tested }
-    ensures few_tested { scratch.new.last_tested
-        ≤ candidate_count specs.now (bstr_bytes path.entry) }
-    ensures compared { Counts scratch.old.compared scratch.new.last_compared scratch.new.compared }
-    ensures few_compared { IsFewCompared specs.now scratch.new.last_compared }
+    ensures counted { IsCounted specs.now (bstr_bytes path.entry)
+        scratch.old.counts scratch.new.counts }
     ensures looked { IfOk result (λ found. IsSome found
-        → (1 ≤ scratch.new.last_tested) × (1 ≤ scratch.new.last_compared)) }
+        → (1 ≤ scratch.new.counts.last_tested) × (1 ≤ scratch.new.counts.last_compared)) }
 {
     let deepest = heads.deepest(path.as_bytes(), &mut scratch.heads);
     scratch.effort.compared = deepest.compared;
@@ -302,11 +296,11 @@ fn first_candidate<L: LookUp>(
     look_up: &mut L,
 ) -> Result<Option<(usize, MatchKind)>, L::Fault>
     requires grouped { ArePlacesOf specs.now heads.now }
-    requires room { HasRoom specs.now scratch.old.tokens scratch.old.names }
+    requires room { HasRoom specs.now scratch.old.room }
     requires head { head < length heads.now.heads }
     requires chain { IsChainOf heads.now.heads (bstr_bytes path) head }
     requires none { tested.old ≡ 0 }
-    ensures room { KeepsRoom scratch.old scratch.new }
+    ensures room { scratch.new.room ≡ scratch.old.room }
     ensures first { IfOk result (λ found.
         IsFirstFound (L.table look_up.old) specs.now (bstr_bytes path.entry) is_dir found) }
     ensures table_stays { L.table look_up.new ≡ L.table look_up.old }

@@ -61,7 +61,7 @@ impl Model for Search {
 
     ghost Value = { SearchContents };
 
-    ghost view = { λ s. record { specs = s.specs; source = option_map bstring_bytes s.source; last_tested = s.scratch.last_tested; last_compared = s.scratch.last_compared; tested = s.scratch.tested; compared = s.scratch.compared } };
+    ghost view = { λ s. record { specs = s.specs; source = option_map bstring_bytes s.source; counts = s.scratch.counts } };
 
     ghost invariant = { λ s. IsSearch s.specs s.reach s.nil s.scratch };
 }

@@ -1,13 +1,13 @@
 -- What is stored of specs in normal form is in normal form, and chooses the same.
-use Rattle.std.proofs.Common.{◌≡◌, ℕ, Bool, true, false, not, ◌||◌, refl, sym, ◌∙◌, ap, subst, List, [], take, Some, Ok, inl, inr}
+use Rattle.std.proofs.Common.{◌≡◌, ℕ, Bool, true, false, not, ◌||◌, refl, sym, ◌∙◌, ap, subst, List, take, Some, inl, inr}
 use Rattle.std.proofs.lemmas.Bool.{cases_Bool, cond-true, cond-false}
-use Rattle.std.specs.Prelude.{Contains, IsTrue, ◌↔◌}
+use Rattle.std.specs.Prelude.{Contains, ◌↔◌}
 use Rattle.gix_pathspec.specs.declared.search.MatchKind.TheVariants.{Always}
 use Rattle.gix_pathspec.specs.Bytes.{is_empty}
 use Rattle.gix_pathspec.specs.Attributes.{Table}
-use Rattle.gix_pathspec.specs.Specs.{Spec, is_exclude, is_include, ignores_case, always_matches, prefix_directory}
+use Rattle.gix_pathspec.specs.Specs.{Spec, is_exclude, ignores_case, always_matches, prefix_directory}
 use Rattle.gix_pathspec.specs.NormalForm.{climb, normal_form, IsNormal}
-use Rattle.gix_pathspec.specs.Matching.{fit, has_attributes, spec_matches, IsChosen}
+use Rattle.gix_pathspec.specs.Matching.{fit, has_attributes, spec_matches}
 use Rattle.gix_pathspec.specs.SelectionLaws.{NoNilPrefix}
 use Rattle.pathspec_callers.specs.Stores.{stored_spec, ChooseAlike}
 use Rattle.pathspec_callers.proofs.StoreProofs.{always_spec}

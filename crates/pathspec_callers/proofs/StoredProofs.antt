@@ -1,6 +1,5 @@
 -- The search that is made again from what is stored of a search chooses what it chooses.
 use Rattle.std.proofs.Common.{◌≡◌, ℕ, Bool, true, false, not, ◌&&◌, cond, refl, sym, ◌∙◌, ap, subst, List, [], ◌∷◌, map, Result, Ok, inl, inr, arith}
-use Rattle.std.proofs.lemmas.Bool.{cases_Bool, cond-true, cond-false}
 use Rattle.std.proofs.lemmas.List.Elements.{Contains-push, Contains-append_left, Contains-append_right, Contains-push_cases}
 use Rattle.std.specs.Prelude.{Contains, codes}
 use Rattle.gix_pathspec.specs.Bytes.{is_empty}

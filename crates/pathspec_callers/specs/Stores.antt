@@ -1,5 +1,5 @@
 -- Searches that are stored as the long texts of their specs, and made again from what is stored.
-use Rattle.std.specs.Prelude.{◌≡◌, ◌↔◌, ℕ, Bool, false, List, [], ◌∷◌, map, if◌then◌else◌, Result, Ok, Contains}
+use Rattle.std.specs.Prelude.{◌≡◌, ◌↔◌, ℕ, Bool, false, List, [], ◌∷◌, map, if◌then◌else◌, Ok}
 use Rattle.pathspec_pattern.specs.declared.SearchMode.TheVariants.{Literal}
 use Rattle.gix_pathspec.specs.Attributes.{Table}
 use Rattle.gix_pathspec.specs.Specs.{Spec}

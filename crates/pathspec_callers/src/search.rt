@@ -1,9 +1,9 @@
 //! Callers of the search of `gix_pathspec`.
-ghost use Rattle.std.specs.Prelude.{◌≡◌, ◌≢◌, ◌↔◌, [], IfOk, IsTrue};
+ghost use Rattle.std.specs.Prelude.{◌≡◌, ◌≢◌, ◌↔◌, [], map, IfOk, IsTrue};
 ghost use Rattle.bstr.specs.BStr.{bstr_bytes};
 ghost use Rattle.pathspec_parts.specs.Paths.{without_last_slash};
-ghost use Rattle.gix_pathspec.specs.Room.{Fits, SameRoom};
-ghost use Rattle.pathspec_callers.specs.Selections.{IsChosenFile, HoldsNothing};
+ghost use Rattle.gix_pathspec.specs.Room.{Fits};
+ghost use Rattle.pathspec_callers.specs.Selections.{IsChosenFile, selected_count, HoldsNothing};
 
 use bstr::BStr;
 use gix_pathspec::Search;
@@ -24,9 +24,33 @@ pub fn is_selected<L: LookUp>(
     requires { Fits search.now.specs scratch.old }
     ensures chosen { bstr_bytes file.entry ≢ [] → IfOk result (λ selected. IsTrue selected
         ↔ IsChosenFile (L.table look_up.old) search.now (bstr_bytes file.entry)) }
-    ensures room { SameRoom scratch.old scratch.new }
+    ensures room { scratch.new.room ≡ scratch.old.room }
 {
     search.is_selected(file, Some(false), scratch, look_up)
+}
+
+/// How many of these files a search selects.
+///
+/// # Errors
+/// The first fault of the look-up.
+pub fn count_selected<L: LookUp>(
+    search: &Search,
+    files: &[&[u8]],
+    scratch: &mut Scratch,
+    look_up: &mut L,
+) -> Result<usize, L::Fault>
+    requires { Fits search.now.specs scratch.old }
+    ensures count { IfOk result (λ count. count
+        ≡ selected_count (L.table look_up.old) search.now (map (λ file. file.now) files.now)) }
+    ensures room { scratch.new.room ≡ scratch.old.room }
+{
+    let mut count = 0;
+    for file in files {
+        if search.is_selected(BStr::new(file), Some(false), scratch, look_up)? {
+            count += 1;
+        }
+    }
+    Ok(count)
 }
 
 /// Whether a walker may skip a directory: then nothing at or below it is chosen, whatever a look-up says.

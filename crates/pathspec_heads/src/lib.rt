@@ -1,9 +1,9 @@
 //! The heads and stems of specs in byte order, and which of them begin a path or lie below it.
 #![tactic(auto)]
 
-pub mod chains;
+mod chains;
 mod groups;
-pub mod heads;
+mod heads;
 pub mod places;
-pub mod stems;
+mod stems;
 pub mod tables;

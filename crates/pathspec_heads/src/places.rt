@@ -5,7 +5,8 @@ ghost use Rattle.pathspec_glob.specs.Counts.{Counts};
 ghost use Rattle.pathspec_heads.specs.Heads.{IsLastFront, IsChainOf};
 ghost use Rattle.pathspec_heads.specs.Groups.{GroupedPlaces, IsGrouped, IsInGroup, IsInChain, IsLeastFrom, earlier, end_of};
 
-use crate::chains::{Chains, Deepest};
+use crate::chains::Chains;
+pub use crate::chains::Deepest;
 use crate::groups::{grouped, sorted};
 pub use crate::heads::Scratch;
 use crate::heads::{Heads, Texts};

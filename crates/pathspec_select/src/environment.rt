@@ -3,7 +3,7 @@ ghost use Rattle.std.specs.Prelude.{◌≡◌, IfOk, IfErr, MatchOption, Ok, str
 ghost use Rattle.std.specs.Option.{option_copied, option_map};
 ghost use Rattle.pathspec_pattern.specs.Environment.{defaults_of, flag_of, asked_variables};
 ghost use Rattle.pathspec_select.specs.Requests.{environment_result};
-ghost use Rattle.pathspec_select.specs.Refusals.{ComputesRequest, RefusesEnvironment};
+ghost use Rattle.pathspec_select.specs.Refusals.{ComputesRequest};
 ghost use Rattle.pathspec_select.specs.Variables.{IsNoTruth, word_told, word_read, HasTold, HasToldAll, HasRefusedOne};
 
 use crate::Refusal;
@@ -95,7 +95,7 @@ impl Environment {
         let mut var = |name: &str| -> Option<&str> { self.word(name) };
         match Defaults::from_environment(alloc, &mut var) {
             Ok(defaults) => Ok(defaults),
-            Err(error) => Err(refusal_of(error)),
+            Err(error) => Err(Refusal::of_environment(error)),
         }
     }
 
@@ -155,15 +155,5 @@ fn truth_of(word: &Option<String>) -> Option<bool>
     match word {
         Some(word) => parse_truth(word.as_bytes()),
         None => Some(false),
-    }
-}
-
-/// The refusal for an error of the environment.
-fn refusal_of(error: Error) -> Refusal
-    ensures { RefusesEnvironment error result }
-{
-    match error {
-        Error::Memory => Refusal::Memory,
-        error => Refusal::Environment(error),
     }
 }

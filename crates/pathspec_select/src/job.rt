@@ -3,7 +3,7 @@ ghost use Rattle.std.specs.Prelude.{◌≡◌, None, Err, map, string_bytes, IfO
 ghost use Rattle.std.specs.Option.{option_copied, option_map};
 ghost use Rattle.bstr.specs.BStr.{bstr_bytes};
 ghost use Rattle.pathspec_parts.specs.Paths.{is_clean_prefix};
-ghost use Rattle.gix_pathspec.specs.Search.{HasNoEffort};
+ghost use Rattle.gix_pathspec.specs.Search.{IsFresh};
 ghost use Rattle.pathspec_select.specs.RequestFaults.{RequestFault};
 ghost use Rattle.pathspec_select.specs.Environment.{words_of};
 ghost use Rattle.pathspec_select.specs.Options.{Options as OptionsView, options_of};
@@ -82,7 +82,8 @@ impl Job {
         // The search, if there is one, has no source, and has been asked nothing.
         ensures source { IfOk result (λ pair. IfSome (search_in pair.0.specs)
             (λ search. search.source ≡ None)) }
-        ensures effort { IfOk result (λ pair. IfSome (search_in pair.0.specs) HasNoEffort) }
+        ensures effort { IfOk result (λ pair. IfSome (search_in pair.0.specs)
+            (λ search. IsFresh search.counts)) }
         // Wrong options are told before any memory is taken; what a list says is no part of them.
         ensures usage { options_of (map string_bytes words.now) ≡ Err RequestFault.Usage
             → result ≡ Err Refusal.Usage }
@@ -135,7 +136,7 @@ fn asked_specs(alloc: Global, options: Options<'_>, defaults: Defaults) -> Resul
     ensures source { IfOk result (λ specs. IfSome (search_in (job_specs_view specs))
         (λ search. search.source ≡ None)) }
     ensures effort { IfOk result (λ specs.
-        IfSome (search_in (job_specs_view specs)) HasNoEffort) }
+        IfSome (search_in (job_specs_view specs)) (λ search. IsFresh search.counts)) }
 {
     if let Some(source) = options.source {
         let builder = SearchBuilder::new(alloc, source, defaults, options.prefix, options.root)?;

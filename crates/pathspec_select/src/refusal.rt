@@ -3,6 +3,7 @@ ghost use Rattle.std.specs.Prelude.{◌≡◌};
 ghost use Rattle.pathspec_select.specs.Refusals.{exit_status};
 
 use gix_pathspec::Error;
+use gix_pathspec::search::BuildError;
 use std::alloc::AllocError;
 
 /// Why the program ends without having done all. Its text is the line for standard error.
@@ -36,7 +37,37 @@ pub enum Refusal {
 }
 
 impl Refusal {
-    ghost use Rattle.pathspec_select.specs.Refusals.{status_of};
+    ghost use Rattle.pathspec_select.specs.Refusals.{status_of, RefusesEnvironment, RefusesError, RefusesBuild};
+
+    /// The refusal for an error of the environment.
+    pub(crate) fn of_environment(error: Error) -> Refusal
+        ensures { RefusesEnvironment error result }
+    {
+        match error {
+            Error::Memory => Refusal::Memory,
+            error => Refusal::Environment(error),
+        }
+    }
+
+    /// The refusal for an error of the spec with this number.
+    pub(crate) fn of_spec(number: usize, error: Error) -> Refusal
+        ensures { RefusesError number error result }
+    {
+        match error {
+            Error::Memory => Refusal::Memory,
+            error => Refusal::Spec(number, error),
+        }
+    }
+
+    /// The refusal for an error of a search that is built.
+    pub(crate) fn of_build(error: BuildError) -> Refusal
+        ensures { RefusesBuild error result }
+    {
+        match error {
+            BuildError::Spec(number, error) => Refusal::Spec(number, error),
+            BuildError::Memory => Refusal::Memory,
+        }
+    }
 
     /// The exit status, from 2 to 6.
     pub fn status(&self) -> u8

@@ -2,7 +2,7 @@
 ghost use Rattle.std.specs.Prelude.{◌≡◌, ◌≢◌, ◌&&◌, [], Some, length, if◌then◌else◌, IfOk, OnOk, OnErr};
 ghost use Rattle.pathspec_parts.specs.Cursors.{IsNew, path_at, is_dir_at, after_enter, append_if};
 ghost use Rattle.gix_pathspec.specs.Matching.{is_chosen};
-ghost use Rattle.gix_pathspec.specs.Room.{Fits, SameRoom};
+ghost use Rattle.gix_pathspec.specs.Room.{Fits};
 ghost use Rattle.gix_pathspec.specs.Search.{specs_of};
 ghost use Rattle.pathspec_select.specs.Walks.{IsWalk, HasWalked, GivenIsOne, EnteredIsOne, can_hold};
 ghost use Rattle.pathspec_select.specs.SelectAnswers.{CountsFailure};
@@ -42,7 +42,7 @@ pub enum SelectError<F> {
 ///
 /// # Errors
 /// [`SelectError::LookUp`], only where the look-up failed in this call, and [`SelectError::Memory`]. The cursor then stands at
-/// the entry that was asked.
+/// the entry that was asked; it is still new where there is no memory for the scratch.
 pub fn select<L: LookUp>(
     alloc: Global,
     cursor: &mut Cursor<'_>,
@@ -89,7 +89,7 @@ fn visit<L: LookUp>(
 ) -> Result<(), SelectError<L::Fault>>
     requires path { path_at cursor.old ≢ [] }
     requires fits { Fits search.now.specs scratch.old }
-    ensures room { SameRoom scratch.old scratch.new }
+    ensures room { scratch.new.room ≡ scratch.old.room }
     ensures given { OnOk result (given.new.items ≡ append_if
         (is_chosen (L.table look_up.old) (specs_of search.now.specs)
         (path_at cursor.old) (is_dir_at cursor.old))

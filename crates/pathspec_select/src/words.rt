@@ -5,10 +5,10 @@ ghost use Rattle.gix_pathspec.specs.Reading.{reading};
 ghost use Rattle.gix_pathspec.specs.Search.{at_number};
 ghost use Rattle.gix_pathspec.specs.Lines.{readings_from};
 ghost use Rattle.pathspec_select.specs.Requests.{spec_result};
-ghost use Rattle.pathspec_select.specs.Refusals.{ComputesRequest, RefusesError};
+ghost use Rattle.pathspec_select.specs.Refusals.{ComputesRequest};
 
 use crate::Refusal;
-use gix_pathspec::{Defaults, Error, Pattern, parse};
+use gix_pathspec::{Defaults, Pattern, parse};
 use std::alloc::Global;
 
 /// The spec of each word, under the defaults.
@@ -47,16 +47,6 @@ fn parse_word(
 {
     match parse::parse(alloc, text.as_bytes(), defaults) {
         Ok(pattern) => Ok(pattern),
-        Err(error) => Err(refusal_of(number, error)),
-    }
-}
-
-/// The refusal for the error of the spec with this number.
-fn refusal_of(number: usize, error: Error) -> Refusal
-    ensures { RefusesError number error result }
-{
-    match error {
-        Error::Memory => Refusal::Memory,
-        error => Refusal::Spec(number, error),
+        Err(error) => Err(Refusal::of_spec(number, error)),
     }
 }

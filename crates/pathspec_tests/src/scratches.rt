@@ -7,9 +7,11 @@ use bstr::BStr;
 use gix_pathspec::Search;
 use gix_pathspec::attributes::NoAttributes;
 use gix_pathspec::search::{MatchKind, Scratch};
+use pathspec_callers::search::count_selected;
 use pathspec_parts::tree::{Cursor, Tree, TreeError};
 use pathspec_select::select;
 use std::alloc::{AllocError, Global};
+use std::sync::Arc;
 use std::test::Fail;
 
 /// Specs with attributes, globs and excludes. The tests' look-up sets `gen` of the path `x`, and says nothing else.
@@ -220,6 +222,36 @@ fn walkers_of_four_parts_select_what_one_walk_gives(rt: HostRuntime) -> Result<(
     let given = select(rt.alloc(), &mut cursor, &search, &mut Marks::new())?;
     assert!(rt; are_same(&given, CHOSEN));
     assert!(rt; are_same(&selected_in_turn(rt.alloc(), &search)?, CHOSEN));
+    Ok(())
+}
+
+/// How many files of the four parts are selected, asked in one scratch by the caller that counts them.
+fn selected_count(alloc: Global, files: &[&[u8]]) -> Result<usize, Fail> {
+    let search = search_of(alloc, TEXTS, "")?;
+    let mut scratch = search.new_scratch(alloc)?;
+    if !search.fits(&scratch) {
+        return Err("the scratch doesn't fit the search".into());
+    }
+    Ok(count_selected(&search, files, &mut scratch, &mut Marks::new())?)
+}
+
+#[test]
+fn files_in_one_scratch_are_counted(rt: HostRuntime) -> Result<(), Fail> {
+    let files: &[&[u8]] = &[b"x", b"a/t.c", b"a/x", b"a/b/y", b"c/d/y", b"q"];
+    assert!(rt; selected_count(rt.alloc(), files)? == 3);
+    Ok(())
+}
+
+/// What threads may share by a reference, and hand to one another.
+fn may_be_shared<T: Send + Sync>(_: &T) -> bool {
+    true
+}
+
+#[test]
+fn threads_may_share_a_search_and_hand_on_scratches(rt: HostRuntime) -> Result<(), Fail> {
+    let search = search_of(rt.alloc(), TEXTS, "")?;
+    assert!(rt; may_be_shared(&search.new_scratch(rt.alloc())?));
+    assert!(rt; may_be_shared(&*search) && may_be_shared(&Arc::new(rt.alloc(), search)?));
     Ok(())
 }
 

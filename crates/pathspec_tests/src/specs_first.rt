@@ -8,6 +8,7 @@ use std::test::Fail;
 const FIRST: &str = "--specs-first f";
 
 #[test]
+#[rattlefmt::skip]
 fn specs_before_the_listing_choose_its_records(rt: HostRuntime) -> Result<(), Fail> {
     const ROWS: &[Run] = &[
         Run(FIRST, UNSET, "a\n:!a/x\n--\na/x\na/y\nb\n", "a/y\n"),
@@ -20,65 +21,31 @@ fn specs_before_the_listing_choose_its_records(rt: HostRuntime) -> Result<(), Fa
         // The first line `--` counts; another one is a record, and so is what only begins or ends with it.
         Run(FIRST, UNSET, ":()--\n--\n--\na\n", "--\n"),
         Run(FIRST, UNSET, "--a\n --\n--\n --\n--a\nb\n", " --\n--a\n"),
-        // A spec may hold any byte but a line feed, as below, and a carriage return at its end is doubled.
+        // A spec may hold any byte but a line feed, and a carriage return at its end is doubled.
         Run(FIRST, UNSET, "a\0b\n--\na\0b\na\n", "a\0b\n"),
         Run(FIRST, UNSET, "a\r\r\n--\na\r\na\n", "a\r\n"),
         Run(FIRST, UNSET, "-z\n--\n-z\n", "-z\n"),
         // Lines of specs end with line feeds, whatever ends a record.
-        Run(
-            "-z --specs-first f",
-            UNSET,
-            "a\r\n--\na/\nb\0b\0",
-            "a/\nb\0",
-        ),
+        Run("-z --specs-first f", UNSET, "a\r\n--\na/\nb\0b\0", "a/\nb\0"),
         Run("-z --specs-first f --", UNSET, "--\n\na\0", "\na\0"),
         Run("--specs-first f -z", UNSET, "b\n--\na\0b", "b\0"),
         // The other options hold, and of the sources the last.
         Run("--prefix a --specs-first f", UNSET, "--\na/b\nb\n", "a/b\n"),
-        Run(
-            "--specs-first f --prefix a",
-            UNSET,
-            "../b\n--\na/x\nb\n",
-            "b\n",
-        ),
-        Run(
-            "--root /r --specs-first f",
-            UNSET,
-            "/r/a\n--\na/x\nb\n",
-            "a/x\n",
-        ),
-        Run(
-            "--specs-first f --attr x g",
-            UNSET,
-            ":(attr:g).\n--\nx\ny\n",
-            "x\n",
-        ),
-        Run(
-            "--specs-first f --specs-first g",
-            UNSET,
-            ":\n--\na\n",
-            "a\n",
-        ),
+        Run("--specs-first f --prefix a", UNSET, "../b\n--\na/x\nb\n", "b\n"),
+        Run("--root /r --specs-first f", UNSET, "/r/a\n--\na/x\nb\n", "a/x\n"),
+        Run("--specs-first f --attr x g", UNSET, ":(attr:g).\n--\nx\ny\n", "x\n"),
+        Run("--specs-first f --specs-first g", UNSET, ":\n--\na\n", "a\n"),
     ];
-    assert_each(&rt, rt.alloc(), ROWS)?;
-    assert!(rt;
-        writes(
-            rt.alloc(),
-            FIRST,
-            UNSET,
-            b":(literal)\xff\n--\n\xff\na\n",
-            b"\xff\n"
-        )?
-    );
-    assert!(rt;
-        writes(
-            rt.alloc(),
-            FIRST,
-            UNSET,
-            b"a\xff*\n--\na\xffb\nab\n",
-            b"a\xffb\n"
-        )?
-    );
+    assert_each(&rt, rt.alloc(), ROWS)
+}
+
+#[test]
+#[rattlefmt::skip]
+fn specs_before_the_listing_may_be_no_text(rt: HostRuntime) -> Result<(), Fail> {
+    let literal = b":(literal)\xff\n--\n\xff\na\n";
+    assert!(rt; writes(rt.alloc(), FIRST, UNSET, literal, b"\xff\n")?);
+    let glob = b"a\xff*\n--\na\xffb\nab\n";
+    assert!(rt; writes(rt.alloc(), FIRST, UNSET, glob, b"a\xffb\n")?);
     Ok(())
 }
 

@@ -10,13 +10,12 @@ ghost use Rattle.pathspec_heads.specs.Heads.{IsLastFront, IsChainOf};
 ghost use Rattle.pathspec_heads.specs.Groups.{IsInChain, IsLeastFrom};
 ghost use Rattle.gix_pathspec.specs.Effort.{kind_at};
 ghost use Rattle.pathspec_parts.specs.Outcomes.{names_of};
-ghost use Rattle.gix_pathspec.specs.Room.{HasRoom, KeepsRoom, tokens_of, names_in_order};
+ghost use Rattle.gix_pathspec.specs.Room.{HasRoom, tokens_of, names_in_order};
 
 use crate::search::MatchKind;
 use crate::search::spec::CompiledSpec;
 use bstr::BStr;
-use pathspec_heads::chains::Deepest;
-use pathspec_heads::places::{self, PlacesByHead};
+use pathspec_heads::places::{self, Deepest, PlacesByHead};
 use pathspec_parts::attributes::{LookUp, Outcome};
 use pathspec_parts::glob;
 use std::alloc::{AllocError, Global};
@@ -54,7 +53,7 @@ impl Model for SpecScratch {
 
     ghost Value = { SpecRoom };
 
-    ghost view = { λ s. record { tokens = s.globs.tokens; names = map names_of s.outcomes.items; tested = s.tested } };
+    ghost view = { λ s. record { room = record { tokens = s.globs.tokens; names = map names_of s.outcomes.items }; tested = s.tested } };
 }
 
 /// The heads of specs, by their places in search order. Each comparison with a path is counted.
@@ -149,10 +148,10 @@ impl CountedSpecs {
         look_up: &mut L,
     ) -> Result<Option<MatchKind>, L::Fault>
         requires place { place < length self.now }
-        requires room { HasRoom self.now scratch.old.tokens scratch.old.names }
+        requires room { HasRoom self.now scratch.old.room }
         ensures answer { IfOk result (λ kind. kind
             ≡ kind_at (L.table look_up.old) self.now (bstr_bytes path.entry) is_dir place) }
-        ensures room { KeepsRoom scratch.old scratch.new }
+        ensures room { scratch.new.room ≡ scratch.old.room }
         ensures counted { Counts scratch.old.tested 1 scratch.new.tested }
         ensures table_stays { L.table look_up.new ≡ L.table look_up.old }
         ensures ok_leaves_count { OnOk result (L.failures look_up.new ≡ L.failures look_up.old) }
@@ -172,8 +171,8 @@ impl SpecScratch {
     /// # Errors
     /// Memory runs out.
     pub(super) fn for_specs(alloc: Global, specs: &CountedSpecs) -> Result<SpecScratch, AllocError>
-        ensures room { IfOk result (λ room. HasRoom specs.now room.tokens room.names) }
-        ensures unasked { IfOk result (λ room. room.tested ≡ 0) }
+        ensures room { IfOk result (λ scratch. HasRoom specs.now scratch.room) }
+        ensures unasked { IfOk result (λ scratch. scratch.tested ≡ 0) }
     {
         Ok(SpecScratch {
             globs: glob::Scratch::for_tokens(alloc, most_tokens(&specs.all))?,
@@ -184,7 +183,7 @@ impl SpecScratch {
 
     /// Whether it has room for questions to these specs. The cost is linear in the names of their attributes.
     pub(super) fn fits(&self, specs: &CountedSpecs) -> bool
-        ensures { IsTrue result ↔ HasRoom specs.now self.now.tokens self.now.names }
+        ensures { IsTrue result ↔ HasRoom specs.now self.now.room }
     {
         self.outcomes.len() == specs.all.len() && have_room(&specs.all, &self.globs, &self.outcomes)
     }
@@ -222,7 +221,8 @@ fn outcomes(alloc: Global, specs: &[CompiledSpec]) -> Result<Vec<Outcome>, Alloc
 /// Whether each of these specs has room in these globs' scratch, and in the outcome at its place.
 fn have_room(specs: &[CompiledSpec], globs: &glob::Scratch, outcomes: &[Outcome]) -> bool
     requires { length outcomes.now ≡ length specs.now }
-    ensures { IsTrue result ↔ HasRoom specs.now globs.now.tokens (map names_of outcomes.now) }
+    ensures { IsTrue result ↔ HasRoom specs.now
+        (record { tokens = globs.now.tokens; names = map names_of outcomes.now }) }
 {
     for (place, spec) in specs.iter().enumerate() {
         if !spec.fits(globs, &outcomes[place]) {

@@ -144,8 +144,7 @@ impl CompiledSpec {
     fn allows_directory(&self, path: &[u8], leading: bool) -> bool
         ensures { result ≡ allows_directory path.now leading self.now.spec }
     {
-        self.is_include()
-            && (self.pattern().always_matches() || self.agrees_in_front(path, leading))
+        self.is_include() && (self.always_matches() || self.agrees_in_front(path, leading))
     }
 
     /// Whether the path begins with the spec's front, without case where the spec has none.

@@ -4,11 +4,10 @@ ghost use Rattle.bstr.specs.BStr.{bstr_bytes};
 ghost use Rattle.pathspec_parts.specs.Attributes.{next_count};
 ghost use Rattle.gix_pathspec.specs.Specs.{is_exclude};
 ghost use Rattle.gix_pathspec.specs.Patterns.{pattern_spec};
-ghost use Rattle.pathspec_glob.specs.Counts.{Counts};
 ghost use Rattle.gix_pathspec.specs.Matching.{is_chosen, IsChosen};
 ghost use Rattle.gix_pathspec.specs.Search.{specs_of};
-ghost use Rattle.gix_pathspec.specs.Room.{Fits, SameRoom};
-ghost use Rattle.gix_pathspec.specs.Effort.{candidate_count, IsFewCompared, IsLittleCompared, IsBySpec, is_unasked};
+ghost use Rattle.gix_pathspec.specs.Room.{Fits};
+ghost use Rattle.gix_pathspec.specs.Effort.{IsCounted, IsLittleCompared, IsBySpec, is_unasked};
 
 use crate::Pattern;
 use crate::search::{MatchKind, Scratch, Search};
@@ -90,22 +89,18 @@ impl Search {
         ensures ok_leaves_count { OnOk result (L.failures look_up.new ≡ L.failures look_up.old) }
         ensures err_counts { OnErr result
             (L.failures look_up.new ≡ next_count (L.failures look_up.old)) }
-        ensures room { SameRoom scratch.old scratch.new }
+        ensures room { scratch.new.room ≡ scratch.old.room }
 
         // What is asked and compared is counted, and all of it is told; also where the look-up fails.
-        ensures tested { Counts scratch.old.tested scratch.new.last_tested scratch.new.tested }
-        ensures compared { Counts scratch.old.compared scratch.new.last_compared
-            scratch.new.compared }
-        ensures few_tested { scratch.new.last_tested
-            ≤ candidate_count self.now.specs (bstr_bytes path.entry) }
-        ensures few_compared { IsFewCompared self.now.specs scratch.new.last_compared }
+        ensures counted { IsCounted self.now.specs (bstr_bytes path.entry)
+            scratch.old.counts scratch.new.counts }
         ensures little_compared { IsLittleCompared self.now.specs (bstr_bytes path.entry)
-            scratch.new.last_compared }
+            scratch.new.counts.last_compared }
         ensures looked { IfOk result (λ found.
             IsBySpec self.now.specs (bstr_bytes path.entry) (option_map match_view found)
-            → (1 ≤ scratch.new.last_tested) × (1 ≤ scratch.new.last_compared)) }
+            → (1 ≤ scratch.new.counts.last_tested) × (1 ≤ scratch.new.counts.last_compared)) }
         ensures unasked { IsTrue (is_unasked self.now.specs (bstr_bytes path.entry))
-            → (scratch.new.last_tested ≡ 0) × (scratch.new.last_compared ≡ 0) }
+            → (scratch.new.counts.last_tested ≡ 0) × (scratch.new.counts.last_compared ≡ 0) }
     {
         let found = self.specs.find_match(path, is_dir, scratch, look_up)?;
         Ok(self.match_found(path, found))
@@ -134,15 +129,11 @@ impl Search {
         ensures chosen { IfOk result (λ selected. bstr_bytes path.entry ≢ []
             → selected ≡ is_chosen (L.table look_up.old) (specs_of self.now.specs)
             (bstr_bytes path.entry) (is_directory is_dir)) }
-        ensures room { SameRoom scratch.old scratch.new }
-        ensures tested { Counts scratch.old.tested scratch.new.last_tested scratch.new.tested }
-        ensures compared { Counts scratch.old.compared scratch.new.last_compared
-            scratch.new.compared }
-        ensures few_tested { scratch.new.last_tested
-            ≤ candidate_count self.now.specs (bstr_bytes path.entry) }
-        ensures few_compared { IsFewCompared self.now.specs scratch.new.last_compared }
+        ensures room { scratch.new.room ≡ scratch.old.room }
+        ensures counted { IsCounted self.now.specs (bstr_bytes path.entry)
+            scratch.old.counts scratch.new.counts }
         ensures little_compared { IsLittleCompared self.now.specs (bstr_bytes path.entry)
-            scratch.new.last_compared }
+            scratch.new.counts.last_compared }
         ensures table_stays { L.table look_up.new ≡ L.table look_up.old }
         ensures ok_leaves_count { OnOk result (L.failures look_up.new ≡ L.failures look_up.old) }
         ensures err_counts { OnErr result
@@ -156,28 +147,28 @@ impl Search {
 
     /// How many specs the last match of [`Search::pattern_matching_relative_path`] asked, as [`Scratch::last_tested`] says.
     pub fn last_tested(&self) -> usize
-        ensures { result ≡ self.now.last_tested }
+        ensures { result ≡ self.now.counts.last_tested }
     {
         self.scratch.last_tested()
     }
 
     /// How many heads of specs that match compared with the path.
     pub fn last_compared(&self) -> u128
-        ensures { result ≡ self.now.last_compared }
+        ensures { result ≡ self.now.counts.last_compared }
     {
         self.scratch.last_compared()
     }
 
     /// How many specs all these matches asked, modulo 2^128.
     pub fn total_tested(&self) -> u128
-        ensures { result ≡ self.now.tested }
+        ensures { result ≡ self.now.counts.tested }
     {
         self.scratch.total_tested()
     }
 
     /// How many heads all these matches compared, modulo 2^128.
     pub fn total_compared(&self) -> u128
-        ensures { result ≡ self.now.compared }
+        ensures { result ≡ self.now.counts.compared }
     {
         self.scratch.total_compared()
     }

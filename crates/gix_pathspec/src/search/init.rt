@@ -10,7 +10,7 @@ ghost use Rattle.gix_pathspec.specs.Errors.{IsMemory};
 ghost use Rattle.gix_pathspec.specs.Patterns.{pattern_spec};
 ghost use Rattle.gix_pathspec.specs.NormalForm.{NormalFormIsNormal};
 ghost use Rattle.gix_pathspec.specs.Prefixes.{common_front, common_prefix};
-ghost use Rattle.gix_pathspec.specs.Search.{KeepsSpecs, HasNoEffort, specs_of, numbered_from, default_to_prefix, in_search_order, search_of, HoldsNormalForms};
+ghost use Rattle.gix_pathspec.specs.Search.{KeepsSpecs, IsFresh, specs_of, numbered_from, default_to_prefix, in_search_order, search_of, HoldsNormalForms};
 ghost use Rattle.gix_pathspec.specs.Effort.{ArePlacesOf, heads_in_order};
 ghost use Rattle.gix_pathspec.specs.Building.{prefix_bytes, TellsFault, Builds, IsErrorAt, numbered_normal_form};
 ghost use Rattle.gix_pathspec.specs.SelectionLaws.{SpecPathsAreBytes};
@@ -87,7 +87,7 @@ impl Search {
             × (search_of (prefix_bytes prefix.entry) (bstr_bytes root.entry) (map pattern_spec xs)
             ≡ Ok search.specs)) }
         ensures source { IfOk result (λ search. search.source ≡ None) }
-        ensures effort { IfOk result HasNoEffort }
+        ensures effort { IfOk result (λ search. IsFresh search.counts) }
         ensures err { IfErr result (λ e. TellsFault e (λ fault. (it : I.IntoIter)
             × (xs : List Pattern) × I.into_iter_gives specs it × Drains I.IntoIter.next_gives it xs
             × (search_of (prefix_bytes prefix.entry) (bstr_bytes root.entry) (map pattern_spec xs)
@@ -108,7 +108,7 @@ impl Search {
     /// [`Error::Memory`] alone.
     pub fn try_clone(&self) -> Result<Search, Error>
         ensures ok { IfOk result (KeepsSpecs self.now) }
-        ensures effort { IfOk result HasNoEffort }
+        ensures effort { IfOk result (λ search. IsFresh search.counts) }
         ensures err { IfErr result IsMemory }
     {
         let alloc = *self.nil.attributes.allocator();
@@ -157,7 +157,7 @@ pub(super) fn build(
     ensures search { Builds (λ search. search.specs) (search_of (bstr_bytes prefix.entry)
         (bstr_bytes root.entry) (map pattern_spec patterns.items)) result }
     ensures source { IfOk result (λ search. search.source ≡ None) }
-    ensures effort { IfOk result HasNoEffort }
+    ensures effort { IfOk result (λ search. IsFresh search.counts) }
 {
     let patterns = default_to_prefix(alloc, patterns, prefix)?;
     let compiled = compile_all(alloc, patterns, prefix, root)?;

@@ -5,7 +5,7 @@ ghost use Rattle.pathspec_parts.specs.Paths.{is_clean_prefix};
 ghost use Rattle.gix_pathspec.specs.Patterns.{pattern_spec};
 ghost use Rattle.gix_pathspec.specs.Reading.{reading};
 ghost use Rattle.gix_pathspec.specs.NormalForm.{NormalFormIsNormal};
-ghost use Rattle.gix_pathspec.specs.Search.{HasNoEffort, HoldsNormalForms, at_number};
+ghost use Rattle.gix_pathspec.specs.Search.{IsFresh, HoldsNormalForms, at_number};
 ghost use Rattle.gix_pathspec.specs.Building.{prefix_bytes, Builds};
 ghost use Rattle.gix_pathspec.specs.Lines.{spec_lines, readings_from, search_of_lines};
 
@@ -43,7 +43,7 @@ impl Search {
         ensures search { Builds (λ search. search.specs) (search_of_lines defaults
             (prefix_bytes prefix.entry) (bstr_bytes root.entry) text.now) result }
         ensures source { IfOk result (λ search. search.source ≡ Some (bstr_bytes source.entry)) }
-        ensures effort { IfOk result HasNoEffort }
+        ensures effort { IfOk result (λ search. IsFresh search.counts) }
         // So a search has just the normal forms of its specs, and each is its own normal form.
         ensures forms { OnOk result (HoldsNormalForms × NormalFormIsNormal) }
     {

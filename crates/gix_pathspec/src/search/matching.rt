@@ -1,12 +1,10 @@
 //! Whether a spec matches a path, and how (gitglossary, "pathspec").
-ghost use Rattle.std.specs.Prelude.{◌≡◌, ◌≤◌, length, map, IsTrue, is_some};
+ghost use Rattle.std.specs.Prelude.{◌≡◌, ◌≤◌, length, map};
 ghost use Rattle.bstr.specs.BStr.{bstr_bytes};
-ghost use Rattle.pathspec_parts.specs.Bytes.{is_empty};
-ghost use Rattle.pathspec_parts.specs.Attributes.{Table};
 ghost use Rattle.pathspec_parts.specs.AttributeStates.{state_ref_view, assignment_view};
 ghost use Rattle.pathspec_parts.specs.Outcomes.{names_of, states_of};
 ghost use Rattle.gix_pathspec.specs.Specs.{ignores_case};
-ghost use Rattle.gix_pathspec.specs.Matching.{fit, spec_matches, is_in_prefix_directory, is_glob_match, is_verbatim_match, is_prefix_match, takes_kind, case_of, same_state, have_states};
+ghost use Rattle.gix_pathspec.specs.Matching.{fit, is_in_prefix_directory, is_glob_match, is_verbatim_match, is_prefix_match, takes_kind, case_of, same_state, have_states};
 ghost use Rattle.gix_pathspec.specs.Patterns.{pattern_spec};
 ghost use Rattle.gix_pathspec.specs.Room.{glob_of, tokens_of};
 

@@ -105,22 +105,6 @@ impl SpecsByHead {
     }
 }
 
-impl CompiledSpec {
-    /// Whether the spec puts paths in.
-    pub(super) fn is_include(&self) -> bool
-        ensures { result ≡ is_include self.now.spec }
-    {
-        !self.pattern().is_excluded()
-    }
-
-    /// The spec without what was made ready for it.
-    fn into_pattern(self) -> Pattern
-        ensures { pattern_spec result ≡ self.spec }
-    {
-        self.pattern
-    }
-}
-
 /// The specs of a search in search order, as [`Search::patterns`] gives them. It knows how many are left.
 #[derive(Debug, Drop)]
 pub struct Patterns<'a> {

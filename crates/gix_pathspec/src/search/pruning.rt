@@ -3,17 +3,13 @@ ghost use Rattle.std.specs.Prelude.{◌≡◌, ◌&&◌, ◌||◌, not};
 ghost use Rattle.std.specs.List.{list_any};
 ghost use Rattle.bstr.specs.BStr.{bstr_bytes};
 ghost use Rattle.gix_pathspec.specs.Attributes.{Table};
-ghost use Rattle.gix_pathspec.specs.Bytes.{is_empty, fold_case};
-ghost use Rattle.gix_pathspec.specs.Specs.{is_include, ignores_case, wants_directory, has_wildcard};
-ghost use Rattle.gix_pathspec.specs.Prefixes.{stem};
-ghost use Rattle.gix_pathspec.specs.Pruning.{takes_only_below, leads_to, reaches, agree, is_total_exclude, is_reached, can_match};
+ghost use Rattle.gix_pathspec.specs.Bytes.{is_empty};
+ghost use Rattle.gix_pathspec.specs.Specs.{is_include};
+ghost use Rattle.gix_pathspec.specs.Pruning.{agree, is_total_exclude, is_reached, can_match};
 ghost use Rattle.gix_pathspec.specs.PruningLaws.{PruningIsSafe, FilePruningIsSafe, PrunedIsNotChosen, FilePrunedIsNotChosen, PruningIsSharp, PruningIsSharpForFits, PruningIsNear};
 
-use crate::MagicSignature;
-use crate::search::spec::CompiledSpec;
+use crate::search::Search;
 use crate::search::texts::begins_with;
-use crate::search::{Search, matching};
-use bitflags::Flags;
 use bstr::BStr;
 
 impl Search {
@@ -84,15 +80,15 @@ impl Search {
             && is_reached specs path.now is_dir) }
     {
         self.agrees_with_common_prefix(path)
-            && !self.reach.excludes_all()
-            && (self.reach.reaches(path, is_dir) || !self.reach.has_include())
+            && !self.reach.excludes_all
+            && (self.reach.reaches(path, is_dir) || !self.reach.has_include)
     }
 
     /// Whether some spec puts paths in.
     pub(super) fn has_include(&self) -> bool
         ensures { result ≡ list_any is_include (specs_of self.now.specs) }
     {
-        self.reach.has_include()
+        self.reach.has_include
     }
 }
 
@@ -101,52 +97,4 @@ fn agree(left: &[u8], right: &[u8]) -> bool
     ensures { result ≡ agree left.now right.now }
 {
     begins_with(left, right, false) || begins_with(right, left, false)
-}
-
-impl CompiledSpec {
-    /// The bytes of the spec's path.
-    pub(super) fn path(&self) -> &[u8]
-        ensures { result.now ≡ self.now.spec.path }
-    {
-        self.pattern().path().as_bytes()
-    }
-
-    /// The path before its first wildcard byte; of a nil spec the whole path.
-    pub(super) fn stem(&self) -> &[u8]
-        ensures { result.now ≡ stem self.now.spec }
-    {
-        &self.path()[..self.stem]
-    }
-
-    /// Whether the spec has a wildcard. It looks at no byte.
-    pub(super) fn has_wildcard(&self) -> bool
-        ensures { result ≡ has_wildcard self.now.spec }
-    {
-        self.stem < self.path().len()
-    }
-
-    /// Whether ASCII case doesn't count.
-    pub(super) fn ignores_case(&self) -> bool
-        ensures { result ≡ ignores_case self.now.spec }
-    {
-        matching::ignores_case(self.pattern())
-    }
-
-    /// Whether the spec takes only directories and what lies below them.
-    pub(super) fn wants_directory(&self) -> bool
-        ensures { result ≡ wants_directory self.now.spec }
-    {
-        self.pattern()
-            .signature
-            .contains(MagicSignature::MUST_BE_DIR)
-    }
-
-    /// Whether this is an exclude that takes every path.
-    pub(super) fn is_total_exclude(&self) -> bool
-        ensures { result ≡ is_total_exclude self.now.spec }
-    {
-        !self.is_include()
-            && self.pattern().always_matches()
-            && self.pattern().attributes.is_empty()
-    }
 }

@@ -1,23 +1,23 @@
 //! What the specs of a search reach, by the stems of its includes.
-ghost use Rattle.std.specs.Prelude.{◌≡◌, List, ◌&&◌, IfOk};
+ghost use Rattle.std.specs.Prelude.{◌≡◌, ◌&&◌, List, IfOk};
 ghost use Rattle.std.specs.List.{list_any};
-ghost use Rattle.pathspec_heads.specs.Tables.{IsTableOf};
-ghost use Rattle.gix_pathspec.specs.Specs.{Spec, is_include, always_matches};
-ghost use Rattle.gix_pathspec.specs.Pruning.{reaches, is_total_exclude};
-ghost use Rattle.gix_pathspec.specs.Reach.{stem_of, stems_of, IsReachOf};
+ghost use Rattle.gix_pathspec.specs.Tables.{IsTableOf};
+ghost use Rattle.gix_pathspec.specs.Specs.{Spec, is_include};
+ghost use Rattle.gix_pathspec.specs.Pruning.{reaches};
+ghost use Rattle.gix_pathspec.specs.Reach.{stems_of, IsReachOf};
 ghost use Rattle.gix_pathspec.specs.Search.{specs_of};
 
 use crate::search::spec::CompiledSpec;
-use pathspec_heads::tables::{SpecStem, StemTable};
+use pathspec_heads::tables::StemTable;
 use std::alloc::{AllocError, Global};
 
 /// What specs reach. It is made once, and a question goes through no list of specs.
 #[derive(Drop)]
 pub(super) struct Reach {
     /// Whether an exclude takes every path.
-    excludes_all: bool,
+    pub(super) excludes_all: bool,
     /// Whether some spec puts paths in.
-    has_include: bool,
+    pub(super) has_include: bool,
     /// Whether an include always matches.
     includes_all: bool,
     /// The stems of the includes that don't.
@@ -32,28 +32,16 @@ impl Reach {
     pub(super) fn of_specs(alloc: Global, specs: &[CompiledSpec]) -> Result<Reach, AllocError>
         ensures { IfOk result (IsReachOf (specs_of specs.now)) }
     {
+        let stems = Box::new(alloc, stem_table(alloc, specs)?)?;
+        let excludes_all = specs.iter().any(|spec| spec.is_total_exclude());
+        let has_include = specs.iter().any(|spec| spec.is_include());
+        let includes_all = specs.iter().any(|spec| spec.is_total_include());
         Ok(Reach {
-            excludes_all: has_total_exclude(specs),
-            has_include: has_include(specs),
-            includes_all: has_total_include(specs),
-            stems: Box::new(alloc, stem_table(alloc, specs)?)?,
+            excludes_all,
+            has_include,
+            includes_all,
+            stems,
         })
-    }
-
-    /// Whether an exclude takes every path.
-    pub(super) fn excludes_all(&self) -> bool
-        ensures { (specs : List Spec) → IsReachOf specs self.now
-            → result ≡ list_any is_total_exclude specs }
-    {
-        self.excludes_all
-    }
-
-    /// Whether some spec puts paths in.
-    pub(super) fn has_include(&self) -> bool
-        ensures { (specs : List Spec) → IsReachOf specs self.now
-            → result ≡ list_any is_include specs }
-    {
-        self.has_include
     }
 
     /// Whether some include reaches the path, at the cost of [`StemTable::reaches`].
@@ -71,44 +59,9 @@ fn stem_table(alloc: Global, specs: &[CompiledSpec]) -> Result<StemTable, AllocE
 {
     let mut stems = Vec::with_capacity(alloc, specs.len())?;
     for spec in specs {
-        if spec.is_include() && !spec.pattern().always_matches() {
+        if spec.is_include() && !spec.always_matches() {
             stems.push(spec.as_stem())?;
         }
     }
     StemTable::new(alloc, &stems)
-}
-
-/// Whether an exclude takes every path.
-fn has_total_exclude(specs: &[CompiledSpec]) -> bool
-    ensures { result ≡ list_any is_total_exclude (specs_of specs.now) }
-{
-    specs.iter().any(|spec| spec.is_total_exclude())
-}
-
-/// Whether some spec puts paths in.
-fn has_include(specs: &[CompiledSpec]) -> bool
-    ensures { result ≡ list_any is_include (specs_of specs.now) }
-{
-    specs.iter().any(|spec| spec.is_include())
-}
-
-/// Whether an include always matches.
-fn has_total_include(specs: &[CompiledSpec]) -> bool
-    ensures { result ≡ list_any (λ s. is_include s && always_matches s) (specs_of specs.now) }
-{
-    specs.iter().any(|spec| spec.is_include() && spec.pattern().always_matches())
-}
-
-impl CompiledSpec {
-    /// The stem of the spec, and what else of it a table of stems asks.
-    fn as_stem(&self) -> SpecStem<'_>
-        ensures { result ≡ stem_of self.now.spec }
-    {
-        SpecStem {
-            text: self.stem(),
-            ignores_case: self.ignores_case(),
-            has_wildcard: self.has_wildcard(),
-            wants_directory: self.wants_directory(),
-        }
-    }
 }

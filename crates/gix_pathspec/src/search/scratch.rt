@@ -1,6 +1,7 @@
 //! Scratches of searches.
 ghost use Rattle.std.specs.Prelude.{◌≡◌, ◌↔◌, IsTrue, IfOk};
-ghost use Rattle.gix_pathspec.specs.Room.{Fits, IsFresh};
+ghost use Rattle.gix_pathspec.specs.Search.{IsFresh};
+ghost use Rattle.gix_pathspec.specs.Room.{Fits};
 
 use crate::by_head::SpecsByHead;
 use crate::search::counted::SpecScratch;
@@ -15,7 +16,7 @@ impl Search {
     /// Memory runs out.
     pub fn new_scratch(&self, alloc: Global) -> Result<Scratch, AllocError>
         ensures fits { IfOk result (Fits self.now.specs) }
-        ensures fresh { IfOk result IsFresh }
+        ensures fresh { IfOk result (λ scratch. IsFresh scratch.counts) }
     {
         scratch_for(alloc, &self.specs)
     }
@@ -33,7 +34,7 @@ impl Search {
 /// Room for matches of these specs, in which nothing was asked yet.
 pub(super) fn scratch_for(alloc: Global, specs: &SpecsByHead) -> Result<Scratch, AllocError>
     ensures fits { IfOk result (Fits specs.now) }
-    ensures fresh { IfOk result IsFresh }
+    ensures fresh { IfOk result (λ scratch. IsFresh scratch.counts) }
 {
     let room = SpecScratch::for_specs(alloc, specs.counted())?;
     Ok(Scratch::new(room, specs.heads().new_scratch()))

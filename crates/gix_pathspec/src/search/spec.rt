@@ -5,7 +5,10 @@ ghost use Rattle.gix_pathspec.specs.Paths.{IsBytes};
 ghost use Rattle.gix_pathspec.specs.Patterns.{pattern_spec};
 ghost use Rattle.gix_pathspec.specs.Room.{glob_of};
 
-use crate::{Error, Pattern, SearchMode};
+use crate::search::matching;
+use crate::{Error, MagicSignature, Pattern, SearchMode};
+use bitflags::Flags;
+use pathspec_heads::tables::SpecStem;
 use pathspec_parts::attributes::Outcome;
 use pathspec_parts::glob::{Glob, Mode, Scratch, first_wildcard};
 use std::alloc::{AllocError, Global};
@@ -42,8 +45,11 @@ impl Model for CompiledSpec {
 }
 
 impl CompiledSpec {
+    ghost use Rattle.std.specs.Prelude.{◌&&◌};
     ghost use Rattle.gix_pathspec.specs.Patterns.{pattern_spec};
+    ghost use Rattle.gix_pathspec.specs.Specs.{is_include, ignores_case, wants_directory, always_matches, has_wildcard};
     ghost use Rattle.gix_pathspec.specs.Prefixes.{stem, head};
+    ghost use Rattle.gix_pathspec.specs.Pruning.{stem_of, is_total_exclude};
     ghost use Rattle.gix_pathspec.specs.Compiled.{numbered_pattern};
     ghost use Rattle.pathspec_parts.specs.Outcomes.{names_of};
     ghost use Rattle.gix_pathspec.specs.Room.{tokens_of, attribute_names};
@@ -96,6 +102,67 @@ impl CompiledSpec {
         Ok(CompiledSpec::new(alloc, self.pattern.try_clone()?, self.number)?)
     }
 
+    /// The bytes of the spec's path.
+    pub(super) fn path(&self) -> &[u8]
+        ensures { result.now ≡ self.now.spec.path }
+    {
+        self.pattern.path().as_bytes()
+    }
+
+    /// The path before its first wildcard byte; of a nil spec the whole path.
+    pub(super) fn stem(&self) -> &[u8]
+        ensures { result.now ≡ stem self.now.spec }
+    {
+        &self.path()[..self.stem]
+    }
+
+    /// Whether the spec has a wildcard. It looks at no byte.
+    pub(super) fn has_wildcard(&self) -> bool
+        ensures { result ≡ has_wildcard self.now.spec }
+    {
+        self.stem < self.path().len()
+    }
+
+    /// Whether ASCII case doesn't count.
+    pub(super) fn ignores_case(&self) -> bool
+        ensures { result ≡ ignores_case self.now.spec }
+    {
+        matching::ignores_case(&self.pattern)
+    }
+
+    /// Whether the spec takes only directories and what lies below them.
+    pub(super) fn wants_directory(&self) -> bool
+        ensures { result ≡ wants_directory self.now.spec }
+    {
+        self.pattern.signature.contains(MagicSignature::MUST_BE_DIR)
+    }
+
+    /// Whether this is an exclude that takes every path.
+    pub(super) fn is_total_exclude(&self) -> bool
+        ensures { result ≡ is_total_exclude self.now.spec }
+    {
+        !self.is_include() && self.always_matches() && self.pattern.attributes.is_empty()
+    }
+
+    /// Whether this is an include that always matches.
+    pub(super) fn is_total_include(&self) -> bool
+        ensures { result ≡ (is_include self.now.spec && always_matches self.now.spec) }
+    {
+        self.is_include() && self.always_matches()
+    }
+
+    /// The stem of the spec, and what else of it a table of stems asks.
+    pub(super) fn as_stem(&self) -> SpecStem<'_>
+        ensures { result ≡ stem_of self.now.spec }
+    {
+        SpecStem {
+            text: self.stem(),
+            ignores_case: self.ignores_case(),
+            has_wildcard: self.has_wildcard(),
+            wants_directory: self.wants_directory(),
+        }
+    }
+
     /// What every path that the spec matches begins with, compared with case: the path's stem, or the prefix directory
     /// of a spec without case. A nil spec has none.
     pub(super) fn head(&self) -> &[u8]
@@ -115,6 +182,27 @@ impl CompiledSpec {
         ensures { pattern_spec result.now ≡ self.now.spec }
     {
         &self.pattern
+    }
+
+    /// The spec without what was made ready for it.
+    pub(super) fn into_pattern(self) -> Pattern
+        ensures { pattern_spec result ≡ self.spec }
+    {
+        self.pattern
+    }
+
+    /// Whether the spec puts paths in.
+    pub(super) fn is_include(&self) -> bool
+        ensures { result ≡ is_include self.now.spec }
+    {
+        !self.pattern.is_excluded()
+    }
+
+    /// Whether the spec matches every path, whatever its attributes say.
+    pub(super) fn always_matches(&self) -> bool
+        ensures { result ≡ always_matches self.now.spec }
+    {
+        self.pattern.always_matches()
     }
 
     /// How many tokens the spec's glob has, 0 where it isn't compared as one.

@@ -3,13 +3,12 @@ ghost use Rattle.std.specs.Prelude.{◌≡◌, Some, None, map, IfOk, IsTrue};
 ghost use Rattle.bstr.specs.BStr.{bstr_bytes};
 ghost use Rattle.pathspec_parts.specs.Paths.{is_clean_prefix};
 ghost use Rattle.gix_pathspec.specs.Patterns.{pattern_spec};
-ghost use Rattle.gix_pathspec.specs.Search.{HasNoEffort, search_of};
-ghost use Rattle.pathspec_select.specs.Refusals.{ComputesRequest, RefusesBuild};
+ghost use Rattle.gix_pathspec.specs.Search.{IsFresh, search_of};
+ghost use Rattle.pathspec_select.specs.Refusals.{ComputesRequest};
 ghost use Rattle.pathspec_select.specs.Requests.{spec_result, built_specs};
 
 use crate::Refusal;
 use bstr::{BStr, BString};
-use gix_pathspec::search::BuildError;
 use gix_pathspec::{Defaults, Pattern, Search};
 use std::alloc::{AllocError, Global};
 use std::marker::Model;
@@ -91,7 +90,7 @@ impl SearchBuilder {
         let root = BStr::new(self.root.as_slice());
         match Search::from_lines(alloc, lines, self.source(), self.defaults, prefix, root) {
             Ok(search) => Ok(search),
-            Err(error) => Err(refusal_of(error)),
+            Err(error) => Err(Refusal::of_build(error)),
         }
     }
 }
@@ -107,20 +106,10 @@ pub(crate) fn search(
     ensures specs { ComputesRequest (λ search. search.specs)
         (spec_result (search_of prefix.now root.now (map pattern_spec patterns.items))) result }
     ensures source { IfOk result (λ search. search.source ≡ None) }
-    ensures effort { IfOk result HasNoEffort }
+    ensures effort { IfOk result (λ search. IsFresh search.counts) }
 {
     match Search::from_specs(alloc, patterns, Some(BStr::new(prefix)), BStr::new(root)) {
         Ok(search) => Ok(search),
-        Err(error) => Err(refusal_of(error)),
-    }
-}
-
-/// The refusal for an error of a search that is made.
-fn refusal_of(error: BuildError) -> Refusal
-    ensures { RefusesBuild error result }
-{
-    match error {
-        BuildError::Spec(number, error) => Refusal::Spec(number, error),
-        BuildError::Memory => Refusal::Memory,
+        Err(error) => Err(Refusal::of_build(error)),
     }
 }

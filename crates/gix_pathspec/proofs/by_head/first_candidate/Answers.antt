@@ -1,9 +1,9 @@
 -- The next place leaves out only specs whose head doesn't begin the path; one that matches is the first, and one that doesn't leaves it to the rest.
-use Rattle.std.proofs.Common.{◌∙◌, sym, arith}
+use Rattle.std.proofs.Common.{◌∙◌, sym, subst, arith}
 use Rattle.bstr.specs.BStr.{bstr_bytes}
 use Rattle.pathspec_heads.proofs.SearchProofs.{counts-more}
 use Rattle.gix_pathspec.proofs.EffortProofs.{next-candidate, none-left, few-more, match-here, match-later, same-table}
-use Rattle.gix_pathspec.proofs.RoomProofs.{keeps-more, has-kept}
+use Rattle.gix_pathspec.specs.Room.{HasRoom}
 use Rattle.gix_pathspec.proofs.by_head.first_candidate.Goals as goal
 
 pub returns-in-None-clause-first : goal.returns-in-None-clause-first
@@ -12,7 +12,7 @@ returns-in-None-clause-first g c =
     sym i.rest ∙ none-left _ (bstr_bytes c.args.path) c.args.is_dir c.args.specs.now c.args.heads.now c.requires.grouped c.args.head c.loop-from.from c.requires.chain c.next_place.result c.next_place.ensures c.in-None.is i.within
 
 pub matches-requires-clause-room : goal.matches-requires-clause-room
-matches-requires-clause-room g c = has-kept _ _ _ c.requires.room c.loop-from.invariant.room
+matches-requires-clause-room g c = subst (HasRoom c.args.specs.now) (sym c.loop-from.invariant.room) c.requires.room
 
 pub matches-requires-clause-place : goal.matches-requires-clause-place
 matches-requires-clause-place g c =
@@ -46,7 +46,7 @@ loop-from-preserved g c =
     let i = c.loop-from.invariant in
     let n = next-candidate (g.L.LookUp.table c.args.look_up.now) (bstr_bytes c.args.path) c.args.is_dir c.args.specs.now c.args.heads.now c.requires.grouped c.args.head c.loop-from.from c.requires.chain c.next_place.result c.next_place.ensures c.in-Some.place c.in-Some.is in
     record {
-      room = keeps-more _ _ _ i.room c.matches.ensures.room;
+      room = c.matches.ensures.room ∙ i.room;
       within = omega (arith, n.1);
       rest = match-later _ c.args.specs.now _ _ c.in-Some.place n.1 (sym n.3 ∙ i.rest)
           (sym (same-table _ _ c.args.specs.now _ _ c.in-Some.place i.same_table) ∙ (sym c.in_ok-kind.ensures.answer ∙ c.in_default.is));

@@ -4,13 +4,12 @@ use Rattle.bstr.specs.BStr.{bstr_bytes}
 use Rattle.pathspec_glob.specs.Counts.{Counts}
 use Rattle.gix_pathspec.specs.Found.{first_match}
 use Rattle.gix_pathspec.specs.Effort.{candidate_count}
-use Rattle.gix_pathspec.specs.Room.{KeepsRoom}
 use Rattle.gix_pathspec.proofs.by_head.first_candidate.Given as goal
 
 abbrev pub invariant-loop-from : goal.invariant-loop-from
 invariant-loop-from g l =
     record {
-      room : KeepsRoom l.fn.scratch l.scratch;
+      room : l.scratch.room ≡ l.fn.scratch.room;
       within : l.from ≤ length l.specs;
       rest : first_match (g.L.LookUp.table l.fn.look_up) (drop l.from l.specs) (bstr_bytes l.path) l.is_dir ≡ first_match (g.L.LookUp.table l.fn.look_up) l.specs (bstr_bytes l.path) l.is_dir;
       same_table : g.L.LookUp.table l.look_up ≡ g.L.LookUp.table l.fn.look_up;

@@ -4,7 +4,7 @@ use Rattle.bstr.specs.BStr.{bstr_bytes}
 use Rattle.pathspec_heads.specs.Heads.{IsLastFront}
 use Rattle.pathspec_heads.proofs.CandidateProofs.{no-candidates}
 use Rattle.gix_pathspec.specs.Effort.{heads_in_order}
-use Rattle.gix_pathspec.proofs.EffortProofs.{none-begins, few-specs}
+use Rattle.gix_pathspec.proofs.EffortProofs.{none-begins}
 use Rattle.gix_pathspec.proofs.by_head.first_match.Goals as goal
 
 pub returns-in-None-clause-first : goal.returns-in-None-clause-first
@@ -16,9 +16,3 @@ returns-in-None-clause-first g c =
 
 pub first_candidate-requires-clause-head : goal.first_candidate-requires-clause-head
 first_candidate-requires-clause-head g c = (c.deepest-deepest.ensures.found.begins c.in-Some.head c.in-Some.is).0
-
-pub returns-in-Some-clause-few_compared : goal.returns-in-Some-clause-few_compared
-returns-in-Some-clause-few_compared g c = few-specs c.args.specs.now c.args.heads.now.heads c.deepest-deepest.result.compared c.requires.grouped.few c.deepest-deepest.ensures.cost
-
-pub returns-in-None-clause-few_compared : goal.returns-in-None-clause-few_compared
-returns-in-None-clause-few_compared g c = few-specs c.args.specs.now c.args.heads.now.heads c.deepest-deepest.result.compared c.requires.grouped.few c.deepest-deepest.ensures.cost

@@ -1,8 +1,7 @@
 -- One more of the search's specs is stored.
-use Rattle.std.proofs.Common.{◌∙◌, ap, map, List}
+use Rattle.std.proofs.Common.{◌∙◌, ap, map}
 use Rattle.std.proofs.lemmas.List.{map-append}
 use Rattle.bstr.specs.Owned.{bstring_bytes}
-use Rattle.bstr.specs.declared.bstring.BString.{BString}
 use Rattle.gix_pathspec.specs.Patterns.{pattern_spec}
 use Rattle.gix_pathspec.specs.Search.{specs_of}
 use Rattle.pathspec_callers.proofs.StoreProofs.{stores-next}

@@ -78,7 +78,7 @@ loop-number-preserved g c =
           (given_is table before specs at c.next.new.self c.in-Some.number c.loop-number.given.items c.visit.new.given.items e.place i.table v.given)
           (v.entered ∙ ap (after_visit specs) e.place);
       tree = v.tree ∙ (ap (λ (x : CursorContents). x.entries) e.place ∙ i.tree);
-      room = fits-kept _ _ _ i.room v.room;
+      room = fits-kept _ c.loop-number.scratch c.visit.new.scratch i.room v.room;
       table = v.table_stays ∙ i.table;
       count = v.counts ∙ i.count;
     }

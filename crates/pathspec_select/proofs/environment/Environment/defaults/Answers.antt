@@ -15,4 +15,4 @@ pub returns-in-Err : goal.returns-in-Err
 returns-in-Err c =
     let h = c.in-Err.ensures.asked in
     let same = asks_environment (words_of c.args.self.now) h.words _ _ _ (λ name word later k. rw (← k.shows) (search rules)) h.asked in
-    tells-environment c.in-Err.error c.refusal_of.result _ _ (c.in-Err.ensures.unasked h.words (words_of c.args.self.now) same) h.answer c.refusal_of.ensures
+    tells-environment c.in-Err.error c.of_environment.result _ _ (c.in-Err.ensures.unasked h.words (words_of c.args.self.now) same) h.answer c.of_environment.ensures

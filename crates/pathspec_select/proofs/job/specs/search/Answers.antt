@@ -17,7 +17,7 @@ returns-in-Ok-clause-specs c =
 
 pub returns-in-Err-clause-specs : goal.returns-in-Err-clause-specs
 returns-in-Err-clause-specs c =
-    tells-build c.in-Err.error c.refusal_of.result _ _ c.refusal_of.ensures c.in-Err.ensures.err
+    tells-build c.in-Err.error c.of_build.result _ _ c.of_build.ensures c.in-Err.ensures.err
     (λ fault h.
     let all : search_of (bstr_bytes c.new.result) (bstr_bytes c.new-2.result) (map pattern_spec c.args.patterns.items) ≡ Err fault = subst (λ (ps : List Pattern). search_of (bstr_bytes c.new.result) (bstr_bytes c.new-2.result) (map pattern_spec ps) ≡ Err fault) (All-taken h.0 h.1 h.3 ∙ h.2.0) h.4 in
     ap spec_result (rw (c.new.ensures, c.new-2.ensures) at all))

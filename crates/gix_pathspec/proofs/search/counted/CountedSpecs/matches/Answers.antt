@@ -12,7 +12,7 @@ use Rattle.gix_pathspec.proofs.search.counted.CountedSpecs.matches.Goals as goal
 pub matches-requires-clause-names : goal.matches-requires-clause-names
 matches-requires-clause-names g c =
     let ns = c.self.inside.all.items in
-    let same : map names_of c.scratch.inside.outcomes.items ≡ names_in_order ns = ap (λ (s : SpecRoom). s.names) c.scratch.view_is ∙ (c.requires.room.outcomes ∙ ap names_in_order (sym c.self.view_is)) in
+    let same : map names_of c.scratch.inside.outcomes.items ≡ names_in_order ns = ap (λ (s : SpecRoom). s.room.names) c.scratch.view_is ∙ (c.requires.room.outcomes ∙ ap names_in_order (sym c.self.view_is)) in
     names-at _ ns c.args.place _ _ same (subst (λ (ms : List Numbered). c.args.place < length ms) (sym c.self.view_is) c.requires.place) c.index_mut-outcome.ensures.value c.index.ensures
 
 pub returns-clause-answer : goal.returns-clause-answer
@@ -24,7 +24,5 @@ returns-clause-answer g c =
 pub returns-clause-room : goal.returns-clause-room
 returns-clause-room g c =
     let outcomes = c.scratch.inside.outcomes.items in
-    record {
-      tokens = c.matches.ensures.room ∙ ap (λ (s : SpecRoom). s.tokens) c.scratch.view_is;
-      names = map-set_same names_of outcomes c.args.place c.matches.new.outcome c.index_mut-outcome.result.now (c.matches.ensures.names ∙ ap names_of c.index_mut-outcome.ensures.value) ∙ ap (λ (s : SpecRoom). s.names) c.scratch.view_is;
-    }
+    let names = map-set_same names_of outcomes c.args.place c.matches.new.outcome c.index_mut-outcome.result.now (c.matches.ensures.names ∙ ap names_of c.index_mut-outcome.ensures.value) in
+    rw (c.matches.ensures.room, names) (ap (λ (s : SpecRoom). s.room) c.scratch.view_is)

@@ -1,6 +1,6 @@
 -- An include always matches, or its stem reaches the path.
 use Rattle.std.proofs.Common.{◌∙◌, sym, subst}
-use Rattle.pathspec_heads.specs.Tables.{IsTableOf}
+use Rattle.gix_pathspec.specs.Tables.{IsTableOf}
 use Rattle.gix_pathspec.specs.Reach.{stems_of}
 use Rattle.gix_pathspec.proofs.ReachProofs.{reached-by-stems, first-holds, second-holds}
 use Rattle.gix_pathspec.proofs.search.reach.Reach.reaches.Goals as goal
