@@ -11,10 +11,11 @@ use Rattle.pathspec_pattern.specs.LongText.{long_text}
 use Rattle.gix_pathspec.specs.declared.search.MatchKind.{MatchKind}
 use Rattle.gix_pathspec.specs.Results.{all_ok, ◌>>=◌}
 use Rattle.gix_pathspec.specs.NormalForm.{normal_form, climb}
-use Rattle.gix_pathspec.specs.Matching.{fit, has_attributes, spec_matches}
+use Rattle.gix_pathspec.specs.Matching.{fit, has_attributes, spec_matches, is_chosen}
 use Rattle.gix_pathspec.specs.Prefixes.{common_prefix, first_prefix_directory}
 use Rattle.gix_pathspec.specs.Tables.{stem_reaches}
 use Rattle.gix_pathspec.specs.Pruning.{reaches, can_match}
+use Rattle.gix_pathspec.specs.Skipping.{takes_whole, takes_rest, buries, holds_nothing, may_skip}
 use Rattle.gix_pathspec.specs.Directories.{directory_matches, common_directory}
 use Rattle.gix_pathspec.specs.Search.{Numbered, Answer, search_of, answer, selects, specs_of}
 use Rattle.pathspec_pattern.proofs.Asking.{parse}
@@ -70,6 +71,16 @@ selected prefix texts path = option_map selects (answered prefix texts path fals
 unfoldable pub can_match_under : List ℕ → List (List ℕ) → List ℕ → Option Bool → Option Bool
 unfolding searched can_match common_prefix reaches stem_reaches
 can_match_under prefix texts d is_dir = option_map (λ search. can_match (specs_of search) d is_dir) (searched prefix texts)
+
+-- whether a walk may skip what lies below a directory
+unfoldable pub skipped : List ℕ → List (List ℕ) → List ℕ → Option Bool
+unfolding searched may_skip holds_nothing takes_whole takes_rest buries can_match reaches stem_reaches common_prefix matches tokens_from
+skipped prefix texts d = option_map (λ search. may_skip (specs_of search) d) (searched prefix texts)
+
+-- whether a path is chosen
+unfoldable pub chosen_of : List ℕ → List (List ℕ) → List ℕ → Bool → Option Bool
+unfolding searched is_chosen spec_matches has_attributes fit matches tokens_from
+chosen_of prefix texts path is_dir = option_map (λ search. is_chosen nothing_known (specs_of search) path is_dir) (searched prefix texts)
 
 -- the common prefix
 unfoldable pub common : List ℕ → List (List ℕ) → Option (List ℕ)

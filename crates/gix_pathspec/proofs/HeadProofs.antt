@@ -56,7 +56,7 @@ glob_begins mode true pattern path h = front-from_begins_with _ _ (match_begins_
 glob_begins mode false pattern path h = front-from_begins_with _ _ (match_begins_stem mode Sensitive pattern path h)
 
 -- the same in each search mode
-glob_stem : (m : SearchMode) (s : Spec) (path : List ℕ) → glob_matches m s path ≡ true → IsFrontOf (fold_case (ignores_case s) (before_first is_wildcard s.path)) (fold_case (ignores_case s) path)
+pub glob_stem : (m : SearchMode) (s : Spec) (path : List ℕ) → glob_matches m s path ≡ true → IsFrontOf (fold_case (ignores_case s) (before_first is_wildcard s.path)) (fold_case (ignores_case s) path)
 glob_stem ShellGlob s path h = glob_begins Shell (ignores_case s) s.path path h
 glob_stem Literal s path h = cc
 glob_stem PathAwareGlob s path h = glob_begins PathAware (ignores_case s) s.path path h
@@ -136,7 +136,7 @@ fits-stem s path is_dir a h =
 -- ---- the head
 
 -- a prefix directory that counts begins the path
-is_in_prefix_directory-front : (s : Spec) (path : List ℕ) (is_dir : Bool) → ignores_case s ≡ true → is_in_prefix_directory s path is_dir ≡ true → IsFrontOf (prefix_directory s) path
+pub is_in_prefix_directory-front : (s : Spec) (path : List ℕ) (is_dir : Bool) → ignores_case s ≡ true → is_in_prefix_directory s path is_dir ≡ true → IsFrontOf (prefix_directory s) path
 is_in_prefix_directory-front s path is_dir i h =
     let d = prefix_directory s in
     elim (which_of_four (not (ignores_case s)) (is_empty d) (is_below path d) (bytes_eq path d && is_dir) h) [

@@ -15,6 +15,10 @@ pub mod PruningSafeProofs
 pub mod NotChosenProofs
 pub mod PruningNearProofs
 pub mod SharpPruningProofs
+pub mod SkipProofs
+pub mod TakerProofs
+pub mod SkipTableProofs
+pub mod SkipExactProofs
 pub mod DirectoryProofs
 mod Asking
 mod MatchingRows
@@ -25,7 +29,9 @@ pub mod SlashProofs
 pub mod DirectoryCalls
 mod SearchRows
 mod PruningRows
+mod SkipRows
 mod DirectoryRows
 mod DirectoryPremiseRows
 pub mod EffortProofs
+pub mod HeadSearchProofs
 pub mod ReachProofs

@@ -38,7 +38,7 @@ always-matches table s path is_dir n a e =
     rw (k, a, e) refl
 
 -- three tests that hold
-all_three : (a b c : Bool) → (a && b && c) ≡ true → (a ≡ true) × (b ≡ true) × (c ≡ true)
+pub all_three : (a b c : Bool) → (a && b && c) ≡ true → (a ≡ true) × (b ≡ true) × (c ≡ true)
 all_three true true true h = (refl, refl, refl)
 all_three true true false h = cc
 all_three true false c h = cc

@@ -34,7 +34,7 @@ takes_only_below-else s (Some true) n = refl
 takes_only_below-else s (Some false) n = absurd (n refl)
 
 -- so it reaches the directory
-reaches-dir : (s : Spec) (d path : List ℕ) (is_dir : Bool) (asked : Option Bool) → asked ≢ Some false → IsAtOrBelow path d → fits s path is_dir ≡ true → reaches s d asked ≡ true
+pub reaches-dir : (s : Spec) (d path : List ℕ) (is_dir : Bool) (asked : Option Bool) → asked ≢ Some false → IsAtOrBelow path d → fits s path is_dir ≡ true → reaches s d asked ≡ true
 unfolding reaches stem_reaches
 reaches-dir s d path is_dir asked n below h = elim (cases_Bool (always_matches s)) [
   | inl a ↦ rw a refl

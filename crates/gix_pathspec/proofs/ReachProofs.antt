@@ -1,35 +1,49 @@
 -- Includes reach a path where one always matches, or the stem of another reaches it.
-use Rattle.std.proofs.Common.{◌≡◌, Bool, true, false, not, ◌&&◌, ◌||◌, cond, refl, sym, ◌∙◌, List, [], ◌∷◌, ℕ, Option, map, filter}
+use Rattle.std.proofs.Common.{◌≡◌, Bool, true, false, ◌&&◌, ◌||◌, cond, refl, sym, ◌∙◌, List, [], ◌∷◌, ℕ, Option, map, filter}
 use Rattle.std.specs.List.{list_any}
 use Rattle.gix_pathspec.specs.Tables.{stem_reaches}
 use Rattle.gix_pathspec.specs.Specs.{Spec, is_include, always_matches}
 use Rattle.gix_pathspec.specs.Pruning.{stem_of, reaches}
-use Rattle.gix_pathspec.specs.Reach.{stems_of}
+use Rattle.gix_pathspec.specs.Reach.{is_buried, has_stem, stems_of, reaches_live}
 
 module _ (d : List ℕ) (is_dir : Option Bool) where
-  -- an include reaches d where one always matches, or the stem of another does
-  pub reached-by-stems : (specs : List Spec) → list_any (λ s. is_include s && reaches s d is_dir) specs
-      ≡ (list_any (λ s. is_include s && always_matches s) specs || list_any (λ t. stem_reaches t d is_dir) (stems_of specs))
+  -- the test of the stems of these
+  abbrev some_stem : Bool → List Spec → List Spec → Bool
+  some_stem buried all specs = list_any (λ t. stem_reaches t d is_dir) (stems_of buried all specs)
+
+  abbrev some_total : List Spec → Bool
+  some_total specs = list_any (λ s. is_include s && always_matches s) specs
+
+  by_stems : (all specs : List Spec) → list_any (λ s. is_include s && reaches s d is_dir) specs ≡ (some_total specs || some_stem false all specs || some_stem true all specs)
   unfolding reaches
-  reached-by-stems [] = refl
-  reached-by-stems (s ∷ specs) = here (is_include s) (always_matches s) refl refl (reached-by-stems specs)
+  by_stems all [] = refl
+  by_stems all (s ∷ specs) = here (is_include s) (always_matches s) (is_buried all s) refl refl refl (by_stems all specs)
     where
-      tail : (a b : Bool) → a ≡ true → (a || b) ≡ true
-      tail a b h = rw h refl
+      live : (r a b c : Bool) → (r || (a || b || c)) ≡ (a || (r || b) || c)
+      live true true b c = refl
+      live true false b c = refl
+      live false a b c = refl
 
-      swap : (r a b : Bool) → (r || (a || b)) ≡ (a || (r || b))
-      swap true true b = refl
-      swap true false b = refl
-      swap false a b = refl
+      buried : (r a b c : Bool) → (r || (a || b || c)) ≡ (a || b || (r || c))
+      buried true true b c = refl
+      buried true false true c = refl
+      buried true false false c = refl
+      buried false a b c = refl
 
-      here : (i w : Bool) → is_include s ≡ i → always_matches s ≡ w
-          → list_any (λ s. is_include s && reaches s d is_dir) specs ≡ (list_any (λ s. is_include s && always_matches s) specs || list_any (λ t. stem_reaches t d is_dir) (stems_of specs))
+      here : (i w u : Bool) → is_include s ≡ i → always_matches s ≡ w → is_buried all s ≡ u
+          → list_any (λ s. is_include s && reaches s d is_dir) specs ≡ (some_total specs || some_stem false all specs || some_stem true all specs)
           → ((is_include s && reaches s d is_dir) || list_any (λ s. is_include s && reaches s d is_dir) specs)
-          ≡ (((is_include s && always_matches s) || list_any (λ s. is_include s && always_matches s) specs)
-          || list_any (λ t. stem_reaches t d is_dir) (map stem_of (cond (is_include s && not (always_matches s)) (s ∷ filter (λ s. is_include s && not (always_matches s)) specs) (filter (λ s. is_include s && not (always_matches s)) specs))))
-      here false w i a later = rw i later
-      here true true i a later = rw (i, a) refl
-      here true false i a later = rw (i, a, later) (swap (stem_reaches (stem_of s) d is_dir) (list_any (λ s. is_include s && always_matches s) specs) (list_any (λ t. stem_reaches t d is_dir) (stems_of specs)))
+          ≡ (((is_include s && always_matches s) || some_total specs)
+          || list_any (λ t. stem_reaches t d is_dir) (map stem_of (cond (has_stem false all s) (s ∷ filter (has_stem false all) specs) (filter (has_stem false all) specs)))
+          || list_any (λ t. stem_reaches t d is_dir) (map stem_of (cond (has_stem true all s) (s ∷ filter (has_stem true all) specs) (filter (has_stem true all) specs))))
+      here false w u i a e later = rw i later
+      here true true u i a e later = rw (i, a) refl
+      here true false false i a e later = rw (e, i, a, later) (live (stem_reaches (stem_of s) d is_dir) (some_total specs) (some_stem false all specs) (some_stem true all specs))
+      here true false true i a e later = rw (e, i, a, later) (buried (stem_reaches (stem_of s) d is_dir) (some_total specs) (some_stem false all specs) (some_stem true all specs))
+
+  -- an include reaches d where one always matches, or the stem of another does, buried or not
+  pub reached-by-stems : (specs : List Spec) → list_any (λ s. is_include s && reaches s d is_dir) specs ≡ (reaches_live specs d is_dir || list_any (λ t. stem_reaches t d is_dir) (stems_of true specs specs))
+  reached-by-stems specs = by_stems specs specs
 
 -- ---- as the code has them
 

@@ -27,8 +27,8 @@ use Rattle.gix_pathspec.proofs.PruningNearProofs.{can_match-parts}
 
 -- ---- what a plain include is
 
--- what is known of an include that is plain but for attributes
-record Plain (s : Spec) : Type 0 where
+-- what is known of a spec that is plain but for attributes
+pub record Plain (s : Spec) : Type 0 where
   pub wild : has_wildcard s ≡ false
   pub prefix : (ignores_case s && not (is_empty (prefix_directory s))) ≡ false
 
@@ -40,7 +40,7 @@ plain_parts s h =
     record { wild = not-true (has_wildcard s) r.1; prefix = not-true (ignores_case s && not (is_empty (prefix_directory s))) q.1 }
 
 -- it asks for no prefix directory
-plain_prefix : (s : Spec) (x : List ℕ) (is_dir : Bool) → Plain s → is_in_prefix_directory s x is_dir ≡ true
+pub plain_prefix : (s : Spec) (x : List ℕ) (is_dir : Bool) → Plain s → is_in_prefix_directory s x is_dir ≡ true
 plain_prefix s x is_dir h = elim (cases_Bool (ignores_case s)) [
   | inr n ↦ rw n refl
   | inl i ↦ elim (cases_Bool (is_empty (prefix_directory s))) [
@@ -52,7 +52,7 @@ plain_prefix s x is_dir h = elim (cases_Bool (ignores_case s)) [
 -- ---- what it fits
 
 -- the tests that are left where there is no wildcard
-plain_fits : (s : Spec) (x : List ℕ) (is_dir : Bool) → Plain s → fits s x is_dir ≡ (always_matches s || (is_verbatim_match s x is_dir || is_prefix_match s x))
+pub plain_fits : (s : Spec) (x : List ℕ) (is_dir : Bool) → Plain s → fits s x is_dir ≡ (always_matches s || (is_verbatim_match s x is_dir || is_prefix_match s x))
 unfolding fit
 plain_fits s x is_dir h = rw (plain_prefix s x is_dir h, h.wild) (by_tests (always_matches s) (is_verbatim_match s x is_dir) (is_prefix_match s x))
   where
@@ -63,7 +63,7 @@ plain_fits s x is_dir h = rw (plain_prefix s x is_dir h, h.wild) (by_tests (alwa
     by_tests false false false = refl
 
 -- it fits a directory at or below its path, without case where it has none
-below-fits : (s : Spec) (x : List ℕ) → Plain s → IsAtOrBelow (fold_case (ignores_case s) x) (fold_case (ignores_case s) s.path) → fits s x true ≡ true
+pub below-fits : (s : Spec) (x : List ℕ) → Plain s → IsAtOrBelow (fold_case (ignores_case s) x) (fold_case (ignores_case s) s.path) → fits s x true ≡ true
 below-fits s x h (inl e) =
     plain_fits s x true h ∙ or_right (always_matches s) (is_verbatim_match s x true || is_prefix_match s x) (or_left (is_verbatim_match s x true) (is_prefix_match s x)
     (and_from (bytes_eq (fold_case (ignores_case s) x) (fold_case (ignores_case s) s.path)) (takes_kind s true) ((bytes_eq-Decides (fold_case (ignores_case s) x) (fold_case (ignores_case s) s.path)).1 e) (or_right (not (wants_directory s)) true refl)))
@@ -71,13 +71,13 @@ below-fits s x h (inr b) =
     plain_fits s x true h ∙ or_right (always_matches s) (is_verbatim_match s x true || is_prefix_match s x) (or_right (is_verbatim_match s x true) (is_prefix_match s x) (is_below-from_IsBelow (fold_case (ignores_case s) x) (fold_case (ignores_case s) s.path) b))
 
 -- an include that always matches fits each path
-always-fits : (s : Spec) (x : List ℕ) (is_dir : Bool) → Plain s → always_matches s ≡ true → fits s x is_dir ≡ true
+pub always-fits : (s : Spec) (x : List ℕ) (is_dir : Bool) → Plain s → always_matches s ≡ true → fits s x is_dir ≡ true
 always-fits s x is_dir h a = plain_fits s x is_dir h ∙ or_left (always_matches s) (is_verbatim_match s x is_dir || is_prefix_match s x) a
 
 -- ---- what it reaches
 
 -- a stem without a wildcard leads only to what lies at or below it, and to what it lies below
-plain-leads_to : (stem d : List ℕ) → leads_to stem false d ≡ true → IsAtOrBelow d stem ⊎ IsBelow stem d
+pub plain-leads_to : (stem d : List ℕ) → leads_to stem false d ≡ true → IsAtOrBelow d stem ⊎ IsBelow stem d
 plain-leads_to stem d h = elim (which_of_four (is_below stem d) (bytes_eq d stem) (is_below d stem) false h) [
   | inl b ↦ inr (IsBelow-from_is_below stem d b)
   | inr w ↦ elim w [
@@ -90,14 +90,14 @@ plain-leads_to stem d h = elim (which_of_four (is_below stem d) (bytes_eq d stem
 ]
 
 -- so it reaches what always matches, or what its path leads to
-plain_reaches : (s : Spec) (d : List ℕ) (asked : Option Bool) → Plain s → asked ≢ Some false → always_matches s ≡ false → reaches s d asked ≡ leads_to (fold_case (ignores_case s) s.path) false (fold_case (ignores_case s) d)
+pub plain_reaches : (s : Spec) (d : List ℕ) (asked : Option Bool) → Plain s → asked ≢ Some false → always_matches s ≡ false → reaches s d asked ≡ leads_to (fold_case (ignores_case s) s.path) false (fold_case (ignores_case s) d)
 unfolding reaches stem_reaches
 plain_reaches s d asked h n m = rw (m, takes_only_below-else s asked n, stem_is_path s (not_nil s m) h.wild, h.wild) refl
 
 -- ---- below a path, without case
 
 -- what stands in x after the folded d and its slash
-abbrev rest_after : Bool → List ℕ → List ℕ → List ℕ
+abbrev pub rest_after : Bool → List ℕ → List ℕ → List ℕ
 rest_after f d x = drop (length (fold_case f d ++ slash ∷ [])) x
 
 -- what stands after a front of the folded text, folded
@@ -105,11 +105,15 @@ folded-drop_front : (f : Bool) (u v x : List ℕ) → fold_case f x ≡ u ++ v �
 folded-drop_front f u v x e = folded-drop f (length u) x ∙ (ap (drop (length u)) e ∙ drop-append_seam u v)
 
 -- a path that lies below d without case is one below d, without case
-folded-rest_after : (f : Bool) (x d : List ℕ) → IsBelow (fold_case f x) (fold_case f d) → fold_case f (d ++ slash ∷ rest_after f d x) ≡ fold_case f x
+pub folded-rest_after : (f : Bool) (x d : List ℕ) → IsBelow (fold_case f x) (fold_case f d) → fold_case f (d ++ slash ∷ rest_after f d x) ≡ fold_case f x
 folded-rest_after f x d h =
     folded-append f d (slash ∷ rest_after f d x)
     ∙ (ap (λ t. fold_case f d ++ t) (folded-slash f (rest_after f d x))
     ∙ (ap (λ t. fold_case f d ++ slash ∷ t) (folded-drop_front f (fold_case f d ++ slash ∷ []) h.0 x (h.1 ∙ sym (append_assoc (fold_case f d) (slash ∷ []) h.0))) ∙ sym h.1))
+
+-- which is made of bytes where both paths are
+pub rest_after-bytes : (f : Bool) (d x : List ℕ) → IsBytes x → IsBytes d → IsBytes (d ++ slash ∷ rest_after f d x)
+rest_after-bytes f d x b c = All-append (λ b. b < 256) d (slash ∷ rest_after f d x) c (All-cons (λ b. b < 256) slash (rest_after f d x) (omega arith) (All-drop (λ b. b < 256) (length (fold_case f d ++ slash ∷ [])) x b))
 
 -- ---- from reaching to taking
 
@@ -123,7 +127,7 @@ taken_below s d h b c w =
     let rest = rest_after (ignores_case s) d s.path in (
       d ++ slash ∷ rest,
       true,
-      All-append (λ b. b < 256) d (slash ∷ rest) c (All-cons (λ b. b < 256) slash rest (omega arith) (All-drop (λ b. b < 256) (length (fold_case (ignores_case s) d ++ slash ∷ [])) s.path b)),
+      rest_after-bytes (ignores_case s) d s.path b c,
       inr (rest, refl),
       below-fits s (d ++ slash ∷ rest) h (inl (folded-rest_after (ignores_case s) s.path d w)),
     )
@@ -161,7 +165,7 @@ can_match-takes takes specs w d asked n b k h =
     )
 
 -- a path that is taken lies at d or below it
-at_or_below : (x d : List ℕ) (is_dir : Bool) → (x ≡ d) × IsTrue is_dir ⊎ IsBelow x d → IsAtOrBelow x d
+pub at_or_below : (x d : List ℕ) (is_dir : Bool) → (x ≡ d) × IsTrue is_dir ⊎ IsBelow x d → IsAtOrBelow x d
 at_or_below x d is_dir (inl e) = inl e.0
 at_or_below x d is_dir (inr b) = inr b
 

@@ -9,6 +9,7 @@ pub use Rattle.pathspec_parts.specs.Tokens
 pub use Rattle.pathspec_parts.specs.GlobRelation
 pub use Rattle.pathspec_heads.specs.Stems
 pub use Rattle.pathspec_heads.specs.Tables
+pub use Rattle.pathspec_heads.specs.PathTables
 pub use Rattle.pathspec_pattern.specs.Results
 pub use Rattle.pathspec_pattern.specs.Faults
 pub use Rattle.pathspec_pattern.specs.Errors
@@ -36,3 +37,7 @@ pub mod Effort
 pub mod Building
 pub mod Reach
 pub mod Lines
+pub mod Skipping
+pub mod Takers
+pub mod SkipTables
+pub mod SkipLaws

@@ -37,6 +37,13 @@ pub record IsFresh (counts : MatchCounts) : Type 0 where
   pub tested : counts.tested ≡ 0
   pub compared : counts.compared ≡ 0
 
+-- the counts of the last call begin anew, and the totals stay
+pub record BeginsCounts (old new : MatchCounts) : Type 0 where
+  pub last_tested : new.last_tested ≡ 0
+  pub last_compared : new.last_compared ≡ 0
+  pub tested : new.tested ≡ old.tested
+  pub compared : new.compared ≡ old.compared
+
 -- What a search holds: its specs in search order, where they come from, and the counts of its own matches.
 pub record SearchContents : Type 0 where
   pub specs : List Numbered

@@ -11,9 +11,11 @@ ghost use Rattle.pathspec_glob.specs.Counts.{Counts};
 ghost use Rattle.pathspec_heads.specs.Heads.{IsChainOf};
 ghost use Rattle.gix_pathspec.specs.Found.{IsFirstFound};
 ghost use Rattle.gix_pathspec.specs.Prefixes.{common_prefix};
-ghost use Rattle.gix_pathspec.specs.Search.{specs_of, IsFresh};
+ghost use Rattle.gix_pathspec.specs.Search.{specs_of, BeginsCounts, IsFresh};
 ghost use Rattle.gix_pathspec.specs.Room.{HasRoom, Fits};
 ghost use Rattle.gix_pathspec.specs.Effort.{ArePlacesOf, candidate_count, IsCounted, IsLittleCompared, is_unasked};
+
+pub(crate) mod takers;
 
 use crate::search::MatchKind;
 use crate::search::counted::{CountedHeads, CountedSpecs, SpecScratch};
@@ -85,6 +87,14 @@ impl Scratch {
         ensures { result.now.room ≡ self.now.room }
     {
         &self.specs
+    }
+
+    /// Begins the counts of the last call anew.
+    pub(crate) fn begin(&mut self)
+        ensures room { self.new.room ≡ self.old.room }
+        ensures begun { BeginsCounts self.old.counts self.new.counts }
+    {
+        self.effort = NO_EFFORT;
     }
 
     /// How many specs the last match asked whether they match the path; a spec at which the look-up failed is one. It is 0

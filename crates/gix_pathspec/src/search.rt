@@ -9,12 +9,15 @@ mod patterns;
 mod pruning;
 mod reach;
 mod scratch;
+mod skipping;
 mod spec;
+mod takers;
 pub(crate) mod texts;
 
 use crate::Pattern;
 pub use crate::by_head::Scratch;
 use crate::by_head::SpecsByHead;
+use crate::by_head::takers::TakersByHead;
 use bstr::BString;
 pub use found::Match;
 pub use init::BuildError;
@@ -45,8 +48,10 @@ pub struct Search {
     specs: SpecsByHead,
     /// The room for the matches of [`Search::pattern_matching_relative_path`].
     scratch: Scratch,
-    /// Which paths the includes reach.
+    /// Which paths the includes reach, and what the excludes take whole by their paths.
     reach: Reach,
+    /// The excludes that are asked one by one whether a walk may skip a directory.
+    takers: TakersByHead,
     /// The spec `:`, which answers where no spec does.
     nil: Pattern,
     /// Where the specs come from, as a path or a name. Nothing here reads it.
@@ -63,7 +68,7 @@ impl Model for Search {
 
     ghost view = { λ s. record { specs = s.specs; source = option_map bstring_bytes s.source; counts = s.scratch.counts } };
 
-    ghost invariant = { λ s. IsSearch s.specs s.reach s.nil s.scratch };
+    ghost invariant = { λ s. IsSearch s.specs s.reach s.takers s.nil s.scratch };
 }
 
 impl fmt::Debug for Search {

@@ -1,6 +1,6 @@
 -- What a search selects, and what it has nothing of.
 use Rattle.std.specs.Prelude.{ℕ, Bool, false, List, length, filter}
-use Rattle.gix_pathspec.specs.Paths.{IsAtOrBelow}
+use Rattle.gix_pathspec.specs.Paths.{IsBelow}
 use Rattle.gix_pathspec.specs.Attributes.{Table}
 use Rattle.gix_pathspec.specs.Matching.{IsChosen}
 use Rattle.gix_pathspec.specs.Search.{SearchContents, specs_of, answer, selects}
@@ -13,6 +13,6 @@ IsChosenFile table search file = IsChosen table (specs_of search.specs) file fal
 abbrev pub selected_count : Table → SearchContents → List (List ℕ) → ℕ
 selected_count table search files = length (filter (λ file. selects (answer table search.specs file false)) files)
 
--- nothing at or below the directory is chosen, whatever a look-up says
-abbrev pub HoldsNothing : SearchContents → List ℕ → Type 0
-HoldsNothing search directory = (table : Table) (path : List ℕ) (is_dir : Bool) → IsAtOrBelow path directory → ¬ (IsChosen table (specs_of search.specs) path is_dir)
+-- nothing below the directory is chosen, whatever a look-up says
+abbrev pub HoldsNothingBelow : SearchContents → List ℕ → Type 0
+HoldsNothingBelow search directory = (table : Table) (path : List ℕ) (is_dir : Bool) → IsBelow path directory → ¬ (IsChosen table (specs_of search.specs) path is_dir)

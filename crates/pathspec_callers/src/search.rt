@@ -3,7 +3,7 @@ ghost use Rattle.std.specs.Prelude.{◌≡◌, ◌≢◌, ◌↔◌, [], map, If
 ghost use Rattle.bstr.specs.BStr.{bstr_bytes};
 ghost use Rattle.pathspec_parts.specs.Paths.{without_last_slash};
 ghost use Rattle.gix_pathspec.specs.Room.{Fits};
-ghost use Rattle.pathspec_callers.specs.Selections.{IsChosenFile, selected_count, HoldsNothing};
+ghost use Rattle.pathspec_callers.specs.Selections.{IsChosenFile, selected_count, HoldsNothingBelow};
 
 use bstr::BStr;
 use gix_pathspec::Search;
@@ -53,18 +53,22 @@ pub fn count_selected<L: LookUp>(
     Ok(count)
 }
 
-/// Whether a walker may skip a directory: then nothing at or below it is chosen, whatever a look-up says.
-pub fn may_skip(search: &Search, directory: BStr<'_>) -> bool
-    ensures { IsTrue result → HoldsNothing search.now (bstr_bytes directory.entry) }
+/// Whether a walker may skip a directory: then nothing below it is chosen, whatever a look-up says.
+pub fn may_skip(search: &Search, directory: BStr<'_>, scratch: &mut Scratch) -> bool
+    requires { Fits search.now.specs scratch.old }
+    ensures skipped { IsTrue result → HoldsNothingBelow search.now (bstr_bytes directory.entry) }
+    ensures room { scratch.new.room ≡ scratch.old.room }
 {
-    !search.can_match_relative_path(directory, Some(true))
+    search.may_skip(directory, scratch)
 }
 
 /// As [`may_skip`], for a directory as `git status` prints it, with a slash at its end.
-pub fn may_skip_printed(search: &Search, directory: BStr<'_>) -> bool
-    ensures { IsTrue result
-        → HoldsNothing search.now (without_last_slash (bstr_bytes directory.entry)) }
+pub fn may_skip_printed(search: &Search, directory: BStr<'_>, scratch: &mut Scratch) -> bool
+    requires { Fits search.now.specs scratch.old }
+    ensures skipped { IsTrue result
+        → HoldsNothingBelow search.now (without_last_slash (bstr_bytes directory.entry)) }
+    ensures room { scratch.new.room ≡ scratch.old.room }
 {
     let (directory, _) = strip_last_slash(directory.as_bytes());
-    may_skip(search, BStr::new(directory))
+    may_skip(search, BStr::new(directory), scratch)
 }

@@ -17,7 +17,7 @@ use Rattle.pathspec_glob.specs.Globs.{GlobSource, AnswersGlob, AnswersTail, is_t
 use Rattle.pathspec_glob.specs.ByteSets.{listed, listed_tokens}
 use Rattle.pathspec_glob.proofs.ByteSetProofs.{matches-listed, plain-listed}
 use Rattle.pathspec_glob.proofs.GlobProofs.{glob_is_relation}
-use Rattle.pathspec_glob.proofs.TokenProofs.{few_tokens}
+use Rattle.pathspec_glob.proofs.TokenProofs.{few_tokens, few_listed}
 use Rattle.pathspec_glob.proofs.TailProofs.{matches-ends_with, tail-fits, tokens-tail}
 use Rattle.pathspec_glob.proofs.PartProofs.{middle-deep, middle-star, middle-few, length-parts}
 use Rattle.pathspec_glob.proofs.EndProofs.{parts-match}
@@ -81,7 +81,7 @@ module _ (mode : Mode) (case : Case) (pattern : List ℕ) (h m t : TokenList) (p
   -- ---- steps
 
   few-middle : length m.tokens ≤ length pattern
-  few-middle = let few = few_tokens mode pattern in let some = middle-few mode (listed_tokens mode pattern) in let same = length-map (tokens mode pattern) listed in rw parted.middle_is (omega arith)
+  few-middle = let few = few_listed mode pattern in let some = middle-few mode (listed_tokens mode pattern) in rw parted.middle_is (omega arith)
 
   pub few-steps : (steps : ℕ) → steps ≤ length text → steps ≤ (length pattern + 1) * length text
   few-steps steps few = let more = mul-le-mul {n₁ = 1} {m₁ = length text} {n₂ = length pattern + 1} {m₂ = length text} (omega arith) (omega arith) in omega arith

@@ -2,6 +2,7 @@
 use Rattle.std.proofs.Common.{◌≡◌, ℕ, zero, suc, ◌+◌, ◌-◌, ◌<◌, ◌≤◌, ◌==◌, Bool, true, false, inl, inr, refl, ap, subst, sym, ◌∙◌, List, [], ◌∷◌, ◌++◌, length, get_or, drop, map, codes, Option, Some, None, if◌then◌else◌, arith, append_assoc, append-nil}
 use Rattle.std.specs.List.{prefix_len}
 use Rattle.std.proofs.lemmas.Bool.{cases_Bool}
+use Rattle.std.proofs.lemmas.List.{length-map}
 use Rattle.std.proofs.lemmas.List.Sums.{prefix_len-le-length}
 use Rattle.std.proofs.Math.Numerals.{one-add, add-one}
 use Rattle.pathspec_glob.specs.declared.Mode.{Mode}
@@ -12,7 +13,7 @@ use Rattle.pathspec_glob.specs.Tokens.Front.{Listed, Closed, Broken}
 use Rattle.pathspec_glob.specs.Tokens.OneByte.{Byte, Quoted, Any, Bracket, Dead}
 use Rattle.pathspec_glob.specs.Tokens.Token.{One, Star, Deep}
 use Rattle.pathspec_glob.specs.GlobRelation.{items_hold}
-use Rattle.pathspec_glob.specs.ByteSets.{literals, listed, listed_piece}
+use Rattle.pathspec_glob.specs.ByteSets.{literals, listed, listed_piece, listed_tokens}
 use Rattle.pathspec_glob.proofs.ByteSetProofs.{literals-same}
 
 -- a bracket's items end before the bytes do
@@ -197,3 +198,7 @@ few_from mode zero after_slash (b ∷ bs) =
 -- A pattern has at most as many tokens as bytes.
 pub few_tokens : (mode : Mode) (pattern : List ℕ) → length (tokens mode pattern) ≤ length pattern
 few_tokens mode pattern = few_from mode 0 true pattern
+
+-- and no more where its brackets list each byte
+pub few_listed : (mode : Mode) (pattern : List ℕ) → length (listed_tokens mode pattern) ≤ length pattern
+few_listed mode pattern = let few = few_tokens mode pattern in let same = length-map (tokens mode pattern) listed in omega arith

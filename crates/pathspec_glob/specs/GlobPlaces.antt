@@ -1,5 +1,5 @@
 -- Places in the tokens of a glob: a place is before a token that has just been come to, or within one that has taken bytes and may take more.
-use Rattle.std.specs.Prelude.{◌≡◌, ◌<◌, ◌≤◌, nat_lt, ℕ, zero, suc, ◌+◌, ◌-◌, ◌*◌, ◌^◌, Bool, true, false, not, ◌&&◌, ◌||◌, List, [], ◌∷◌, drop, ◌==◌, length}
+use Rattle.std.specs.Prelude.{◌≡◌, ◌<◌, ◌≤◌, nat_lt, ℕ, zero, suc, ◌+◌, ◌-◌, ◌*◌, ◌^◌, Bool, true, false, not, ◌&&◌, ◌||◌, List, [], ◌∷◌, ◌++◌, drop, ◌==◌, length}
 use Rattle.pathspec_glob.specs.declared.Mode.{Mode}
 use Rattle.pathspec_glob.specs.declared.Case.{Case}
 use Rattle.pathspec_glob.specs.declared.places.Places.{Places}
@@ -122,6 +122,11 @@ AcceptsNothing parts case places = (text : List ℕ) → places_accept parts cas
 abbrev pub AcceptsAfterByte : TokenList → Case → Places → Places → ℕ → Type 0
 AcceptsAfterByte parts case old new b =
     (bs : List ℕ) → places_accept parts case new bs ≡ places_accept parts case old (b ∷ bs)
+
+-- after a text, where some place is left, the new places lead to what the old ones lead to before it; where none is, the old ones lead no text that begins with it to an end
+abbrev pub AcceptsAfterText : TokenList → Case → Places → Places → List ℕ → Bool → Type 0
+AcceptsAfterText parts case old new text some =
+    (rest : List ℕ) → places_accept parts case old (text ++ rest) ≡ (some && places_accept parts case new rest)
 
 -- the moves are those of the tokens: which take any number of bytes, and which may be passed over with the next
 pub record IsMovesOf (parts : TokenList) (moves : EmptyMoves) : Type 0 where

@@ -5,6 +5,7 @@ use Rattle.pathspec_glob.specs.declared.Case.{Case}
 use Rattle.pathspec_glob.specs.Bytes.{slash}
 use Rattle.pathspec_glob.specs.Tokens.{Token}
 use Rattle.pathspec_glob.specs.Tokens.Token.{One, Star, Deep}
+use Rattle.pathspec_glob.specs.OpenEnds.{is_any_run}
 use Rattle.pathspec_glob.specs.GlobRelation.{takes, passes_over}
 
 -- the tokens of a glob, and the mode that they are read in
@@ -23,16 +24,11 @@ abbrev pub is_wide_at : List Token → Bool
 is_wide_at [] = false
 is_wide_at (t ∷ ts) = is_wide t
 
--- the token that takes any bytes
-abbrev pub is_deep_token : Token → Bool
-is_deep_token Deep = true
-is_deep_token _ = false
-
 -- the first of the tokens may stand for nothing together with the second
 abbrev pub may_pass_over_at : Mode → List Token → Bool
 may_pass_over_at mode [] = false
 may_pass_over_at mode (t ∷ []) = false
-may_pass_over_at mode (t ∷ next ∷ ts) = is_deep_token t && passes_over mode next
+may_pass_over_at mode (t ∷ next ∷ ts) = is_any_run t && passes_over mode next
 
 -- the token takes a byte, alone or with others
 abbrev pub takes_byte : Mode → Case → Token → ℕ → Bool

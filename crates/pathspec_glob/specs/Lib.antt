@@ -1,5 +1,6 @@
 pub mod Bytes
 pub mod Tokens
+pub mod OpenEnds
 pub mod GlobRelation
 pub mod GlobForms
 pub mod GlobSteps
@@ -10,5 +11,6 @@ pub mod BitVecs
 pub mod GlobPlaces
 pub mod GlobWays
 pub mod Globs
+pub mod DirectoryGlobs
 pub mod Counts
 pub mod ByteSets

@@ -9,6 +9,7 @@ ghost use Rattle.pathspec_glob.specs.Globs.{MatchBeginsStem};
 mod bit_vec;
 mod brackets;
 mod counted;
+mod directory_glob;
 mod ends;
 mod matcher;
 mod middle;
@@ -19,6 +20,7 @@ mod sets;
 mod source;
 mod tokens;
 
+pub use directory_glob::DirectoryGlob;
 pub use matcher::Glob;
 pub use scratch::Scratch;
 

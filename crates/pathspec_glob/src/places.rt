@@ -1,7 +1,8 @@
 //! Sets of places in bit vectors: the places in a glob that the front of a text leads to.
-ghost use Rattle.std.specs.Prelude.{IsTrue, ◌≡◌, ◌≤◌, ◌<◌, ◌+◌, ◌*◌, ◌^◌, IfOk, length};
+ghost use Rattle.std.specs.Prelude.{IsTrue, ◌≡◌, ◌≤◌, ◌<◌, ◌+◌, ◌*◌, ◌^◌, IfOk, [], ◌∷◌, ◌++◌, length};
+ghost use Rattle.pathspec_glob.specs.Bytes.{slash};
 ghost use Rattle.pathspec_glob.specs.Counts.{KeepsCount};
-ghost use Rattle.pathspec_glob.specs.GlobPlaces.{HasRoom, IsBounded, IsMadeFor, IsMovesOf, KeepsRoom, AcceptsFromStart};
+ghost use Rattle.pathspec_glob.specs.GlobPlaces.{HasRoom, IsBounded, IsMadeFor, IsMovesOf, KeepsRoom, AcceptsAfterText, AcceptsFromStart};
 ghost use Rattle.pathspec_glob.specs.GlobRelation.{matches};
 
 mod closure;
@@ -76,12 +77,70 @@ impl Places {
         ensures room { KeepsRoom self.old self.new }
     {
         self.begin(tokens);
+        self.take_text(tokens, moves, text, case, steps) && self.reach_end(tokens, moves)
+    }
+
+    /// Whether the tokens match a directory's path with a slash behind it: by the places that the path leads to, and the
+    /// slash from there.
+    ///
+    /// It tests each token at most once on a byte, the slash too, and takes no memory.
+    pub fn run_directory(
+        &mut self,
+        tokens: &CountedTokens,
+        moves: &EmptyMoves,
+        directory: &[u8],
+        case: Case,
+        steps: &mut Steps,
+    ) -> bool
+        requires moves { IsMovesOf tokens.now moves.now }
+        requires room { HasRoom (length tokens.now.tokens) self.old }
+        requires steps { steps.old.last + length tokens.now.tokens * (length directory.now + 1)
+            < 2 ^ 128 }
+        ensures answer { result
+            ≡ matches tokens.now.mode case tokens.now.tokens (directory.now ++ slash ∷ []) }
+        ensures most { steps.new.last
+            ≤ steps.old.last + length tokens.now.tokens * (length directory.now + 1) }
+        ensures least { IsTrue result
+            → steps.old.last + (length directory.now + 1) ≤ steps.new.last }
+        ensures counted { KeepsCount steps.old steps.new }
+        ensures room { KeepsRoom self.old self.new }
+    {
+        self.begin(tokens);
+        self.take_text(tokens, moves, directory, case, steps)
+            && self.advance(tokens, moves, b'/', case, steps)
+            && self.reach_end(tokens, moves)
+    }
+
+    // In line, so that the loop of a run is its own.
+    /// Goes on by the bytes of a text, and says whether a token was tested on each. Where none was, no place is active, and
+    /// it stops.
+    #[inline(always)]
+    fn take_text(
+        &mut self,
+        tokens: &CountedTokens,
+        moves: &EmptyMoves,
+        text: &[u8],
+        case: Case,
+        steps: &mut Steps,
+    ) -> bool
+        requires moves { IsMovesOf tokens.now moves.now }
+        requires room { HasRoom (length tokens.now.tokens) self.old }
+        requires bounds { IsBounded (length tokens.now.tokens) self.old }
+        requires steps { steps.old.last + length tokens.now.tokens * length text.now < 2 ^ 128 }
+        ensures accepts { AcceptsAfterText tokens.now case self.old self.new text.now result }
+        ensures bounds { IsBounded (length tokens.now.tokens) self.new }
+        ensures most { steps.new.last
+            ≤ steps.old.last + length tokens.now.tokens * length text.now }
+        ensures least { IsTrue result → steps.old.last + length text.now ≤ steps.new.last }
+        ensures counted { KeepsCount steps.old steps.new }
+        ensures room { KeepsRoom self.old self.new }
+    {
         for position in 0..text.len() {
             if !self.advance(tokens, moves, text[position], case, steps) {
                 return false;
             }
         }
-        self.reach_end(tokens, moves)
+        true
     }
 
     /// Comes to the first place alone.

@@ -4,7 +4,8 @@ ghost use Rattle.std.specs.List.{prefix_len};
 ghost use Rattle.pathspec_glob.specs.Bytes.{slash};
 ghost use Rattle.pathspec_glob.specs.GlobRelation.{is_same_byte, is_barred, takes, passes_over};
 ghost use Rattle.pathspec_glob.specs.GlobForms.{one_byte_view, token_view, tokens_view};
-ghost use Rattle.pathspec_glob.specs.GlobSteps.{is_deep_token, is_wide, is_wide_at, may_pass_over_at, takes_byte, token_takes};
+ghost use Rattle.pathspec_glob.specs.GlobSteps.{is_wide, is_wide_at, may_pass_over_at, takes_byte, token_takes};
+ghost use Rattle.pathspec_glob.specs.OpenEnds.{is_any_run, is_open};
 ghost use Rattle.pathspec_glob.specs.ByteSets.{listed_token_list};
 ghost use Rattle.pathspec_glob.specs.GlobParts.{plain_tokens, head_size, takes_each, tests_each, wide_size, first_token_takes, first_token_tests, MatchAsFirst};
 ghost use Rattle.pathspec_glob.specs.Tokens.OneByte.{Byte};
@@ -110,6 +111,16 @@ impl Tokens {
             [first] => first.is_wide(),
             [_, _, last] => last.is_star() && self.may_pass_over(0),
             _ => false,
+        }
+    }
+
+    /// Whether the last of them takes any bytes.
+    pub fn has_open_end(&self) -> bool
+        ensures { result ≡ is_open self.now.tokens }
+    {
+        match self.all.as_slice() {
+            [.., last] => last.is_deep(),
+            [] => false,
         }
     }
 
@@ -224,7 +235,7 @@ fn may_pass_over(mode: Mode, tokens: &[Token]) -> bool
 impl Token {
     /// Whether it takes any bytes.
     fn is_deep(&self) -> bool
-        ensures { result ≡ is_deep_token (token_view self.now) }
+        ensures { result ≡ is_any_run (token_view self.now) }
     {
         matches!(self, Token::Deep)
     }

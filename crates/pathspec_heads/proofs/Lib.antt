@@ -7,3 +7,4 @@ pub mod NextProofs
 pub mod CandidateProofs
 pub mod StemProofs
 pub mod TableProofs
+pub mod PathTableProofs

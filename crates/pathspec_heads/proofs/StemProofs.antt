@@ -16,7 +16,7 @@ use Rattle.std.specs.Char.{to_ascii_lowercase}
 use Rattle.std.proofs.lemmas.List.{length-map}
 use Rattle.pathspec_heads.proofs.PlacedProofs.{get_or-inside}
 use Rattle.pathspec_heads.specs.Groups.{IsGrouped}
-use Rattle.pathspec_heads.specs.Stems.{with_slash, leads_to, lies_below, HasSameTexts, SomeText, NoText, IsBoundary, is_boundary}
+use Rattle.pathspec_heads.specs.Stems.{with_slash, leads_to, lies_below, lies_at_or_below, HasSameTexts, SomeText, NoText, IsBoundary, is_boundary}
 use Rattle.pathspec_heads.proofs.AgreementProofs.{squeezed, agreement-self, agreement-sym, agreement-front, front-agreement, begins-between, begins-not_behind, begins-through, not_true}
 use Rattle.pathspec_heads.proofs.HeadProofs.{le_split, apart_split, rises, begins-itself, chained}
 
@@ -108,10 +108,6 @@ or-last false false false false h = cc
 or-none : (a b c w : Bool) → a ≡ false → b ≡ false → c ≡ false → w ≡ false → (a || b || c || w) ≡ false
 or-none a b c w p q r s = rw (p, q, r, s) refl
 
-and-true : (a b : Bool) → (a && b) ≡ true → (a ≡ true) × (b ≡ true)
-and-true true b h = (refl, h)
-and-true false b h = cc
-
 module _ (d : List ℕ) where
   abbrev T : List ℕ
   T = d ++ slash ∷ []
@@ -156,7 +152,7 @@ module _ (d : List ℕ) where
         (not_true (begins_with x T) a)
         (not_true (bytes_eq d x) (λ h. let r = same-boundary x h in b r.0 r.1))
         (not_true (begins_with d (x ++ slash ∷ [])) (λ h. let r = above-boundary x h in b r.0 (is-boundary T x (length d + 1) (omega (arith, r.1)) r.2)))
-        (not_true (wild && begins_with d x) (λ h. let r = and-true wild (begins_with d x) h in c r.0 r.1))
+        (not_true (wild && begins_with d x) (λ h. let r = and-both wild (begins_with d x) h in c r.0 r.1))
 
 -- ---- some and none
 
@@ -172,6 +168,15 @@ any-some p (x ∷ xs) (suc k) l h = or-tail (p x) (list_any p xs) (any-some p xs
 pub any-none : (p : List ℕ → Bool) (xs : List (List ℕ)) → ((k : ℕ) → k < length xs → p (head_at xs k) ≡ false) → list_any p xs ≡ false
 any-none p [] h = refl
 any-none p (x ∷ xs) h = let here : p x ≡ false = h 0 (omega arith) in rw here (any-none p xs (λ k l. h (suc k) (omega (arith, l))))
+
+pub any-ext : {X : Type 0} (p q : X → Bool) → ((x : X) → p x ≡ q x) → (xs : List X) → list_any p xs ≡ list_any q xs
+any-ext p q e [] = refl
+any-ext p q e (x ∷ xs) = rw (e x, any-ext p q e xs) refl
+
+pub same-test : (a b : Bool) → (a ≡ true → b ≡ true) → (b ≡ true → a ≡ true) → a ≡ b
+same-test true b f g = sym (f refl)
+same-test false true f g = g refl
+same-test false false f g = refl
 
 -- ---- the search for the path and a slash
 
@@ -289,22 +294,63 @@ module _ (texts : List (List ℕ)) (d : List ℕ) where
     leads-at false some never = sym (any-none (λ x. leads_to x false d) texts (λ k l.
         leads-none d (head_at texts k) false (below k l) (λ h b. never refl k l (sym (chained texts rising (d ++ slash ∷ []) j last k l) ∙ h, b)) (λ w h. false≢true w)))
 
-  -- ---- whether the path lies below a stem
+-- ---- boundaries of the path and a slash among the stems that begin them
 
-  pub above-nowhere : IsLastFront texts (length texts) (d ++ slash ∷ []) None → false ≡ list_any (λ x. lies_below x d) texts
-  above-nowhere last = sym (any-none (λ x. lies_below x d) texts (λ k l. not_true (lies_below (head_at texts k) d) (λ h. false≢true (sym (last.none refl k l) ∙ (above-boundary d (head_at texts k) h).0))))
+module _ (texts : List (List ℕ)) (t : List ℕ) (limit : ℕ) where
+  abbrev bounded : List ℕ → Bool
+  bounded x = begins_with t x && is_boundary t limit x
 
-  pub above-at : IsRising texts → (j : ℕ) → IsLastFront texts (length texts) (d ++ slash ∷ []) (Some j) → (b : Bool)
-      → (IsTrue b → SomeText texts (IsBoundary (d ++ slash ∷ []) (length d) (head_at texts j))) → (IsFalse b → NoText texts (IsBoundary (d ++ slash ∷ []) (length d) (head_at texts j))) → b ≡ list_any (λ x. lies_below x d) texts
-  above-at rising j last true some never =
+  pub boundary-nowhere : IsLastFront texts (length texts) t None → false ≡ list_any (λ x. begins_with t x && is_boundary t limit x) texts
+  boundary-nowhere last = sym (any-none bounded texts (λ k l. rw (last.none refl k l) refl))
+
+  pub boundary-at : IsRising texts → (j : ℕ) → IsLastFront texts (length texts) t (Some j) → (b : Bool) → (IsTrue b → SomeText texts (IsBoundary t limit (head_at texts j))) → (IsFalse b → NoText texts (IsBoundary t limit (head_at texts j)))
+      → b ≡ list_any (λ x. begins_with t x && is_boundary t limit x) texts
+  boundary-at rising j last true some never =
       let s = some refl in
-      let x = head_at texts s.0 in
-      let q = boundary-is (d ++ slash ∷ []) x (length d) s.2.1 in
-      let begins = begins-through x (head_at texts j) (d ++ slash ∷ []) s.2.0 (last.begins j refl).1 in
-      sym (any-some (λ y. lies_below y d) texts s.0 s.1 (snoc-begins d x slash (front-less d (slash ∷ []) x begins (omega (arith, q.0))) q.0 (sym (get_or-front d (slash ∷ []) (length x) q.0) ∙ q.1)))
-  above-at rising j last false some never = sym (any-none (λ x. lies_below x d) texts (λ k l. not_true (lies_below (head_at texts k) d) (λ h.
-      let r = above-boundary d (head_at texts k) h in
-      never refl k l (sym (chained texts rising (d ++ slash ∷ []) j last k l) ∙ r.0, is-boundary (d ++ slash ∷ []) (head_at texts k) (length d) r.1 r.2))))
+      let first = begins-through (head_at texts s.0) (head_at texts j) t s.2.0 (last.begins j refl).1 in
+      sym (any-some bounded texts s.0 s.1 (rw (first, s.2.1) refl))
+  boundary-at rising j last false some never = sym (any-none bounded texts (λ k l. not_true (bounded (head_at texts k)) (λ h.
+      let both = and-both (begins_with t (head_at texts k)) (is_boundary t limit (head_at texts k)) h in
+      never refl k l (sym (chained texts rising t j last k l) ∙ both.0, both.1))))
+
+-- such a boundary before the path ends is a directory above it, and one up to its end is that or the path
+module _ (d x : List ℕ) where
+  pub below-boundary : (limit : ℕ) → limit ≡ length d → (begins_with (d ++ slash ∷ []) x && is_boundary (d ++ slash ∷ []) limit x) ≡ lies_below x d
+  below-boundary limit n = same-test (begins_with (d ++ slash ∷ []) x && is_boundary (d ++ slash ∷ []) limit x) (lies_below x d)
+      (λ h.
+      let both = and-both (begins_with (d ++ slash ∷ []) x) (is_boundary (d ++ slash ∷ []) limit x) h in
+      let q = boundary-is (d ++ slash ∷ []) x limit both.1 in
+      let short : length x < length d = omega (arith, q.0, n) in
+      snoc-begins d x slash (front-less d (slash ∷ []) x both.0 (omega (arith, short))) short (sym (get_or-front d (slash ∷ []) (length x) short) ∙ q.1))
+      (λ h.
+      let r = above-boundary d x h in
+      let b = is-boundary (d ++ slash ∷ []) x limit (omega (arith, r.1, n)) r.2 in
+      rw (r.0, b) refl)
+
+  pub at_or_below-boundary : (limit : ℕ) → limit ≡ length d + 1 → (begins_with (d ++ slash ∷ []) x && is_boundary (d ++ slash ∷ []) limit x) ≡ lies_at_or_below x d
+  at_or_below-boundary limit n = same-test (begins_with (d ++ slash ∷ []) x && is_boundary (d ++ slash ∷ []) limit x) (lies_at_or_below x d)
+      (λ h.
+      let both = and-both (begins_with (d ++ slash ∷ []) x) (is_boundary (d ++ slash ∷ []) limit x) h in
+      to-or (bytes_eq d x) (lies_below x d) (at-boundary d x both.0 (subst (λ m. is_boundary (d ++ slash ∷ []) m x ≡ true) n both.1)))
+      (λ h. elim (from-or (bytes_eq d x) (lies_below x d) h) [
+        | inl e ↦
+            let r = same-boundary d x e in
+            let b = subst (λ m. is_boundary (d ++ slash ∷ []) m x ≡ true) (sym n) r.1 in
+            rw (r.0, b) refl
+        | inr s ↦
+            let r = above-boundary d x s in
+            let b = is-boundary (d ++ slash ∷ []) x limit (omega (arith, r.1, n)) r.2 in
+            rw (r.0, b) refl
+      ])
+    where
+      to-or : (a b : Bool) → (a ≡ true) ⊎ (b ≡ true) → (a || b) ≡ true
+      to-or true b h = refl
+      to-or false true h = refl
+      to-or false false h = elim h [ inl e ↦ e | inr e ↦ e ]
+
+      from-or : (a b : Bool) → (a || b) ≡ true → (a ≡ true) ⊎ (b ≡ true)
+      from-or true b h = inl refl
+      from-or false b h = inr h
 
 -- ---- as the code has them
 

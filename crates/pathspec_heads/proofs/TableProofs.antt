@@ -7,14 +7,9 @@ use Rattle.pathspec_heads.specs.declared.tables.Kind.{Kind}
 use Rattle.pathspec_heads.specs.declared.tables.Kind.TheVariants.{Wild, Literal, Directory}
 use Rattle.pathspec_heads.specs.Stems.{leads_to, lies_below, HasSameTexts}
 use Rattle.pathspec_heads.specs.Tables.{StemParts, TextLists, TextTable, stem_reaches, stem_takes_only_below, has_kind, is_of_kind, texts_of, IsListed, IsTableOf, directory_reaches, lists_reach}
-use Rattle.pathspec_heads.proofs.StemProofs.{any-some}
+use Rattle.pathspec_heads.proofs.StemProofs.{any-some, any-ext, same-test}
 
 -- ---- tests of lists
-
-same-test : (a b : Bool) → (a ≡ true → b ≡ true) → (b ≡ true → a ≡ true) → a ≡ b
-same-test true b f g = sym (f refl)
-same-test false true f g = g refl
-same-test false false f g = refl
 
 pub any-at : (p : List ℕ → Bool) (xs : List (List ℕ)) → list_any p xs ≡ true → (k : ℕ) × (k < length xs) × (p (head_at xs k) ≡ true)
 any-at p [] h = cc
@@ -30,22 +25,18 @@ any-same p texts others same = same-test (list_any p others) (list_any p texts)
     (λ h. let r = any-at p others h in let s = same.back r.0 r.1 in any-some p texts s.0 s.1 (sym (ap p s.2) ∙ r.2))
     (λ h. let r = any-at p texts h in let s = same.there r.0 r.1 in any-some p others s.0 s.1 (ap p s.2 ∙ r.2))
 
-any-ext : {X : Type 0} (p q : X → Bool) → ((x : X) → p x ≡ q x) → (xs : List X) → list_any p xs ≡ list_any q xs
-any-ext p q e [] = refl
-any-ext p q e (x ∷ xs) = rw (e x, any-ext p q e xs) refl
-
 or-apart : (a b c d : Bool) → ((a || b) || (c || d)) ≡ ((a || c) || (b || d))
 or-apart true b c d = refl
 or-apart false true true d = refl
 or-apart false true false d = refl
 or-apart false false c d = refl
 
-any-or : {X : Type 0} (p q : X → Bool) (xs : List X) → list_any (λ x. p x || q x) xs ≡ (list_any p xs || list_any q xs)
+pub any-or : {X : Type 0} (p q : X → Bool) (xs : List X) → list_any (λ x. p x || q x) xs ≡ (list_any p xs || list_any q xs)
 any-or p q [] = refl
 any-or p q (x ∷ xs) = ap (λ b. (p x || q x) || b) (any-or p q xs) ∙ or-apart (p x) (q x) (list_any p xs) (list_any q xs)
 
 -- a test of what is made of the elements that another test keeps
-any-kept : {X : Type 0} (p : List ℕ → Bool) (make : X → List ℕ) (keep q : X → Bool) → ((x : X) → keep x ≡ true → p (make x) ≡ q x) → (xs : List X) → list_any p (map make (filter keep xs)) ≡ list_any (λ x. keep x && q x) xs
+pub any-kept : {X Y : Type 0} (p : Y → Bool) (make : X → Y) (keep q : X → Bool) → ((x : X) → keep x ≡ true → p (make x) ≡ q x) → (xs : List X) → list_any p (map make (filter keep xs)) ≡ list_any (λ x. keep x && q x) xs
 any-kept p make keep q e [] = refl
 any-kept p make keep q e (x ∷ xs) = here (keep x) refl (any-kept p make keep q e xs)
   where
@@ -53,6 +44,27 @@ any-kept p make keep q e (x ∷ xs) = here (keep x) refl (any-kept p make keep q
         → list_any p (map make (cond (keep x) (x ∷ filter keep xs) (filter keep xs))) ≡ ((keep x && q x) || list_any (λ y. keep y && q y) xs)
     here true h later = rw (h, e x h, later) refl
     here false h later = rw (h, later) refl
+
+-- ---- what the kind of a stem says
+
+and-first : (a b : Bool) → (a && b) ≡ true → a ≡ true
+and-first true b h = refl
+and-first false b h = h
+
+and-second : (a b : Bool) → (a && b) ≡ true → b ≡ true
+and-second true b h = h
+and-second false b h = cc
+
+pub not-true : (a : Bool) → not a ≡ true → a ≡ false
+not-true true h = cc
+not-true false h = refl
+
+pub case-is : (b : Bool) (kind : Kind) (s : StemParts) → is_of_kind b kind s ≡ true → s.ignores_case ≡ b
+case-is true kind s h = and-first s.ignores_case (has_kind kind s) h
+case-is false kind s h = not-true s.ignores_case (and-first (not s.ignores_case) (has_kind kind s) h)
+
+pub kind-is : (b : Bool) (kind : Kind) (s : StemParts) → is_of_kind b kind s ≡ true → has_kind kind s ≡ true
+kind-is b kind s h = and-second (if b then s.ignores_case else not s.ignores_case) (has_kind kind s) h
 
 -- ---- the lists of stems
 
@@ -101,25 +113,6 @@ module _ (d : List ℕ) (is_dir : Option Bool) where
       here None e = reaches-as s false (rw e refl) ∙ rw (e, w) refl
       here (Some true) e = reaches-as s false (rw e refl) ∙ rw (e, w) refl
       here (Some false) e = reaches-as s true (rw (e, k, w) refl) ∙ rw e refl
-
-  and-first : (a b : Bool) → (a && b) ≡ true → a ≡ true
-  and-first true b h = refl
-  and-first false b h = h
-
-  and-second : (a b : Bool) → (a && b) ≡ true → b ≡ true
-  and-second true b h = h
-  and-second false b h = cc
-
-  not-true : (a : Bool) → not a ≡ true → a ≡ false
-  not-true true h = cc
-  not-true false h = refl
-
-  case-is : (b : Bool) (kind : Kind) (s : StemParts) → is_of_kind b kind s ≡ true → s.ignores_case ≡ b
-  case-is true kind s h = and-first s.ignores_case (has_kind kind s) h
-  case-is false kind s h = not-true s.ignores_case (and-first (not s.ignores_case) (has_kind kind s) h)
-
-  kind-is : (b : Bool) (kind : Kind) (s : StemParts) → is_of_kind b kind s ≡ true → has_kind kind s ≡ true
-  kind-is b kind s h = and-second (if b then s.ignores_case else not s.ignores_case) (has_kind kind s) h
 
   -- a text of a kind answers as its stem does
   reaches-kind : (b : Bool) (kind : Kind) (s : StemParts) → is_of_kind b kind s ≡ true → text_reaches b kind (fold_case b s.text) ≡ stem_reaches s d is_dir

@@ -3,3 +3,4 @@ pub mod Heads
 pub mod Groups
 pub mod Stems
 pub mod Tables
+pub mod PathTables

@@ -15,6 +15,10 @@ leads_to stem wild path = begins_with stem (path ++ slash ∷ []) || bytes_eq pa
 abbrev pub lies_below : List ℕ → List ℕ → Bool
 lies_below stem path = begins_with path (stem ++ slash ∷ [])
 
+-- the path is the stem or lies below it
+abbrev pub lies_at_or_below : List ℕ → List ℕ → Bool
+lies_at_or_below stem path = bytes_eq path stem || begins_with path (stem ++ slash ∷ [])
+
 -- the two lists have the same elements
 pub record HasSameTexts (texts others : List (List ℕ)) : Type 0 where
   pub there : (i : ℕ) → i < length texts → (k : ℕ) × (k < length others) × (head_at others k ≡ head_at texts i)

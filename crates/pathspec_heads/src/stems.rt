@@ -1,9 +1,9 @@
 //! Stems in byte order, and whether a directory's path and one of them lead to one another.
-ghost use Rattle.std.specs.Prelude.{◌≡◌, true, ℕ, ◌+◌, ◌<◌, ◌≤◌, length, map, IfOk, IsTrue, IsFalse};
+ghost use Rattle.std.specs.Prelude.{◌≡◌, ◌&&◌, true, ℕ, ◌+◌, ◌<◌, ◌≤◌, length, map, IfOk, IsTrue, IsFalse};
 ghost use Rattle.std.specs.List.{list_any};
 ghost use Rattle.pathspec_glob.specs.Bytes.{fold_case, begins_with};
 ghost use Rattle.pathspec_heads.specs.Heads.{head_at, IsRising, IsLastFront, Brackets};
-ghost use Rattle.pathspec_heads.specs.Stems.{with_slash, leads_to, lies_below, HasSameTexts, SomeText, NoText, IsBoundary, is_boundary};
+ghost use Rattle.pathspec_heads.specs.Stems.{with_slash, leads_to, lies_below, lies_at_or_below, HasSameTexts, SomeText, NoText, IsBoundary, is_boundary};
 
 use crate::chains::{front_of, linked};
 use crate::groups::{grouped, sorted};
@@ -172,14 +172,32 @@ impl Stems {
         }
     }
 
+    /// Whether one of the stems that begin the path and a slash is such a boundary.
+    fn has_boundary_in(&self, path: &[u8], ignore_case: bool, limit: usize) -> bool
+        requires { limit ≤ length path.now + 1 }
+        ensures { result ≡ list_any (λ stem.
+            begins_with (with_slash ignore_case path.now) stem
+            && is_boundary (with_slash ignore_case path.now) limit stem) self.now }
+    {
+        match self.find(path, ignore_case).deepest {
+            Some(stem) => self.has_boundary(stem, path, ignore_case, limit),
+            None => false,
+        }
+    }
+
     /// Whether the path lies below a stem, at the cost of [`Stems::leads_to`].
     pub fn has_above(&self, path: &[u8], ignore_case: bool) -> bool
         ensures { result ≡ list_any (λ stem.
             lies_below stem (fold_case ignore_case path.now)) self.now }
     {
-        match self.find(path, ignore_case).deepest {
-            Some(stem) => self.has_boundary(stem, path, ignore_case, path.len()),
-            None => false,
-        }
+        self.has_boundary_in(path, ignore_case, path.len())
+    }
+
+    /// Whether the path is a stem or lies below one, at the cost of [`Stems::leads_to`].
+    pub fn has_at_or_above(&self, path: &[u8], ignore_case: bool) -> bool
+        ensures { result ≡ list_any (λ stem.
+            lies_at_or_below stem (fold_case ignore_case path.now)) self.now }
+    {
+        self.has_boundary_in(path, ignore_case, path.len() + 1)
     }
 }

@@ -29,7 +29,7 @@ impl<'s> Model for SpecStem<'s> {
 
 /// What the list of a stem depends on, besides case.
 #[derive(Clone, Copy)]
-enum Kind {
+pub(crate) enum Kind {
     /// A wildcard follows it.
     Wild,
     /// None does, and files are taken too.
@@ -88,7 +88,7 @@ fn texts_of(
 }
 
 /// The stems of a kind.
-fn stems_of(
+pub(crate) fn stems_of(
     alloc: Global,
     stems: &[SpecStem<'_>],
     ignore_case: bool,

@@ -1,10 +1,10 @@
 -- A walk that enters each directory that it sees and that can hold a chosen path sees each chosen entry.
-use Rattle.std.proofs.Common.{◌≡◌, ℕ, zero, suc, ◌<◌, ◌≤◌, Bool, true, sym, ◌∙◌, ap, subst, List, length, get_or, arith, inr, Some}
-use Rattle.std.proofs.lemmas.Bool.{true_from_ne_false}
+use Rattle.std.proofs.Common.{◌≡◌, ℕ, zero, suc, ◌<◌, ◌≤◌, Bool, true, sym, ◌∙◌, ap, subst, List, length, get_or, arith, Some}
+use Rattle.std.proofs.lemmas.Bool.{true_from_ne_false, false_from_ne_true, not_from_false, not-true, both_ways}
 use Rattle.std.proofs.lemmas.List.{take_all}
 use Rattle.std.proofs.lemmas.List.Elements.{All-from_get_or, Contains-get_or}
 use Rattle.std.proofs.lemmas.Option.{slice_get_within}
-use Rattle.std.specs.Prelude.{slice_get, Contains, IsTrue, All}
+use Rattle.std.specs.Prelude.{◌↔◌, slice_get, Contains, IsTrue, All}
 use Rattle.pathspec_parts.specs.Attributes.{Table}
 use Rattle.pathspec_parts.specs.Entries.{Entry, entries_where}
 use Rattle.pathspec_parts.specs.Trees.{IsNested, HasBytePaths}
@@ -14,12 +14,15 @@ use Rattle.gix_pathspec.specs.Specs.{Spec}
 use Rattle.gix_pathspec.specs.Matching.{IsChosen, is_chosen, spec_matches}
 use Rattle.gix_pathspec.specs.Plain.{is_plain}
 use Rattle.gix_pathspec.specs.Pruning.{can_match}
+use Rattle.gix_pathspec.specs.Skipping.{may_skip}
+use Rattle.gix_pathspec.specs.SkipLaws.{ArePlain, CaseAgrees}
 use Rattle.gix_pathspec.specs.PruningLaws.{HasOnlyIncludes, CanTake}
 use Rattle.gix_pathspec.specs.SelectionLaws.{NoNilPrefix, SpecPathsAreBytes}
 use Rattle.gix_pathspec.proofs.ChosenProofs.{chosen_is_test}
-use Rattle.gix_pathspec.proofs.NotChosenProofs.{pruned_is_not_chosen}
+use Rattle.gix_pathspec.proofs.SkipProofs.{skipped_is_not_chosen, skips_more}
+use Rattle.gix_pathspec.proofs.SkipExactProofs.{skip_is_exact}
 use Rattle.gix_pathspec.proofs.SharpPruningProofs.{pruning_is_sharp}
-use Rattle.pathspec_select.specs.Walks.{Enters, IsSafePruning, TakenIsSeen, IsEntryWith, IsDirectoryWith, LiesWithin, IsWalk, can_hold, chosen_entries, HasWalked, WalkHolds}
+use Rattle.pathspec_select.specs.Walks.{Enters, IsSafePruning, TakenIsSeen, IsEntryWith, IsDirectoryWith, LiesWithin, IsWalk, can_hold, HoldsSome, chosen_entries, HasWalked, WalkHolds}
 
 -- P of each element, from P of what the list contains
 All-from_Contains : (P : ℕ → Type 0) (xs : List ℕ) → ((x : ℕ) → Contains xs x → P x) → All P xs
@@ -52,7 +55,7 @@ taken_is_seen can_enter takes safe es end entered nested enters n e le stands ta
 -- Pruning is safe in this sense.
 pub can_hold_is_safe : (table : Table) (specs : List Spec) → NoNilPrefix specs → IsSafePruning (can_hold specs) (is_chosen table specs)
 can_hold_is_safe table specs none path d is_dir taken below =
-    true_from_ne_false (can_match specs d (Some true)) (λ no_to. pruned_is_not_chosen table specs none d (Some true) (λ q. cc) no_to path is_dir (inr below) ((chosen_is_test table specs path is_dir).0 taken))
+    not_from_false (may_skip specs d) (false_from_ne_true (may_skip specs d) (λ skipped. skipped_is_not_chosen table specs none d skipped path is_dir below ((chosen_is_test table specs path is_dir).0 taken)))
 
 -- ---- a walk to the end
 
@@ -82,7 +85,25 @@ module _ (table : Table) (specs : List Spec) (none : NoNilPrefix specs) (spec_by
   entered_takes plain n c =
       let r = walked.are n c in
       let sharp = pruning_is_sharp table specs spec_bytes plain r.entry.path (Some true) (nested.paths n r.entry r.stands) (bytes n r.entry r.stands) (λ e. cc) in
-      (r.entry, r.stands, (r.is_dir, sharp.0 r.can_be_entered))
+      let can = true_from_ne_false (can_match specs r.entry.path (Some true)) (λ pruned. both_ways (may_skip specs r.entry.path) (not-true (may_skip specs r.entry.path) r.can_be_entered) (skips_more specs r.entry.path pruned)) in
+      (r.entry, r.stands, (r.is_dir, sharp.0 can))
+
+  -- exactly those at or below which something is chosen
+  entered_exact : ArePlain specs → CaseAgrees specs → (m : ℕ) → Contains entered m ↔ HoldsSome table specs es entered m
+  entered_exact plain agrees m =
+      let exact = λ (e : Entry) (stands : slice_get es m ≡ Some e). skip_is_exact table specs none spec_bytes plain agrees e.path (nested.paths m e stands) (bytes m e stands) in (
+        λ c.
+            let r = walked.are m c in
+            record { entry = r.entry; stands = r.stands; is_dir = r.is_dir; seen = r.seen; holds = (exact r.entry r.stands).0 (not-true (may_skip specs r.entry.path) r.can_be_entered) },
+        λ h. walked.all m (record {
+          entry = h.entry;
+          stands = h.stands;
+          before = slice_get_within es m h.entry h.stands;
+          is_dir = h.is_dir;
+          can_be_entered = not_from_false (may_skip specs h.entry.path) ((exact h.entry h.stands).1 h.holds);
+          seen = h.seen;
+        }),
+      )
 
   walk_of_chosen : IsWalk table specs es (chosen_entries table specs es) entered
   walk_of_chosen = record {
@@ -92,6 +113,7 @@ module _ (table : Table) (specs : List Spec) (none : NoNilPrefix specs) (spec_by
     entered_can_hold = All-from_Contains (IsDirectoryWith es (λ d. IsTrue (can_hold specs d))) entered entered_holds;
     above_given = All-from_Contains (IsEntryWith es (LiesWithin entered)) (chosen_entries table specs es) chosen_within;
     above_entered = All-from_Contains (IsEntryWith es (LiesWithin entered)) entered entered_within;
+    entered_exact = entered_exact;
     entered_sharp = λ plain. All-from_Contains (IsDirectoryWith es (CanTake (spec_matches table) specs)) entered (entered_takes plain);
   }
 

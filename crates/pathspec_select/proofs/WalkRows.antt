@@ -13,6 +13,7 @@ use Rattle.gix_pathspec.specs.Prefixes.{common_prefix}
 use Rattle.gix_pathspec.specs.Plain.{is_plain}
 use Rattle.gix_pathspec.specs.Tables.{stem_reaches}
 use Rattle.gix_pathspec.specs.Pruning.{can_match, reaches}
+use Rattle.gix_pathspec.specs.Skipping.{may_skip, holds_nothing, takes_whole, takes_rest, buries}
 use Rattle.gix_pathspec.specs.PruningLaws.{TakesAtOrBelow}
 use Rattle.pathspec_select.specs.Listing.{listing_entries, table_of}
 use Rattle.pathspec_select.specs.Walks.{can_hold, chosen_entries}
@@ -30,7 +31,7 @@ abbrev specs : List Spec
 specs = literal (codes "a/b") ∷ []
 
 which_can_hold : map (λ e. can_hold specs e.path) es ≡ (true ∷ true ∷ false ∷ false ∷ [])
-unfolding can_match reaches stem_reaches common_prefix
+unfolding may_skip holds_nothing takes_whole takes_rest buries can_match reaches stem_reaches common_prefix
 which_can_hold = refl
 
 which_are_chosen : chosen_entries (table_of []) specs es ≡ (1 ∷ [])
@@ -52,7 +53,7 @@ is_plain_include : is_plain (literal no_byte) ≡ true
 is_plain_include = refl
 
 is_entered : can_hold (literal no_byte ∷ []) no_byte ≡ true
-unfolding can_match reaches stem_reaches common_prefix
+unfolding may_skip holds_nothing takes_whole takes_rest buries can_match reaches stem_reaches common_prefix
 is_entered = refl
 
 not_bytes : (path rest : List ℕ) → path ≡ 300 ∷ rest → IsBytes path → ⊥

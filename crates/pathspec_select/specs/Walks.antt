@@ -1,5 +1,5 @@
 -- What a walk over a tree enters and gives.
-use Rattle.std.specs.Prelude.{◌≡◌, ◌↔◌, ℕ, ◌+◌, ◌<◌, ◌≤◌, Bool, ◌&&◌, true, List, [], length, take, slice_get, Some, None, IsTrue, All, Contains}
+use Rattle.std.specs.Prelude.{◌≡◌, ◌↔◌, ℕ, ◌+◌, ◌<◌, ◌≤◌, Bool, not, ◌&&◌, List, [], length, take, slice_get, Some, None, IsTrue, All, Contains}
 use Rattle.std.specs.List.Sorted.{IsStrictlyIncreasing}
 use Rattle.pathspec_parts.specs.Paths.{IsBelow}
 use Rattle.pathspec_parts.specs.Attributes.{Table}
@@ -9,7 +9,8 @@ use Rattle.pathspec_parts.specs.Cursors.{next_seen, append_if}
 use Rattle.gix_pathspec.specs.Specs.{Spec}
 use Rattle.gix_pathspec.specs.Matching.{spec_matches, is_chosen, IsChosen}
 use Rattle.gix_pathspec.specs.Plain.{is_plain}
-use Rattle.gix_pathspec.specs.Pruning.{can_match}
+use Rattle.gix_pathspec.specs.Skipping.{may_skip}
+use Rattle.gix_pathspec.specs.SkipLaws.{ArePlain, CaseAgrees, HoldsChosen}
 use Rattle.gix_pathspec.specs.PruningLaws.{HasOnlyIncludes, CanTake}
 use Rattle.gix_pathspec.specs.SelectionLaws.{NoNilPrefix, SpecPathsAreBytes}
 use Rattle.pathspec_select.specs.Listing.{output, listing_entries, marks_from, written_entries}
@@ -80,9 +81,17 @@ IsDirectoryWith es P n = IsEntryWith es (λ e. IsTrue e.is_dir × P e.path) n
 abbrev pub LiesWithin : List ℕ → Entry → Type 0
 LiesWithin entered e = (m : ℕ) → Contains e.above m → Contains entered m
 
--- A directory can hold a chosen path.
+-- A directory can hold a chosen path below it: a walk may not skip it.
 abbrev pub can_hold : List Spec → List ℕ → Bool
-can_hold specs d = can_match specs d (Some true)
+can_hold specs d = not (may_skip specs d)
+
+-- a directory that a walk comes to which entered these, at or below which something is chosen
+pub record HoldsSome (table : Table) (specs : List Spec) (es : List Entry) (entered : List ℕ) (m : ℕ) : Type 0 where
+  pub entry : Entry
+  pub stands : slice_get es m ≡ Some entry
+  pub is_dir : IsTrue entry.is_dir
+  pub seen : IsTrue (is_seen entered entry)
+  pub holds : HoldsChosen table specs entry.path
 
 -- What a walk over a tree gives and enters, for specs and a steady look-up.
 pub record IsWalk (table : Table) (specs : List Spec) (es : List Entry) (given entered : List ℕ) : Type 0 where
@@ -97,6 +106,8 @@ pub record IsWalk (table : Table) (specs : List Spec) (es : List Entry) (given e
   pub above_entered : All (IsEntryWith es (LiesWithin entered)) entered
   -- Where all includes are plain, it enters only directories at or below which an include matches some path, if there is an include.
   pub entered_sharp : HasOnlyIncludes is_plain specs → All (IsDirectoryWith es (CanTake (spec_matches table) specs)) entered
+  -- Where all specs are plain, and no include without case stands beside an exclude with case, it enters exactly the directories, among those that it comes to, at or below which something is chosen.
+  pub entered_exact : ArePlain specs → CaseAgrees specs → (m : ℕ) → Contains entered m ↔ HoldsSome table specs es entered m
 
 -- The numbers of the chosen entries.
 abbrev pub chosen_entries : Table → List Spec → List Entry → List ℕ

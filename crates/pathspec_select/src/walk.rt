@@ -31,12 +31,13 @@ pub enum SelectError<F> {
 /// exclude matches and some include matches (or any, without an include).
 ///
 /// The cursor must be new. It is the only way to the tree, so its trail, [`Cursor::entered`], tells what was looked into:
-/// exactly the directories that the walk came to and of which [`Search::can_match_relative_path`] says that something at
-/// or below them can match. Nothing that is chosen is lost by that. Where all includes are plain (no wildcard, no
-/// attributes, no prefix directory without case), each of them is one at or below which an include matches. All this
-/// holds for all specs that parse and normalise, every tree and every steady look-up.
+/// exactly the directories that the walk came to and that it may not skip ([`Search::may_skip`]). Nothing that is chosen is
+/// lost by that. Where all includes are plain (no wildcard, no attributes, no prefix directory without case), each of them is
+/// one at or below which an include matches. Where all specs are plain, they are exactly those at or below which something is
+/// chosen, unless an include without case stands beside an exclude with case. All this holds for all specs that parse and
+/// normalise, every tree and every steady look-up.
 ///
-/// Each entry that the walk comes to is asked of the search once, and each directory once more, whether it is entered.
+/// Each entry that the walk comes to is asked of the search once, and each directory once more, whether it is skipped.
 /// What lies in a directory that isn't entered costs nothing. It takes memory for a scratch of the search and for the numbers
 /// that it gives. The search is only read, so walks can share it.
 ///
@@ -78,7 +79,7 @@ pub fn select<L: LookUp>(
     Ok(given)
 }
 
-/// Gives the entry at which the cursor stands where it is chosen, and enters it where something below it can be.
+/// Gives the entry at which the cursor stands where it is chosen, and enters it unless a walk may skip it.
 fn visit<L: LookUp>(
     cursor: &mut Cursor<'_>,
     search: &Search,
@@ -107,7 +108,7 @@ fn visit<L: LookUp>(
     if is_selected && given.push(number).is_err() {
         return Err(SelectError::Memory);
     }
-    if cursor.is_dir() && search.can_match_relative_path(cursor.path(), Some(true)) {
+    if cursor.is_dir() && !search.may_skip(cursor.path(), scratch) {
         cursor.enter();
     }
     Ok(())

@@ -14,6 +14,7 @@ ghost use Rattle.gix_pathspec.specs.Room.{HasRoom, tokens_of, names_in_order};
 
 use crate::search::MatchKind;
 use crate::search::spec::CompiledSpec;
+use crate::search::takers::Taker;
 use bstr::BStr;
 use pathspec_heads::places::{self, Deepest, PlacesByHead};
 use pathspec_parts::attributes::{LookUp, Outcome};
@@ -34,6 +35,21 @@ impl Model for CountedSpecs {
     ghost Value = { List Numbered };
 
     ghost view = { λ s. s.all.items };
+}
+
+/// Excludes that are asked one by one whether they take a directory, and each question is counted.
+#[derive(Drop)]
+pub(crate) struct CountedTakers {
+    all: Vec<Taker>,
+}
+
+impl Model for CountedTakers {
+    ghost use Rattle.std.specs.Prelude.{List};
+    ghost use Rattle.gix_pathspec.specs.Specs.{Spec};
+
+    ghost Value = { List Spec };
+
+    ghost view = { λ t. t.all.items };
 }
 
 /// What questions to specs write: the room of their globs, an outcome for each spec, and how often one was asked. The count
@@ -161,6 +177,39 @@ impl CountedSpecs {
         scratch.tested = scratch.tested.wrapping_add(1);
         let outcome = &mut scratch.outcomes[place];
         self.all[place].matches(path, is_dir, &mut scratch.globs, outcome, look_up)
+    }
+}
+
+impl CountedTakers {
+    ghost use Rattle.std.specs.Prelude.{Some, slice_get};
+    ghost use Rattle.gix_pathspec.specs.Specs.{Spec};
+    ghost use Rattle.gix_pathspec.specs.Takers.{taker_takes};
+
+    /// These excludes.
+    pub(super) fn new(all: Vec<Taker>) -> CountedTakers
+        ensures { result ≡ all.items }
+    {
+        CountedTakers { all }
+    }
+
+    /// How many there are.
+    pub(crate) fn len(&self) -> usize
+        ensures { result ≡ length self.now }
+    {
+        self.all.len()
+    }
+
+    /// Whether the exclude at a place takes the directory whole, or the rest of it, as [`Taker::takes`] says.
+    pub(crate) fn takes(&self, place: usize, directory: BStr<'_>, scratch: &mut SpecScratch) -> bool
+        requires place { place < length self.now }
+        requires room { All (λ s. tokens_of s ≤ scratch.old.room.tokens) self.now }
+        ensures answer { (s : Spec) → slice_get self.now place ≡ Some s
+            → result ≡ taker_takes s (bstr_bytes directory.entry) }
+        ensures room { scratch.new.room ≡ scratch.old.room }
+        ensures counted { Counts scratch.old.tested 1 scratch.new.tested }
+    {
+        scratch.tested = scratch.tested.wrapping_add(1);
+        self.all[place].takes(directory, &mut scratch.globs)
     }
 }
 

@@ -12,15 +12,18 @@ ghost use Rattle.gix_pathspec.specs.NormalForm.{NormalFormIsNormal};
 ghost use Rattle.gix_pathspec.specs.Prefixes.{common_front, common_prefix};
 ghost use Rattle.gix_pathspec.specs.Search.{KeepsSpecs, IsFresh, specs_of, numbered_from, default_to_prefix, in_search_order, search_of, HoldsNormalForms};
 ghost use Rattle.gix_pathspec.specs.Effort.{ArePlacesOf, heads_in_order};
+ghost use Rattle.gix_pathspec.specs.Takers.{takers_of};
 ghost use Rattle.gix_pathspec.specs.Building.{prefix_bytes, TellsFault, Builds, IsErrorAt, numbered_normal_form};
 ghost use Rattle.gix_pathspec.specs.SelectionLaws.{SpecPathsAreBytes};
 
 use crate::by_head::SpecsByHead;
+use crate::by_head::takers::TakersByHead;
 use crate::search::Search;
-use crate::search::counted::{CountedHeads, CountedSpecs};
+use crate::search::counted::{CountedHeads, CountedSpecs, CountedTakers};
 use crate::search::reach::Reach;
 use crate::search::scratch::scratch_for;
 use crate::search::spec::CompiledSpec;
+use crate::search::takers::takers_with_heads;
 use crate::{Error, MagicSignature, Pattern};
 use bstr::{BStr, BString};
 use pathspec_heads::places::PlacesByHead;
@@ -114,6 +117,7 @@ impl Search {
         let alloc = *self.nil.attributes.allocator();
         let specs = clone_all(alloc, self.specs.as_slice())?;
         let reach = Reach::of_specs(alloc, &specs)?;
+        let takers = takers_by_head(alloc, &specs)?;
         let specs = by_head(alloc, specs)?;
         let scratch = scratch_for(alloc, &specs)?;
         let source = clone_source(&self.source)?;
@@ -121,6 +125,7 @@ impl Search {
             specs,
             scratch,
             reach,
+            takers,
             nil: Pattern::nil(alloc),
             source,
         })
@@ -163,12 +168,14 @@ pub(super) fn build(
     let compiled = compile_all(alloc, patterns, prefix, root)?;
     let specs = in_search_order(alloc, compiled)?;
     let reach = Reach::of_specs(alloc, specs.as_slice())?;
+    let takers = takers_by_head(alloc, specs.as_slice())?;
     let specs = by_head(alloc, specs)?;
     let scratch = scratch_for(alloc, &specs)?;
     Ok(Search {
         specs,
         scratch,
         reach,
+        takers,
         nil: Pattern::nil(alloc),
         source: None,
     })
@@ -266,6 +273,16 @@ fn by_head(alloc: Global, specs: Vec<CompiledSpec>) -> Result<SpecsByHead, Alloc
     let common = common_prefix(alloc, specs.as_slice())?;
     let heads = places_by_head(alloc, specs.as_slice())?;
     Ok(SpecsByHead::new(CountedSpecs::new(specs), heads, common))
+}
+
+/// The excludes among these specs that are asked one by one, by their heads.
+fn takers_by_head(alloc: Global, specs: &[CompiledSpec]) -> Result<TakersByHead, AllocError>
+    ensures { IfOk result (λ takers. takers ≡ takers_of (specs_of specs.now)) }
+{
+    let (takers, heads) = takers_with_heads(alloc, specs)?;
+    let places = PlacesByHead::new(alloc, heads)?;
+    let heads = Box::new(alloc, CountedHeads::new(places))?;
+    Ok(TakersByHead::new(CountedTakers::new(takers), heads))
 }
 
 /// The places of specs by their heads.

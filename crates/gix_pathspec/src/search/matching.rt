@@ -57,7 +57,7 @@ fn match_kind(
 
 /// Whether the path lies below the prefix directory or is that directory, compared with case; nothing is asked where
 /// case counts throughout or there is no such directory.
-fn is_in_prefix_directory(pattern: &Pattern, path: BStr<'_>, is_dir: bool) -> bool
+pub(super) fn is_in_prefix_directory(pattern: &Pattern, path: BStr<'_>, is_dir: bool) -> bool
     ensures { result ≡ is_in_prefix_directory (pattern_spec pattern.now)
         (bstr_bytes path.entry) is_dir }
 {
@@ -92,7 +92,7 @@ fn is_glob_match(
 }
 
 /// Whether the path is the pattern's, and a directory where the pattern wants one.
-fn is_verbatim_match(pattern: &Pattern, path: BStr<'_>, is_dir: bool) -> bool
+pub(super) fn is_verbatim_match(pattern: &Pattern, path: BStr<'_>, is_dir: bool) -> bool
     ensures { result ≡ is_verbatim_match (pattern_spec pattern.now) (bstr_bytes path.entry) is_dir }
 {
     takes_kind(pattern, is_dir)
@@ -104,7 +104,7 @@ fn is_verbatim_match(pattern: &Pattern, path: BStr<'_>, is_dir: bool) -> bool
 }
 
 /// Whether the path lies below the pattern's.
-fn is_prefix_match(pattern: &Pattern, path: BStr<'_>) -> bool
+pub(super) fn is_prefix_match(pattern: &Pattern, path: BStr<'_>) -> bool
     ensures { result ≡ is_prefix_match (pattern_spec pattern.now) (bstr_bytes path.entry) }
 {
     is_below(
@@ -122,7 +122,7 @@ fn takes_kind(pattern: &Pattern, is_dir: bool) -> bool
 }
 
 /// Whether case counts for the pattern.
-fn case_of(pattern: &Pattern) -> Case
+pub(super) fn case_of(pattern: &Pattern) -> Case
     ensures { result ≡ case_of (pattern_spec pattern.now) }
 {
     if ignores_case(pattern) {

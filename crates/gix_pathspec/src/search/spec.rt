@@ -1,5 +1,6 @@
 //! Specs that are made ready for matching.
 ghost use Rattle.std.specs.Prelude.{◌≡◌, ◌↔◌, ◌≤◌, length, IsTrue, IfOk, IfErr};
+ghost use Rattle.std.specs.Option.{option_map};
 ghost use Rattle.gix_pathspec.specs.Errors.{IsMemory};
 ghost use Rattle.gix_pathspec.specs.Paths.{IsBytes};
 ghost use Rattle.gix_pathspec.specs.Patterns.{pattern_spec};
@@ -8,6 +9,7 @@ ghost use Rattle.gix_pathspec.specs.Room.{glob_of};
 use crate::search::matching;
 use crate::{Error, MagicSignature, Pattern, SearchMode};
 use bitflags::Flags;
+use pathspec_heads::paths::{PathTable, SpecPath};
 use pathspec_heads::tables::SpecStem;
 use pathspec_parts::attributes::Outcome;
 use pathspec_parts::glob::{Glob, Mode, Scratch, first_wildcard};
@@ -45,11 +47,14 @@ impl Model for CompiledSpec {
 }
 
 impl CompiledSpec {
-    ghost use Rattle.std.specs.Prelude.{◌&&◌};
+    ghost use Rattle.std.specs.Prelude.{◌&&◌, List};
     ghost use Rattle.gix_pathspec.specs.Patterns.{pattern_spec};
-    ghost use Rattle.gix_pathspec.specs.Specs.{is_include, ignores_case, wants_directory, always_matches, has_wildcard};
+    ghost use Rattle.gix_pathspec.specs.Specs.{Spec, is_include, ignores_case, wants_directory, always_matches, has_wildcard};
     ghost use Rattle.gix_pathspec.specs.Prefixes.{stem, head};
+    ghost use Rattle.gix_pathspec.specs.PathTables.{IsPathTableOf};
+    ghost use Rattle.gix_pathspec.specs.Plain.{has_one_case};
     ghost use Rattle.gix_pathspec.specs.Pruning.{stem_of, is_total_exclude};
+    ghost use Rattle.gix_pathspec.specs.Reach.{takes_by_path, is_tabled, path_of, taken_paths, is_buried, has_stem};
     ghost use Rattle.gix_pathspec.specs.Compiled.{numbered_pattern};
     ghost use Rattle.pathspec_parts.specs.Outcomes.{names_of};
     ghost use Rattle.gix_pathspec.specs.Room.{tokens_of, attribute_names};
@@ -151,6 +156,66 @@ impl CompiledSpec {
         self.is_include() && self.always_matches()
     }
 
+    /// Whether this is an exclude that lists no attributes and doesn't always match.
+    pub(super) fn takes_by_path(&self) -> bool
+        ensures { result ≡ takes_by_path self.now.spec }
+    {
+        !self.is_include() && self.pattern.attributes.is_empty() && !self.always_matches()
+    }
+
+    /// Whether case counts in all of the path or nowhere: no prefix directory stands before a path without case.
+    pub(super) fn has_one_case(&self) -> bool
+        ensures { result ≡ has_one_case self.now.spec }
+    {
+        !(self.ignores_case() && !self.pattern.prefix_directory().as_bytes().is_empty())
+    }
+
+    /// Whether a table of paths answers what the exclude takes whole.
+    pub(super) fn is_tabled(&self) -> bool
+        ensures { result ≡ is_tabled self.now.spec }
+    {
+        self.takes_by_path() && self.has_one_case()
+    }
+
+    /// The path of the spec, and what else of it a table of paths asks.
+    pub(super) fn as_path(&self) -> SpecPath<'_>
+        ensures { result ≡ path_of self.now.spec }
+    {
+        SpecPath {
+            text: self.path(),
+            ignores_case: self.ignores_case(),
+            wants_directory: self.wants_directory(),
+        }
+    }
+
+    /// Whether an exclude buries the include: it takes the include's path as what the include wants, and so all that the
+    /// include takes. Its cost is that of [`PathTable::takes`].
+    fn is_buried(&self, taken: &PathTable) -> bool
+        ensures { (specs : List Spec) → IsPathTableOf (taken_paths specs) taken.now
+            → result ≡ is_buried specs self.now.spec }
+    {
+        if self.always_matches() || self.has_wildcard() {
+            return false;
+        }
+        if self.ignores_case() {
+            taken.takes_folded(self.path(), self.wants_directory())
+        } else {
+            taken.takes(self.path(), self.wants_directory())
+        }
+    }
+
+    /// Whether this is an include that doesn't always match, and is buried or not.
+    pub(super) fn has_stem(&self, taken: &PathTable, buried: bool) -> bool
+        ensures { (specs : List Spec) → IsPathTableOf (taken_paths specs) taken.now
+            → result ≡ has_stem buried specs self.now.spec }
+    {
+        if !self.is_include() || self.always_matches() {
+            return false;
+        }
+        let is_buried = self.is_buried(taken);
+        if buried { is_buried } else { !is_buried }
+    }
+
     /// The stem of the spec, and what else of it a table of stems asks.
     pub(super) fn as_stem(&self) -> SpecStem<'_>
         ensures { result ≡ stem_of self.now.spec }
@@ -245,6 +310,21 @@ impl CompiledSpec {
     }
 }
 
+/// The mode of the glob that a pattern is compared as; None for a pattern that isn't compared as one.
+pub(super) fn glob_mode(pattern: &Pattern) -> Option<Mode>
+    ensures { let spec = pattern_spec pattern.now in
+        option_map (λ mode. record { mode = mode; pattern = spec.path }) result ≡ glob_of spec }
+{
+    if !pattern.has_wildcard() {
+        return None;
+    }
+    match pattern.search_mode {
+        SearchMode::ShellGlob => Some(Mode::Shell),
+        SearchMode::Literal => None,
+        SearchMode::PathAwareGlob => Some(Mode::PathAware),
+    }
+}
+
 /// The glob that a pattern is compared as; None for a pattern that isn't compared as one. The cost is linear in the path.
 ///
 /// # Errors
@@ -252,13 +332,8 @@ impl CompiledSpec {
 fn compile_glob(alloc: Global, pattern: &Pattern) -> Result<Option<Glob>, AllocError>
     ensures { IfOk result (λ glob. glob ≡ glob_of (pattern_spec pattern.now)) }
 {
-    if !pattern.has_wildcard() {
-        return Ok(None);
+    match glob_mode(pattern) {
+        Some(mode) => Ok(Some(Glob::compile(alloc, pattern.path().as_bytes(), mode)?)),
+        None => Ok(None),
     }
-    let mode = match pattern.search_mode {
-        SearchMode::ShellGlob => Mode::Shell,
-        SearchMode::Literal => return Ok(None),
-        SearchMode::PathAwareGlob => Mode::PathAware,
-    };
-    Ok(Some(Glob::compile(alloc, pattern.path().as_bytes(), mode)?))
 }

@@ -7,6 +7,7 @@ use Rattle.gix_pathspec.specs.Search.{Numbered, specs_of, in_search_order, searc
 use Rattle.gix_pathspec.specs.SelectionLaws.{NoNilPrefix, SpecPathsAreBytes}
 use Rattle.gix_pathspec.specs.Paths.{IsBytes}
 use Rattle.gix_pathspec.specs.Reach.{IsReachOf}
+use Rattle.gix_pathspec.specs.Takers.{takers_of}
 use Rattle.gix_pathspec.proofs.SearchProofs.{search_has_no_nil_prefix, search_of-ordered, of_ordered}
 use Rattle.gix_pathspec.proofs.BuildingProofs.{tells-on, search-fails, search-ordered}
 use Rattle.gix_pathspec.proofs.search.init.build.Goals as goal
@@ -29,6 +30,7 @@ invariant_of-result c =
       has_no_nil_prefix = subst (λ (ns : List Numbered). NoNilPrefix (specs_of ns)) (sym made) (search_has_no_nil_prefix _ _ _ _ is);
       has_byte_paths = subst (λ (ns : List Numbered). SpecPathsAreBytes (specs_of ns)) (sym (made ∙ c.in_ok-specs.ensures)) (of_ordered (λ s. IsBytes s.path) c.in_ok-compiled.compiled.items c.in_ok-compiled.ensures.bytes);
       is_reach = subst (λ (ns : List Numbered). IsReachOf (specs_of ns) c.in_ok-reach.reach) (c.as_slice.ensures.value ∙ sym made) c.in_ok-reach.ensures;
+      are_takers = c.in_ok-takers.ensures ∙ ap (λ (ns : List Numbered). takers_of (specs_of ns)) (c.as_slice-2.ensures.value ∙ sym made);
       is_nil = c.nil.ensures;
       has_room = c.in_ok-scratch.ensures.fits;
     }

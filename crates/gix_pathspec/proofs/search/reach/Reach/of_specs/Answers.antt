@@ -1,10 +1,11 @@
 -- The numbers of the specs don't count.
-use Rattle.std.proofs.Common.{◌≡◌, ◌∙◌, sym, subst, rules, tests, ◌&&◌, Bool, List}
+use Rattle.std.proofs.Common.{◌≡◌, ◌∙◌, sym, subst, rules, tests, ◌&&◌, Bool, true, false, List}
 use Rattle.std.proofs.lemmas.Iterator.{YieldsList-from_slice}
 use Rattle.std.specs.List.{list_any}
 use Rattle.std.proofs.lemmas.Iterator.Search.{any_from_yields_List}
 use Rattle.gix_pathspec.specs.Tables.{IsTableOf}
-use Rattle.gix_pathspec.specs.Reach.{stems_of}
+use Rattle.gix_pathspec.specs.PathTables.{IsPathTableOf}
+use Rattle.gix_pathspec.specs.Reach.{stems_of, taken_paths}
 use Rattle.gix_pathspec.specs.Search.{Numbered, specs_of}
 use Rattle.gix_pathspec.specs.Specs.{Spec, is_include, always_matches}
 use Rattle.gix_pathspec.specs.Pruning.{is_total_exclude}
@@ -23,5 +24,7 @@ returns c = record {
       (any_from_yields_List (λ n. is_include n.spec) _ _ c.any-has_include.result c.any-has_include.ensures.ran (YieldsList-from_slice c.args.specs.now c.iter-2.ensures.rest) (λ x b q k. search (rules, tests)));
   includes_all = some-spec (λ s. is_include s && always_matches s) c.args.specs.now
       (any_from_yields_List (λ n. is_include n.spec && always_matches n.spec) _ _ c.any-includes_all.result c.any-includes_all.ensures.ran (YieldsList-from_slice c.args.specs.now c.iter-3.ensures.rest) (λ x b q k. search (rules, tests)));
-  stems = subst (IsTableOf (stems_of (specs_of c.args.specs.now))) (sym c.in_ok-stems.ensures.ok) c.in_ok-stem_table.ensures;
+  live = subst (IsTableOf (stems_of false (specs_of c.args.specs.now) (specs_of c.args.specs.now))) (sym c.in_ok-live.ensures.ok) c.in_ok-stem_table.ensures;
+  buried = subst (IsTableOf (stems_of true (specs_of c.args.specs.now) (specs_of c.args.specs.now))) (sym c.in_ok-buried.ensures.ok) c.in_ok-stem_table-2.ensures;
+  taken = subst (IsPathTableOf (taken_paths (specs_of c.args.specs.now))) (sym c.in_ok-taken.ensures.ok) c.in_ok-path_table.ensures;
 }

@@ -1,0 +1,212 @@
+-- What the tables of a search and the excludes that are asked one by one say of a directory is whether a walk may skip it.
+use Rattle.std.proofs.Common.{◌≡◌, ℕ, Bool, true, false, not, ◌&&◌, ◌||◌, cond, refl, sym, ◌∙◌, ap, List, [], ◌∷◌, ◌++◌, Option, Some, filter}
+use Rattle.std.specs.List.{list_any}
+use Rattle.gix_pathspec.specs.Bytes.{slash, is_empty}
+use Rattle.gix_pathspec.specs.PathTables.{PathParts, path_takes}
+use Rattle.gix_pathspec.specs.Tables.{stem_reaches}
+use Rattle.gix_pathspec.specs.Specs.{Spec, is_exclude, is_include, ignores_case, wants_directory, always_matches, has_wildcard, prefix_directory}
+use Rattle.gix_pathspec.specs.Matching.{is_in_prefix_directory, glob_matches, is_verbatim_match, is_prefix_match}
+use Rattle.gix_pathspec.specs.Plain.{has_one_case}
+use Rattle.gix_pathspec.specs.Prefixes.{common_prefix}
+use Rattle.gix_pathspec.specs.Pruning.{stem_of, reaches, agree, is_total_exclude, can_match}
+use Rattle.gix_pathspec.specs.Reach.{is_tabled, path_of, taken_paths, is_buried, has_stem, stems_of, reaches_live}
+use Rattle.gix_pathspec.specs.Skipping.{takes_whole, takes_rest, has_open_end, buries, is_live, holds_nothing, may_skip}
+use Rattle.gix_pathspec.specs.SkipTables.{skips_by_tables}
+use Rattle.gix_pathspec.specs.Takers.{is_taker, takers_of, taker_takes}
+use Rattle.gix_pathspec.proofs.ReachProofs.{reached-by-stems}
+use Rattle.pathspec_heads.proofs.StemProofs.{any-ext}
+use Rattle.pathspec_heads.proofs.TableProofs.{any-or, any-kept}
+
+-- ---- tests of lists
+
+-- a test of the elements that another test keeps
+any-filter : {X : Type 0} (keep p : X → Bool) (xs : List X) → list_any p (filter keep xs) ≡ list_any (λ x. keep x && p x) xs
+any-filter keep p [] = refl
+any-filter keep p (x ∷ xs) = here (keep x) (any-filter keep p xs)
+  where
+    here : (b : Bool) → list_any p (filter keep xs) ≡ list_any (λ y. keep y && p y) xs → list_any p (cond b (x ∷ filter keep xs) (filter keep xs)) ≡ ((b && p x) || list_any (λ y. keep y && p y) xs)
+    here true later = ap (λ c. p x || c) later
+    here false later = later
+
+-- a test that also asks what each element shares
+any-and : {X : Type 0} (b : Bool) (p : X → Bool) (xs : List X) → list_any (λ x. b && p x) xs ≡ (b && list_any p xs)
+any-and true p xs = refl
+any-and false p [] = refl
+any-and false p (x ∷ xs) = any-and false p xs
+
+-- three tests of lists
+any-three : {X : Type 0} (p q r : X → Bool) (xs : List X) → list_any (λ x. p x || q x || r x) xs ≡ (list_any p xs || list_any q xs || list_any r xs)
+any-three p q r xs = any-or (λ x. p x || q x) r xs ∙ ap (λ b. b || list_any r xs) (any-or p q xs)
+
+-- where case counts in all of the path or nowhere, no prefix directory is asked for
+one_case-prefix : (s : Spec) (path : List ℕ) (is_dir : Bool) → has_one_case s ≡ true → is_in_prefix_directory s path is_dir ≡ true
+one_case-prefix s path is_dir h = here (ignores_case s) (is_empty (prefix_directory s)) _ _ h
+  where
+    here : (i e b c : Bool) → not (i && not e) ≡ true → (not i || e || b || c) ≡ true
+    here false e b c h = refl
+    here true true b c h = refl
+    here true false b c h = cc
+
+-- ---- what excludes take
+
+module _ (d : List ℕ) where
+  -- an exclude takes every path, or stands in the table and takes this one, or is asked and takes it, just where it takes every path, or this one whole, or its rest
+  taken-one : (s : Spec) → (is_total_exclude s || is_tabled s && path_takes (path_of s) d true || is_taker s && taker_takes s d)
+      ≡ (is_total_exclude s || is_exclude s && takes_whole s d || is_exclude s && takes_rest s d)
+  unfolding takes_whole takes_rest taker_takes
+  taken-one s = here (is_exclude s) (is_empty s.attributes) (always_matches s) (has_one_case s) (not (wants_directory s)) (has_wildcard s) (has_open_end s.mode s) (is_in_prefix_directory s d true) (glob_matches s.mode s (d ++ slash ∷ [])) (is_verbatim_match s d true) (is_prefix_match s d) (one_case-prefix s d true)
+    where
+      with_case : (v p f w o g : Bool) → ((v || p) || (f && w && o || false) && ((f && w && o || false) && ((v || p) || f && w && true && o && g))) ≡ ((v || p) || f && w && true && o && g)
+      with_case true p f w o g = refl
+      with_case false true f w o g = refl
+      with_case false false false w o g = refl
+      with_case false false true false o g = refl
+      with_case false false true true false g = refl
+      with_case false false true true true g = refl
+
+      without_case : (k v p f w o g : Bool) → (f && w && o || true) && ((f && w && o || true) && (k && (v || p) || f && w && k && o && g)) ≡ (k && (v || p) || f && w && k && o && g)
+      without_case k v p false w o g = refl
+      without_case k v p true false o g = refl
+      without_case k v p true true false g = refl
+      without_case k v p true true true g = refl
+
+      here : (x e m c f w o k g v p : Bool) → (c ≡ true → k ≡ true)
+          → (x && m && e || (x && e && not m && c) && (v || p) || (x && e && not m && (e && f && w && o || not c)) && ((x && e && not m && (e && f && w && o || not c)) && (e && (k && (m || v || p)) || e && f && w && k && o && g)))
+          ≡ (x && m && e || x && (e && (k && (m || v || p))) || x && (e && f && w && k && o && g))
+      here false e m c f w o k g v p h = refl
+      here true false true c f w o k g v p h = refl
+      here true false false c f w o k g v p h = refl
+      here true true true c f w o k g v p h = refl
+      here true true false true f w o k g v p h = rw (h refl) (with_case v p f w o g)
+      here true true false false f w o k g v p h = without_case k v p f w o g
+
+  -- so of lists
+  taken-all : (specs : List Spec) → (list_any is_total_exclude specs || list_any (λ p. path_takes p d true) (taken_paths specs) || list_any (λ s. taker_takes s d) (takers_of specs))
+      ≡ (list_any is_total_exclude specs || list_any (λ e. is_exclude e && takes_whole e d) specs || list_any (λ e. is_exclude e && takes_rest e d) specs)
+  taken-all specs =
+      let tabled = any-kept (λ p. path_takes p d true) path_of is_tabled (λ s. path_takes (path_of s) d true) (λ s h. refl) specs in
+      let asked = any-filter is_taker (λ s. taker_takes s d) specs in
+      rw (tabled, asked)
+      (sym (any-three is_total_exclude (λ s. is_tabled s && path_takes (path_of s) d true) (λ s. is_taker s && taker_takes s d) specs)
+      ∙ (any-ext (λ s. is_total_exclude s || is_tabled s && path_takes (path_of s) d true || is_taker s && taker_takes s d) (λ s. is_total_exclude s || is_exclude s && takes_whole s d || is_exclude s && takes_rest s d) taken-one specs
+      ∙ any-three is_total_exclude (λ e. is_exclude e && takes_whole e d) (λ e. is_exclude e && takes_rest e d) specs))
+
+-- ---- what excludes bury
+
+module _ (i : Spec) where
+  -- the path of an include is taken, as what the include wants, by one that ignores case where the include does
+  abbrev hides : PathParts → Bool
+  hides p = (not (ignores_case i) || p.ignores_case) && path_takes p i.path (wants_directory i)
+
+  -- an exclude takes every path or buries the include just where it takes every path, or stands in the table and takes the include's
+  buried-one : (e : Spec) → (is_total_exclude e || is_exclude e && buries e i) ≡ (is_total_exclude e || not (always_matches i || has_wildcard i) && (is_tabled e && hides (path_of e)))
+  unfolding buries
+  buried-one e = here (is_exclude e) (is_empty e.attributes) (always_matches e) (has_one_case e) (always_matches i) (has_wildcard i) (not (ignores_case i) || ignores_case e) (is_in_prefix_directory e i.path (wants_directory i)) (is_verbatim_match e i.path (wants_directory i)) (is_prefix_match e i.path) (one_case-prefix e i.path (wants_directory i))
+    where
+      none : (n : Bool) → false ≡ (n && false)
+      none true = refl
+      none false = refl
+
+      here : (x a m c n w f k v p : Bool) → (c ≡ true → k ≡ true)
+          → (x && m && a || x && (a && not n && not w && (c && f) && (k && (m || v || p)))) ≡ (x && m && a || not (n || w) && ((x && a && not m && c) && (f && (v || p))))
+      here false a m c n w f k v p h = none (not (n || w))
+      here true false true c n w f k v p h = none (not (n || w))
+      here true false false c n w f k v p h = none (not (n || w))
+      here true true true c n w f k v p h = refl
+      here true true false c true w f k v p h = refl
+      here true true false c false true f k v p h = refl
+      here true true false false false false f k v p h = refl
+      here true true false true false false true k v p h = rw (h refl) refl
+      here true true false true false false false k v p h = refl
+
+  -- where no exclude takes every path, one buries the include just where the table says so
+  buried-all : (specs : List Spec) → list_any is_total_exclude specs ≡ false → list_any (λ e. is_exclude e && buries e i) specs ≡ is_buried specs i
+  buried-all specs none =
+      let plain = not (always_matches i || has_wildcard i) in
+      let tabled = any-kept hides path_of is_tabled (λ e. hides (path_of e)) (λ e h. refl) specs in
+      let by_all : (list_any is_total_exclude specs || list_any (λ e. is_exclude e && buries e i) specs) ≡ (list_any is_total_exclude specs || plain && list_any hides (taken_paths specs)) =
+      sym (any-or is_total_exclude (λ e. is_exclude e && buries e i) specs)
+      ∙ (any-ext (λ e. is_total_exclude e || is_exclude e && buries e i) (λ e. is_total_exclude e || plain && (is_tabled e && hides (path_of e))) buried-one specs
+      ∙ (any-or is_total_exclude (λ e. plain && (is_tabled e && hides (path_of e))) specs
+      ∙ ap (λ b. list_any is_total_exclude specs || b) (any-and plain (λ e. is_tabled e && hides (path_of e)) specs ∙ ap (λ b. plain && b) (sym tabled)))) in
+      without (list_any is_total_exclude specs) _ _ none by_all
+    where
+      without : (t a b : Bool) → t ≡ false → (t || a) ≡ (t || b) → a ≡ b
+      without true a b n e = cc
+      without false a b n e = e
+
+-- ---- what includes reach
+
+module _ (d : List ℕ) (is_dir : Option Bool) where
+  -- an include that the table doesn't call buried reaches d just where it always matches, or its stem reaches d
+  live-one : (all : List Spec) (i : Spec) → ((is_include i && not (is_buried all i)) && reaches i d is_dir) ≡ (is_include i && always_matches i || has_stem false all i && stem_reaches (stem_of i) d is_dir)
+  unfolding reaches
+  live-one all i = here (is_include i) (always_matches i) (has_wildcard i) (list_any (hides i) (taken_paths all)) (stem_reaches (stem_of i) d is_dir)
+    where
+      here : (i m w b r : Bool) → ((i && not (not (m || w) && b)) && (m || r)) ≡ (i && m || (i && not m && not (not (m || w) && b)) && r)
+      here false m w b r = refl
+      here true true w b r = refl
+      here true false w b r = refl
+
+  -- where no exclude takes every path, an include that isn't buried reaches d just where the table says so
+  live-all : (specs : List Spec) → list_any is_total_exclude specs ≡ false → list_any (λ i. is_live specs i && reaches i d is_dir) specs ≡ reaches_live specs d is_dir
+  live-all specs none =
+      any-ext (λ i. is_live specs i && reaches i d is_dir) (λ i. is_include i && always_matches i || has_stem false specs i && stem_reaches (stem_of i) d is_dir) one specs
+      ∙ (any-or (λ i. is_include i && always_matches i) (λ i. has_stem false specs i && stem_reaches (stem_of i) d is_dir) specs
+      ∙ ap (λ b. list_any (λ s. is_include s && always_matches s) specs || b) (sym (any-kept (λ t. stem_reaches t d is_dir) stem_of (has_stem false specs) (λ i. stem_reaches (stem_of i) d is_dir) (λ i h. refl) specs)))
+    where
+      one : (i : Spec) → (is_live specs i && reaches i d is_dir) ≡ (is_include i && always_matches i || has_stem false specs i && stem_reaches (stem_of i) d is_dir)
+      one i = ap (λ b. (is_include i && not b) && reaches i d is_dir) (buried-all i specs none) ∙ live-one specs i
+
+-- ---- what may be skipped
+
+-- from what each part says to what all of them do
+by_parts : (no_specs at_top agrees total by_path asked whole rest has_include live unburied reached buried : Bool) → no_specs ≡ false → at_top ≡ false → (total || by_path || asked) ≡ (total || whole || rest) → (total ≡ false → unburied ≡ live) → reached ≡ (live || buried)
+    → (not agrees || total || by_path || has_include && not live || asked)
+    ≡ (not at_top && (not (no_specs || at_top || agrees && not total && (reached || not has_include)) || whole || has_include && not unburied) || not at_top && rest)
+by_parts true at_top agrees total by_path asked whole rest has_include live unburied reached buried e f taken same by = cc
+by_parts false true agrees total by_path asked whole rest has_include live unburied reached buried e f taken same by = cc
+by_parts false false false total by_path asked whole rest has_include live unburied reached buried e f taken same by = refl
+by_parts false false true true by_path asked whole rest has_include live unburied reached buried e f taken same by = refl
+by_parts false false true false by_path asked whole rest has_include live unburied reached buried e f taken same by = here has_include live taken (same refl) by
+  where
+    always : (a b c d : Bool) → (a || true || b) ≡ (c || true || d)
+    always true b true d = refl
+    always true b false d = refl
+    always false b true d = refl
+    always false b false d = refl
+
+    never : (a b c d : Bool) → (a || b) ≡ (c || d) → (a || false || b) ≡ (c || false || d)
+    never true b true d t = t
+    never true b false d t = t
+    never false b true d t = t
+    never false b false d t = t
+
+    either : (r : Bool) → (by_path || asked) ≡ (whole || rest) → (by_path || false || asked) ≡ (not (r || true) || whole || false || rest)
+    either true t = never by_path asked whole rest t
+    either false t = never by_path asked whole rest t
+
+    here : (i l : Bool) → (by_path || asked) ≡ (whole || rest) → unburied ≡ l → reached ≡ (l || buried)
+        → (by_path || i && not l || asked) ≡ (not (reached || not i) || whole || i && not unburied || rest)
+    here false l t u r = either reached t
+    here true true t u r = rw (u, r) (never by_path asked whole rest t)
+    here true false t u r = rw u (always by_path asked (not (reached || false) || whole) rest)
+
+-- the same where there are specs
+skips-some : (specs : List Spec) (d : List ℕ) → is_empty specs ≡ false → is_empty d ≡ false → (skips_by_tables specs d || list_any (λ s. taker_takes s d) (takers_of specs)) ≡ may_skip specs d
+unfolding may_skip holds_nothing can_match
+skips-some specs d some filled =
+    by_parts (is_empty specs) (is_empty d) (agree d (common_prefix specs)) (list_any is_total_exclude specs) (list_any (λ p. path_takes p d true) (taken_paths specs)) (list_any (λ s. taker_takes s d) (takers_of specs))
+    (list_any (λ e. is_exclude e && takes_whole e d) specs) (list_any (λ e. is_exclude e && takes_rest e d) specs) (list_any is_include specs) (reaches_live specs d (Some true)) (list_any (λ i. is_live specs i && reaches i d (Some true)) specs)
+    (list_any (λ s. is_include s && reaches s d (Some true)) specs) (list_any (λ t. stem_reaches t d (Some true)) (stems_of true specs specs)) some filled (taken-all d specs) (live-all d (Some true) specs) (reached-by-stems d (Some true) specs)
+
+-- What the tables of a search and its excludes that are asked one by one say is whether a walk may skip the directory.
+pub skips-as-defined : (specs : List Spec) (d : List ℕ) → is_empty d ≡ false → (skips_by_tables specs d || list_any (λ s. taker_takes s d) (takers_of specs)) ≡ may_skip specs d
+unfolding common_prefix may_skip holds_nothing can_match
+skips-as-defined [] d filled = rw filled refl
+skips-as-defined (s ∷ ss) d filled = skips-some (s ∷ ss) d refl filled
+
+-- To the empty path the answer is no.
+pub skips-no-empty : (specs : List Spec) (d : List ℕ) → is_empty d ≡ true → false ≡ may_skip specs d
+unfolding may_skip holds_nothing
+skips-no-empty specs d e = rw e refl
