@@ -5,10 +5,11 @@ use crate::walks::{add, tree_of};
 use bstr::BStr;
 use gix_pathspec::{Error, parse};
 use pathspec_callers::heads::first_place;
+use pathspec_heads::paths::{PathTable, SpecPath};
 use pathspec_heads::places::PlacesByHead;
 use pathspec_heads::tables::{SpecStem, StemTable};
 use pathspec_parts::attributes::{Assignment, Case, Name, Outcome, StateRef};
-use pathspec_parts::glob::{Glob, Mode, Scratch};
+use pathspec_parts::glob::{DirectoryGlob, Glob, Mode, Scratch};
 use pathspec_parts::path::Stack;
 use pathspec_parts::tree::{Cursor, Tree, TreeError};
 use pathspec_select::Rows;
@@ -54,6 +55,50 @@ fn a_glob_is_compiled_or_memory_ran_out(rt: HostRuntime) -> Result<(), Fail> {
         Makes(Compile(
             "*aaaaaaaaaaaaaaaaaaaaaaaaaaaaaaaaaaaaaaaaaaaaaaaaaaaaaaaaaaaaaaa*b",
             "aaaaaaaaaaaaaaaaaaaaaaaaaaaaaaaaaaaaaaaaaaaaaaaaaaaaaaaaaaaaaaaab",
+        )),
+    ];
+    assert_calls(&rt, rt.alloc(), CALLS)
+}
+
+/// The calls that compile a glob for directories and make the room for its matches, and a directory that it matches.
+#[derive(Clone, Copy)]
+struct CompileDirectory(&'static str, Mode, &'static str);
+
+impl Making for CompileDirectory {
+    type Given = ();
+
+    type Value = bool;
+
+    type Fault = AllocError;
+
+    fn given(&self, _: Global) -> Result<(), Fail> {
+        Ok(())
+    }
+
+    fn make(&self, alloc: Global, _: ()) -> Result<bool, AllocError> {
+        let glob = DirectoryGlob::compile(alloc, self.0.as_bytes(), self.1)?;
+        let mut scratch = Scratch::for_tokens(alloc, glob.tokens())?;
+        let directory = self.2.as_bytes();
+        Ok(glob.fits(&scratch) && glob.matches(directory, Case::Sensitive, &mut scratch))
+    }
+
+    fn is_same(&self, value: &bool, other: &bool) -> bool {
+        *value && *other
+    }
+}
+
+#[test]
+fn a_glob_for_directories_is_compiled_or_memory_ran_out(rt: HostRuntime) -> Result<(), Fail> {
+    const CALLS: &[Makes<CompileDirectory>] = &[
+        Makes(CompileDirectory("/", Mode::Shell, "")),
+        Makes(CompileDirectory("a*", Mode::Shell, "ab")),
+        Makes(CompileDirectory("a/**", Mode::PathAware, "a")),
+        Makes(CompileDirectory("**/b/**", Mode::PathAware, "a/b/c")),
+        Makes(CompileDirectory("a*[!b-d]?[x]*", Mode::Shell, "abeexe")),
+        Makes(CompileDirectory(
+            "*aaaaaaaaaaaaaaaaaaaaaaaaaaaaaaaaaaaaaaaaaaaaaaaaaaaaaaaaaaaaaaa/**",
+            Mode::PathAware,
+            "aaaaaaaaaaaaaaaaaaaaaaaaaaaaaaaaaaaaaaaaaaaaaaaaaaaaaaaaaaaaaaaa",
         )),
     ];
     assert_calls(&rt, rt.alloc(), CALLS)
@@ -133,6 +178,50 @@ impl Making for NewTable {
         }
         value.reaches(b"dOCs", None) && !value.reaches(b"src", None)
     }
+}
+
+/// The call that makes a table of paths.
+#[derive(Clone, Copy)]
+struct NewPathTable;
+
+impl Making for NewPathTable {
+    type Given = ();
+
+    type Value = PathTable;
+
+    type Fault = AllocError;
+
+    fn given(&self, _: Global) -> Result<(), Fail> {
+        Ok(())
+    }
+
+    fn make(&self, alloc: Global, _: ()) -> Result<PathTable, AllocError> {
+        let path = SpecPath {
+            text: b"Src",
+            ignores_case: false,
+            wants_directory: false,
+        };
+        let folded = SpecPath {
+            text: b"Doc",
+            ignores_case: true,
+            wants_directory: true,
+        };
+        PathTable::new(alloc, &[path, folded])
+    }
+
+    fn is_same(&self, value: &PathTable, other: &PathTable) -> bool {
+        for path in [b"Src/a".as_slice(), b"dOC", b"x"] {
+            if value.takes(path, true) != other.takes(path, true) {
+                return false;
+            }
+        }
+        value.takes(b"dOC", true) && !value.takes(b"dOC", false) && !value.takes(b"src", true)
+    }
+}
+
+#[test]
+fn a_table_of_paths_is_made_or_memory_ran_out(rt: HostRuntime) -> Result<(), Fail> {
+    assert_calls(&rt, rt.alloc(), &[Makes(NewPathTable)])
 }
 
 #[test]

@@ -10,6 +10,8 @@ mod building;
 #[cfg(test)]
 mod directories;
 #[cfg(test)]
+mod directory_globs;
+#[cfg(test)]
 mod efforts;
 #[cfg(test)]
 mod environments;
@@ -44,6 +46,8 @@ mod normal_forms;
 #[cfg(test)]
 mod one_by_one;
 #[cfg(test)]
+mod path_tables;
+#[cfg(test)]
 mod paths;
 #[cfg(test)]
 mod patterns;
@@ -59,6 +63,12 @@ mod readme;
 mod scratches;
 #[cfg(test)]
 mod searches;
+#[cfg(test)]
+mod skipping;
+#[cfg(test)]
+mod skipping_by_rule;
+#[cfg(test)]
+mod skipping_walks;
 #[cfg(test)]
 mod specs_first;
 #[cfg(test)]
