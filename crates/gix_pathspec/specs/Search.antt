@@ -22,8 +22,8 @@ pub record Numbered : Type 0 where
 abbrev pub specs_of : List Numbered → List Spec
 specs_of search = map (λ n. n.spec) search
 
--- How many specs the last match asked, and how many heads it compared with the path; and how many all matches asked and
--- compared, modulo 2 ^ 128.
+-- How many specs the last match asked, or the last question whether a walk may skip a directory, and how many heads it
+-- compared with the path; and how many all of them asked and compared, modulo 2 ^ 128.
 pub record MatchCounts : Type 0 where
   pub last_tested : ℕ
   pub last_compared : ℕ

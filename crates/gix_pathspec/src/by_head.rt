@@ -39,10 +39,11 @@ const NO_EFFORT: Effort = Effort {
     compared: 0,
 };
 
-/// What the matches of one walker write: the room that globs and look-ups work in, and what was asked and compared.
+/// What the matches of one walker write, and its questions whether it may skip a directory: the room that globs and look-ups
+/// work in, and what was asked and compared.
 ///
 /// [`Search::new_scratch`](crate::search::Search::new_scratch) makes one. Walkers that share a search have one each. The
-/// counts of all matches are never set back.
+/// totals are never set back.
 #[derive(Drop)]
 pub struct Scratch {
     specs: SpecScratch,
@@ -98,28 +99,30 @@ impl Scratch {
     }
 
     /// How many specs the last match asked whether they match the path; a spec at which the look-up failed is one. It is 0
-    /// before the first match, and where the path was empty or lacked the common prefix.
+    /// before the first match, and where the path was empty or lacked the common prefix. After
+    /// [`Search::may_skip`](crate::search::Search::may_skip) it is how many excludes that call asked one by one.
     pub fn last_tested(&self) -> usize
         ensures { result ≡ self.now.counts.last_tested }
     {
         self.effort.tested
     }
 
-    /// How many heads of specs the last match compared with the path. It is 0 where [`Scratch::last_tested`] says so.
+    /// How many heads of specs the last match or question about a directory compared with the path. It is 0 where
+    /// [`Scratch::last_tested`] of a match says so.
     pub fn last_compared(&self) -> u128
         ensures { result ≡ self.now.counts.last_compared }
     {
         self.effort.compared
     }
 
-    /// How many specs all matches in this scratch asked, modulo 2^128.
+    /// How many specs all matches and questions about directories in this scratch asked, modulo 2^128.
     pub fn total_tested(&self) -> u128
         ensures { result ≡ self.now.counts.tested }
     {
         self.specs.tested()
     }
 
-    /// How many heads all matches in this scratch compared, modulo 2^128.
+    /// How many heads they compared, modulo 2^128.
     pub fn total_compared(&self) -> u128
         ensures { result ≡ self.now.counts.compared }
     {

@@ -27,8 +27,8 @@ impl Search {
     /// The directory's path has no slash at its end, as for [`Search::can_match_relative_path`]. To the empty path the answer
     /// is no.
     ///
-    /// It compares the path with as many stems of includes and paths of excludes as their counts have binary digits, in each of
-    /// at most ten tables. Then it asks, one by one, the excludes whose glob ends with `**`, or in a shell glob with `*`, and
+    /// In each of ten lists, six of stems of includes and four of paths of excludes, it compares the path with at most as many as
+    /// their count has binary digits, and one. Nothing counts these. Then it asks, one by one, the excludes whose glob ends with `**`, or in a shell glob with `*`, and
     /// those without case that have a prefix directory: those whose head begins the directory, up to the first that takes it. It
     /// counts these questions and the comparisons of heads in the scratch, as a match does. It takes no memory.
     pub fn may_skip(&self, directory: BStr<'_>, scratch: &mut Scratch) -> bool
