@@ -16,6 +16,7 @@ pub mod NotChosenProofs
 pub mod PruningNearProofs
 pub mod SharpPruningProofs
 pub mod SkipProofs
+pub mod VisitProofs
 pub mod TakerProofs
 pub mod SkipTableProofs
 pub mod SkipExactProofs

@@ -102,7 +102,7 @@ find_cases p (x ∷ xs) = elim (cases_Bool (p x)) [
   | inr e ↦ rw e (find_cases p xs)
 ]
 
-list_any-map : {X Y : Type 0} (p : Y → Bool) (h : X → Y) (xs : List X) → list_any p (map h xs) ≡ list_any (λ x. p (h x)) xs
+pub list_any-map : {X Y : Type 0} (p : Y → Bool) (h : X → Y) (xs : List X) → list_any p (map h xs) ≡ list_any (λ x. p (h x)) xs
 list_any-map p h [] = refl
 list_any-map p h (x ∷ xs) = ap (λ b. p (h x) || b) (list_any-map p h xs)
 

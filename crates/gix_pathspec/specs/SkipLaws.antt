@@ -7,7 +7,8 @@ use Rattle.gix_pathspec.specs.Specs.{Spec, is_exclude, is_include, ignores_case,
 use Rattle.gix_pathspec.specs.Matching.{IsChosen}
 use Rattle.gix_pathspec.specs.Plain.{has_one_case}
 use Rattle.gix_pathspec.specs.Pruning.{can_match}
-use Rattle.gix_pathspec.specs.Skipping.{holds_nothing, may_skip}
+use Rattle.gix_pathspec.specs.Search.{Numbered, Answer, specs_of, answer}
+use Rattle.gix_pathspec.specs.Skipping.{found_takes_whole, holds_nothing, may_skip}
 
 -- ---- safe
 
@@ -32,6 +33,12 @@ SkippedStays table specs = (d x : List ℕ) → IsTrue (may_skip specs d) → Is
 -- Wider: a directory that pruning says no to may be skipped.
 abbrev pub SkipsMore : List Spec → Type 0
 SkipsMore specs = (d : List ℕ) → IsFalse (can_match specs d (Some true)) → IsTrue (may_skip specs d)
+
+-- ---- found
+
+-- Found: a directory may be skipped where the match of it is by an exclude that takes it whole.
+abbrev pub FoundIsSkipped : Type 0
+FoundIsSkipped = (table : Table) (search : List Numbered) (d : List ℕ) (a : Answer) → answer table search d true ≡ Some a → IsTrue (found_takes_whole a) → IsTrue (may_skip (specs_of search) d)
 
 -- ---- exact
 

@@ -1,9 +1,11 @@
 -- Which directories a walk may skip: pruning that looks at the excludes too.
-use Rattle.std.specs.Prelude.{ℕ, Bool, true, false, not, ◌&&◌, ◌||◌, List, [], ◌∷◌, ◌++◌, Some}
+use Rattle.std.specs.Prelude.{ℕ, Bool, true, false, not, ◌&&◌, ◌||◌, List, [], ◌∷◌, ◌++◌, Option, Some, None}
 use Rattle.std.specs.List.{list_any}
 use Rattle.pathspec_pattern.specs.declared.SearchMode.{SearchMode}
 use Rattle.pathspec_pattern.specs.declared.SearchMode.TheVariants.{ShellGlob, Literal, PathAwareGlob}
 use Rattle.pathspec_glob.specs.declared.Mode.TheVariants.{Shell, PathAware}
+use Rattle.gix_pathspec.specs.declared.search.MatchKind.{MatchKind}
+use Rattle.gix_pathspec.specs.declared.search.MatchKind.TheVariants.{Always, Prefix, WildcardMatch, Verbatim}
 use Rattle.gix_pathspec.specs.Bytes.{slash, is_empty}
 use Rattle.pathspec_glob.specs.OpenEnds.{is_open}
 use Rattle.gix_pathspec.specs.Tokens.{tokens}
@@ -11,6 +13,7 @@ use Rattle.gix_pathspec.specs.Specs.{Spec, is_exclude, is_include, ignores_case,
 use Rattle.gix_pathspec.specs.Matching.{is_in_prefix_directory, glob_matches, is_verbatim_match, is_prefix_match}
 use Rattle.gix_pathspec.specs.Plain.{has_one_case}
 use Rattle.gix_pathspec.specs.Pruning.{reaches, can_match}
+use Rattle.gix_pathspec.specs.Search.{Answer}
 
 -- ---- whole
 
@@ -21,6 +24,22 @@ fits_plainly s path is_dir = is_in_prefix_directory s path is_dir && (always_mat
 -- A spec takes a directory whole: it matches the directory and all below it, whatever a look-up says.
 unfoldable pub takes_whole : Spec → List ℕ → Bool
 takes_whole s d = is_empty s.attributes && fits_plainly s d true
+
+-- the spec came to match otherwise than by its glob
+abbrev pub is_without_glob : MatchKind → Bool
+is_without_glob Always = true
+is_without_glob Prefix = true
+is_without_glob WildcardMatch = false
+is_without_glob Verbatim = true
+
+-- The match of a directory is by an exclude that takes it whole: one without attributes that came to match otherwise than by its glob.
+abbrev pub found_takes_whole : Answer → Bool
+found_takes_whole a = is_exclude a.pattern && is_empty a.pattern.attributes && is_without_glob a.kind
+
+-- there is such a match
+abbrev pub answer_takes_whole : Option Answer → Bool
+answer_takes_whole None = false
+answer_takes_whole (Some a) = found_takes_whole a
 
 -- ---- the rest
 

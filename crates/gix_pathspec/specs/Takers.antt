@@ -1,5 +1,5 @@
 -- Excludes that are asked one by one whether a walk may skip a directory, and how many are asked.
-use Rattle.std.specs.Prelude.{◌≡◌, ℕ, ◌+◌, ◌^◌, ◌<◌, ◌≤◌, Bool, true, not, ◌&&◌, ◌||◌, List, length, map, filter, if◌then◌else◌, Option, Some, None}
+use Rattle.std.specs.Prelude.{◌≡◌, ◌⊎◌, ℕ, ◌+◌, ◌^◌, ◌<◌, ◌≤◌, Bool, true, not, ◌&&◌, ◌||◌, List, length, map, filter, if◌then◌else◌, Option, Some, None}
 use Rattle.pathspec_glob.specs.Counts.{Counts}
 use Rattle.pathspec_glob.specs.Globs.{GlobSource}
 use Rattle.pathspec_heads.specs.Groups.{GroupedPlaces, IsGrouped}
@@ -8,7 +8,8 @@ use Rattle.gix_pathspec.specs.Paths.{without_last_slash}
 use Rattle.gix_pathspec.specs.Specs.{Spec, ignores_case, wants_directory, has_wildcard, prefix_directory}
 use Rattle.gix_pathspec.specs.Plain.{has_one_case}
 use Rattle.gix_pathspec.specs.Prefixes.{stem}
-use Rattle.gix_pathspec.specs.Search.{MatchCounts}
+use Rattle.gix_pathspec.specs.Search.{Numbered, MatchCounts, specs_of}
+use Rattle.gix_pathspec.specs.Effort.{IsCounted}
 use Rattle.gix_pathspec.specs.Skipping.{takes_whole, takes_rest, has_open_end}
 use Rattle.gix_pathspec.specs.Room.{glob_of}
 use Rattle.gix_pathspec.specs.Reach.{takes_by_path}
@@ -60,3 +61,9 @@ pub record IsSkipCounted (takers : List Spec) (d : List ℕ) (old new : MatchCou
   pub compared : Counts old.compared new.last_compared new.compared
   pub few_tested : new.last_tested ≤ taker_count takers d
   pub few_compared : (b : ℕ) → length takers < 2 ^ b → new.last_compared ≤ b + 2
+
+-- What a visit asked and compared is counted: that of the match, and then that of the question whether a walk may skip the path, if it was asked.
+pub record IsVisitCounted (specs : List Numbered) (path : List ℕ) (old new : MatchCounts) : Type 0 where
+  pub between : MatchCounts
+  pub matched : IsCounted specs path old between
+  pub skipped : (new ≡ between) ⊎ IsSkipCounted (takers_of (specs_of specs)) path between new

@@ -13,6 +13,7 @@ mod skipping;
 mod spec;
 mod takers;
 pub(crate) mod texts;
+mod visiting;
 
 use crate::Pattern;
 pub use crate::by_head::Scratch;
@@ -25,6 +26,7 @@ pub use patterns::{IntoPatterns, Patterns};
 use reach::Reach;
 use std::fmt;
 use std::marker::Model;
+pub use visiting::Visit;
 
 /// How a spec came to match a path. The order is that of the variants.
 #[derive(Clone, Copy, Debug, PartialEq, Eq, PartialOrd, Ord, Hash)]

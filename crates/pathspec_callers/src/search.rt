@@ -1,5 +1,5 @@
 //! Callers of the search of `gix_pathspec`.
-ghost use Rattle.std.specs.Prelude.{◌≡◌, ◌≢◌, ◌↔◌, [], map, IfOk, IsTrue};
+ghost use Rattle.std.specs.Prelude.{◌≡◌, ◌≢◌, ◌↔◌, [], map, IfOk, IsTrue, IsFalse};
 ghost use Rattle.bstr.specs.BStr.{bstr_bytes};
 ghost use Rattle.pathspec_parts.specs.Paths.{without_last_slash};
 ghost use Rattle.gix_pathspec.specs.Room.{Fits};
@@ -8,7 +8,7 @@ ghost use Rattle.pathspec_callers.specs.Selections.{IsChosenFile, selected_count
 use bstr::BStr;
 use gix_pathspec::Search;
 use gix_pathspec::attributes::LookUp;
-use gix_pathspec::search::Scratch;
+use gix_pathspec::search::{Scratch, Visit};
 use pathspec_parts::path::strip_last_slash;
 
 /// Whether a search selects a file.
@@ -71,4 +71,23 @@ pub fn may_skip_printed(search: &Search, directory: BStr<'_>, scratch: &mut Scra
 {
     let (directory, _) = strip_last_slash(directory.as_bytes());
     may_skip(search, BStr::new(directory), scratch)
+}
+
+/// What a walker does with a directory: whether it gives it, and whether it goes into it. Below one that it doesn't go into
+/// nothing is chosen, whatever a look-up says.
+///
+/// # Errors
+/// The fault of the look-up.
+pub fn visit_directory<L: LookUp>(
+    search: &Search,
+    directory: BStr<'_>,
+    scratch: &mut Scratch,
+    look_up: &mut L,
+) -> Result<Visit, L::Fault>
+    requires { Fits search.now.specs scratch.old }
+    ensures skipped { IfOk result (λ visit. IsFalse visit.is_entered
+        → HoldsNothingBelow search.now (bstr_bytes directory.entry)) }
+    ensures room { scratch.new.room ≡ scratch.old.room }
+{
+    search.visit(directory, true, scratch, look_up)
 }

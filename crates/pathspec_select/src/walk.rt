@@ -37,9 +37,9 @@ pub enum SelectError<F> {
 /// chosen, unless an include without case stands beside an exclude with case. All this holds for all specs that parse and
 /// normalise, every tree and every steady look-up.
 ///
-/// Each entry that the walk comes to is asked of the search once, and each directory once more, whether it is skipped.
+/// The walk visits each entry that it comes to once ([`Search::visit`]): a directory that an exclude takes whole costs one match.
 /// What lies in a directory that isn't entered costs nothing. It takes memory for a scratch of the search and for the numbers
-/// that it gives. The search is only read, so walks can share it.
+/// that it gives. It only reads the search, so walks can share one.
 ///
 /// # Errors
 /// [`SelectError::LookUp`], only where the look-up failed in this call, and [`SelectError::Memory`]. The cursor then stands at
@@ -102,13 +102,12 @@ fn visit<L: LookUp>(
     ensures table_stays { L.table look_up.new ≡ L.table look_up.old }
     ensures counts { CountsFailure (L.failures look_up.old) (L.failures look_up.new) result }
 {
-    let is_dir = Some(cursor.is_dir());
-    let answer = search.is_selected(cursor.path(), is_dir, scratch, look_up);
-    let is_selected = answer.map_err(SelectError::LookUp)?;
-    if is_selected && given.push(number).is_err() {
+    let visit = search.visit(cursor.path(), cursor.is_dir(), scratch, look_up);
+    let visit = visit.map_err(SelectError::LookUp)?;
+    if visit.is_selected && given.push(number).is_err() {
         return Err(SelectError::Memory);
     }
-    if cursor.is_dir() && !search.may_skip(cursor.path(), scratch) {
+    if visit.is_entered {
         cursor.enter();
     }
     Ok(())

@@ -4,10 +4,10 @@ use crate::growths::{
     ALL, Call, Changes, Changing, Ended, Makes, Making, NONE, assert_calls, refuse,
 };
 use crate::look_ups::Marks;
-use crate::searches::{Settled, search_of_list, settled, settled_in};
+use crate::searches::{Settled, search_of_list, settled, settled_in, visited};
 use crate::support::{pattern_of, search_of, text_of};
 use bstr::{BStr, BString};
-use gix_pathspec::search::Scratch;
+use gix_pathspec::search::{Scratch, Visit};
 use gix_pathspec::{BuildError, Defaults, Error, MagicSignature, Pattern, Search, parse};
 use pathspec_parts::attributes::Assignment;
 use std::alloc::{AllocError, Global};
@@ -16,8 +16,9 @@ use std::test::Fail;
 /// A spec with all that takes memory.
 const TEXT: &str = ":(top,icase,attr:a=x\\,y)p/";
 
-/// Specs, the second of which leaves the directory `a/b` in which both are given.
-const TEXTS: &[&str] = &[TEXT, "../c"];
+/// Specs, the second of which leaves the directory `a/b` in which all are given. A walk asks the third by itself which
+/// directories it takes.
+const TEXTS: &[&str] = &[TEXT, "../c", ":(exclude,glob)d/**"];
 
 /// A call that makes a pattern.
 #[derive(Clone, Copy)]
@@ -343,6 +344,7 @@ fn a_scratch_is_made_or_memory_ran_out(rt: HostRuntime) -> Result<(), Fail> {
 struct Told {
     found: Settled,
     found_in_scratch: Settled,
+    visit: Visit,
     can_match: bool,
     directory_matches: bool,
     common: usize,
@@ -378,8 +380,10 @@ fn answers_of(search: &mut Search, scratch: &mut Scratch, path: &str) -> Result<
         scratch,
         &mut Marks::new(),
     )?;
+    let visit = visited(search, path.as_bytes(), true, scratch)?;
     let path = BStr::new(path.as_bytes());
     Ok(Told {
+        visit,
         found,
         found_in_scratch: found_in_scratch.ok_or("the look-up fails")?,
         can_match: search.can_match_relative_path(path, Some(true)),
@@ -415,6 +419,7 @@ fn a_search_that_is_built_takes_no_memory(rt: HostRuntime) -> Result<(), Fail> {
         Asked(TEXTS, "p/x"),
         Asked(TEXTS, "a/c"),
         Asked(TEXTS, "a"),
+        Asked(TEXTS, "a/b/d"),
         Asked(&["*[!b-d]?x*", ":!**/x", ":(glob)**/*[a-z]/q"], "a/b/cxd"),
         Asked(&[], "a/b/c"),
     ];

@@ -3,7 +3,7 @@ use crate::look_ups::Marks;
 use crate::support::{build_from, pattern_of, search_of};
 use bstr::{BStr, BString};
 use gix_pathspec::attributes::LookUp;
-use gix_pathspec::search::{MatchKind, Scratch};
+use gix_pathspec::search::{MatchKind, Scratch, Visit};
 use gix_pathspec::{Defaults, Error, Pattern, Search};
 use std::alloc::{AllocError, Global};
 use std::test::Fail;
@@ -47,6 +47,19 @@ pub(super) fn settled_in<L: LookUp>(
         return Err("a total of the scratch doesn't tell of the match".into());
     }
     Ok(found)
+}
+
+/// What a walk does with a path, in a scratch of the search's, by marks that no path has.
+pub(super) fn visited(
+    search: &Search,
+    path: &[u8],
+    is_dir: bool,
+    scratch: &mut Scratch,
+) -> Result<Visit, Fail> {
+    if !search.fits(scratch) {
+        return Err("the scratch doesn't fit the search".into());
+    }
+    Ok(search.visit(BStr::new(path), is_dir, scratch, &mut Marks::new())?)
 }
 
 /// Whether a pattern has this long text.

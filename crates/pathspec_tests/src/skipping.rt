@@ -1,10 +1,10 @@
 //! Rows on the directories that a walk may skip, and on what that question counts.
 use crate::look_ups::Marks;
-use crate::searches::search_from;
+use crate::searches::{search_from, visited};
 use crate::support::{Row, assert_each, pattern_of, search_of};
 use bitflags::Flags;
 use bstr::BStr;
-use gix_pathspec::search::Scratch;
+use gix_pathspec::search::{Scratch, Visit};
 use gix_pathspec::{Error, MagicSignature, Pattern, Search};
 use std::alloc::Global;
 use std::process::Abort;
@@ -528,4 +528,56 @@ fn ten_thousand_plain_excludes_are_not_asked(rt: HostRuntime) -> Result<(), Fail
         Asked("x", false, 0),
     ];
     assert_answers(&rt, rt.alloc(), numbered(rt.alloc(), ":!x/", "")?, ROWS)
+}
+
+/// Texts, a path, whether it is a directory, whether a walk gives it and enters it, and how many specs are asked for that.
+#[derive(Clone, Copy)]
+struct Visits(
+    &'static [&'static str],
+    &'static str,
+    bool,
+    (bool, bool),
+    u128,
+);
+
+impl Row for Visits {
+    fn holds(&self, alloc: Global) -> Result<bool, Fail> {
+        let search = search_of(alloc, self.0, "")?;
+        let mut scratch = search.new_scratch(alloc)?;
+        let visit = visited(&search, self.1.as_bytes(), self.2, &mut scratch)?;
+        let (is_selected, is_entered) = self.3;
+        let is_right = visit
+            == Visit {
+                is_selected,
+                is_entered,
+            };
+        Ok(is_right && scratch.total_tested() == self.4)
+    }
+}
+
+#[test]
+#[rattlefmt::skip]
+fn a_walk_visits_each_entry_once(rt: HostRuntime) -> Result<(), Fail> {
+    const ROWS: &[Visits] = &[
+        // One match tells that an exclude takes the directory whole.
+        Visits(&[":!node_modules"], "node_modules", true, (false, false), 1),
+        Visits(&[":!node_modules"], "node_modules/a", true, (false, false), 1),
+        Visits(&[":!node_modules"], "node_modules", false, (false, false), 1),
+        Visits(&[":!node_modules"], "src", true, (true, true), 0),
+        Visits(&[":!node_modules"], "src", false, (true, false), 0),
+        // An include in a glob that nothing prunes.
+        Visits(&["*.md", ":!crates"], "docs", true, (false, true), 1),
+        Visits(&["*.md", ":!crates"], "crates", true, (false, false), 1),
+        // The match of a glob tells nothing of what lies below, so the exclude is asked a second time where it may take it.
+        Visits(&[":(exclude,glob)*.d"], "x.d", true, (false, true), 1),
+        Visits(&[":(exclude,glob)**/target/**"], "target", true, (true, false), 2),
+        Visits(&[":(exclude,glob)**/target/**"], "target/a", true, (false, false), 2),
+        Visits(&[":(exclude,glob)**/target/**"], "target/a", false, (false, false), 1),
+        // No include reaches the directory, or an exclude takes all that one does.
+        Visits(&["a/b"], "c", true, (false, false), 0),
+        Visits(&["a/b", ":!a/b"], "a", true, (false, false), 0),
+        // The empty path is the tree itself.
+        Visits(&[":!a"], "", true, (true, true), 0),
+    ];
+    assert_each(&rt, rt.alloc(), ROWS)
 }

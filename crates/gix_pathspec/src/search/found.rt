@@ -1,13 +1,16 @@
 //! What a search finds for a path.
 ghost use Rattle.std.specs.Prelude.{◌≡◌, ◌≢◌, ◌↔◌, ◌<◌, ◌≤◌, [], length, IsTrue, IfOk, OnOk, OnErr};
+ghost use Rattle.std.specs.Option.{option_map, ForSome};
 ghost use Rattle.bstr.specs.BStr.{bstr_bytes};
 ghost use Rattle.pathspec_parts.specs.Attributes.{next_count};
 ghost use Rattle.gix_pathspec.specs.Specs.{is_exclude};
 ghost use Rattle.gix_pathspec.specs.Patterns.{pattern_spec};
 ghost use Rattle.gix_pathspec.specs.Matching.{is_chosen, IsChosen};
-ghost use Rattle.gix_pathspec.specs.Search.{specs_of};
+ghost use Rattle.gix_pathspec.specs.Found.{is_directory, answer_found, match_view};
+ghost use Rattle.gix_pathspec.specs.Search.{specs_of, answer, selects};
 ghost use Rattle.gix_pathspec.specs.Room.{Fits};
 ghost use Rattle.gix_pathspec.specs.Effort.{IsCounted, IsLittleCompared, IsBySpec, is_unasked};
+ghost use Rattle.gix_pathspec.specs.SkipLaws.{FoundIsSkipped};
 
 use crate::Pattern;
 use crate::search::{MatchKind, Scratch, Search};
@@ -29,19 +32,31 @@ pub struct Match<'a> {
 }
 
 impl<'a> Match<'a> {
+    ghost use Rattle.gix_pathspec.specs.Skipping.{found_takes_whole};
+
     /// Whether the path is taken out.
     pub fn is_excluded(&self) -> bool
         ensures { result ≡ is_exclude (pattern_spec self.now.pattern.now) }
     {
         self.pattern.is_excluded()
     }
+
+    /// Whether this match of a directory is by an exclude that takes the directory whole, as `:!node_modules` takes the
+    /// directory `node_modules`: an exclude without attributes that came to match otherwise than by its glob. A walk may skip
+    /// such a directory.
+    pub fn takes_whole(&self) -> bool
+        ensures { result ≡ found_takes_whole (match_view self.now) }
+    {
+        let is_by_glob = match self.kind {
+            MatchKind::WildcardMatch => true,
+            MatchKind::Always | MatchKind::Prefix | MatchKind::Verbatim => false,
+        };
+        self.is_excluded() && self.pattern.attributes.is_empty() && !is_by_glob
+    }
 }
 
 impl Search {
-    ghost use Rattle.std.specs.Option.{option_map, ForSome};
     ghost use Rattle.gix_pathspec.specs.Reading.{nil_spec};
-    ghost use Rattle.gix_pathspec.specs.Found.{is_directory, answer_found, match_view};
-    ghost use Rattle.gix_pathspec.specs.Search.{answer, selects};
     ghost use Rattle.gix_pathspec.specs.SelectionLaws.{SelectsChosen, SelectsCommon, OrderIsFree, ChosenIsTest, FittedBeginsHead, FittedBeginsStem, FittedMatches};
 
     /// The spec that settles a path: the first in search order that matches it. A path is selected where this match
@@ -85,6 +100,8 @@ impl Search {
         ensures test { ChosenIsTest }
         // What a spec fits begins with its head and its stem, and without attributes it matches what it fits.
         ensures fitted { FittedBeginsHead × FittedBeginsStem × FittedMatches }
+        // So a walk may skip a directory whose match takes it whole.
+        ensures whole { FoundIsSkipped }
         ensures table_stays { L.table look_up.new ≡ L.table look_up.old }
         ensures ok_leaves_count { OnOk result (L.failures look_up.new ≡ L.failures look_up.old) }
         ensures err_counts { OnErr result
@@ -139,10 +156,7 @@ impl Search {
         ensures err_counts { OnErr result
             (L.failures look_up.new ≡ next_count (L.failures look_up.old)) }
     {
-        match self.settle(path, is_dir, scratch, look_up)? {
-            Some(found) => Ok(!found.is_excluded()),
-            None => Ok(false),
-        }
+        Ok(selects(&self.settle(path, is_dir, scratch, look_up)?))
     }
 
     /// How many specs the last match of [`Search::pattern_matching_relative_path`] asked, as [`Scratch::last_tested`] says.
@@ -231,5 +245,15 @@ impl Search {
             .specs
             .find_match(path, is_dir, &mut self.scratch, look_up)?;
         Ok(self.match_found(path, found))
+    }
+}
+
+/// Whether what a search found for a path selects it.
+pub(super) fn selects(found: &Option<Match<'_>>) -> bool
+    ensures { result ≡ selects (option_map match_view found.now) }
+{
+    match found {
+        Some(found) => !found.is_excluded(),
+        None => false,
     }
 }

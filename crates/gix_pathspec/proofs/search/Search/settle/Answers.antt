@@ -10,6 +10,7 @@ use Rattle.gix_pathspec.proofs.EffortProofs.{by-spec}
 use Rattle.gix_pathspec.proofs.FoundProofs.{selected-found}
 use Rattle.gix_pathspec.proofs.HeadProofs.{fitted_begins_head, fitted_begins_stem}
 use Rattle.gix_pathspec.proofs.MatchingProofs.{fitted_matches}
+use Rattle.gix_pathspec.proofs.VisitProofs.{found_is_skipped}
 use Rattle.gix_pathspec.proofs.search.Search.settle.Goals as goal
 
 pub returns-clause-selected : goal.returns-clause-selected
@@ -46,3 +47,9 @@ returns-clause-test g c = chosen_is_test
 
 pub returns-clause-fitted : goal.returns-clause-fitted
 returns-clause-fitted g c = (fitted_begins_head, fitted_begins_stem, fitted_matches)
+
+pub returns-in_err-found-clause-whole : goal.returns-in_err-found-clause-whole
+returns-in_err-found-clause-whole g c = found_is_skipped
+
+pub returns-clause-whole : goal.returns-clause-whole
+returns-clause-whole g c = found_is_skipped

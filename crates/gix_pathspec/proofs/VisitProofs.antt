@@ -1,0 +1,105 @@
+-- What the match of a directory tells of skipping it.
+use Rattle.std.proofs.Common.{◌≡◌, ℕ, Bool, true, false, not, ◌&&◌, ◌||◌, inl, inr, refl, sym, ◌∙◌, ap, List, [], ◌∷◌, length, Option, Some, None, cond}
+use Rattle.std.proofs.lemmas.Bool.{and_from, or_left, or_right, cases_Bool, both_ways}
+use Rattle.std.specs.Prelude.{find}
+use Rattle.std.specs.List.{list_any}
+use Rattle.gix_pathspec.specs.declared.search.MatchKind.{MatchKind}
+use Rattle.gix_pathspec.specs.declared.search.MatchKind.TheVariants.{Always, Prefix, WildcardMatch, Verbatim}
+use Rattle.gix_pathspec.specs.Bytes.{is_empty, begins_with}
+use Rattle.gix_pathspec.specs.Attributes.{Table}
+use Rattle.gix_pathspec.specs.Specs.{Spec, is_exclude, is_include, always_matches}
+use Rattle.gix_pathspec.specs.Reading.{nil_spec}
+use Rattle.gix_pathspec.specs.Matching.{is_in_prefix_directory, is_glob_match, is_verbatim_match, is_prefix_match, fit, spec_matches}
+use Rattle.gix_pathspec.specs.Prefixes.{common_prefix}
+use Rattle.gix_pathspec.specs.Pruning.{reaches, can_match}
+use Rattle.gix_pathspec.specs.Search.{Numbered, Answer, specs_of, answer, answer_of, answer_with}
+use Rattle.gix_pathspec.specs.Skipping.{fits_plainly, takes_whole, takes_rest, is_without_glob, found_takes_whole, answer_takes_whole, is_live, holds_nothing, may_skip}
+use Rattle.gix_pathspec.specs.SkipLaws.{FoundIsSkipped}
+use Rattle.gix_pathspec.proofs.NotChosenProofs.{all_three}
+use Rattle.gix_pathspec.proofs.SelectedProofs.{list_any-map}
+
+-- ---- one exclude
+
+-- what came to match in another way than by the glob
+not_by_glob : (k a g v p : Bool) (kind : MatchKind) → cond k (cond a (Some Always) (cond g (Some WildcardMatch) (cond v (Some Verbatim) (cond p (Some Prefix) None)))) None ≡ Some kind
+    → is_without_glob kind ≡ true → (k && (a || v || p)) ≡ true
+not_by_glob false a g v p kind h n = cc
+not_by_glob true true g v p kind h n = refl
+not_by_glob true false true v p kind h n = let e : kind ≡ WildcardMatch = cc in absurd (both_ways (is_without_glob kind) (ap is_without_glob e) n)
+not_by_glob true false false true p kind h n = refl
+not_by_glob true false false false true kind h n = refl
+not_by_glob true false false false false kind h n = cc
+
+-- an exclude without attributes that fits a directory otherwise than by its glob takes it whole
+found_whole : (s : Spec) (d : List ℕ) (kind : MatchKind) → is_empty s.attributes ≡ true → fit s d true ≡ Some kind → is_without_glob kind ≡ true → takes_whole s d ≡ true
+unfolding takes_whole fit
+found_whole s d kind e h n =
+    and_from (is_empty s.attributes) (fits_plainly s d true) e
+    (not_by_glob (is_in_prefix_directory s d true) (always_matches s) (is_glob_match s d true) (is_verbatim_match s d true) (is_prefix_match s d) kind h n)
+
+-- the exclude takes the directory whole
+abbrev excludes_whole : List ℕ → Spec → Bool
+excludes_whole d e = is_exclude e && takes_whole e d
+
+-- ---- the answer
+
+-- the nil pattern is no exclude
+not_by_nil : (n : ℕ) (a : Answer) → Some (record { pattern = nil_spec; number = n; kind = Always }) ≡ Some a → found_takes_whole a ≡ false
+not_by_nil n a h = let e : record { pattern = nil_spec; number = n; kind = Always } ≡ a = cc in ap found_takes_whole (sym e)
+
+-- where an include is there, none answers for all
+not_by_default : (b : Bool) (n : ℕ) (a : Answer) → cond b None (Some (record { pattern = nil_spec; number = n; kind = Always })) ≡ Some a → found_takes_whole a ≡ false
+not_by_default true n a h = cc
+not_by_default false n a h = not_by_nil n a h
+
+-- the spec that answers takes the directory whole
+by_whole : (n : Numbered) (d : List ℕ) (o : Option MatchKind) (a : Answer) → fit n.spec d true ≡ o → answer_with n o ≡ Some a → found_takes_whole a ≡ true → excludes_whole d n.spec ≡ true
+by_whole n d None a f h t = cc
+by_whole n d (Some kind) a f h t =
+    let e : a ≡ record { pattern = n.spec; number = n.number; kind = kind } = cc in
+    let p = all_three (is_exclude n.spec) (is_empty n.spec.attributes) (is_without_glob kind) (ap found_takes_whole (sym e) ∙ t) in
+    and_from (is_exclude n.spec) (takes_whole n.spec d) p.0 (found_whole n.spec d kind p.1 f p.2)
+
+-- what is found stands in the list
+any-found : {X : Type 0} (p q : X → Bool) (xs : List X) (x : X) → find p xs ≡ Some x → q x ≡ true → list_any q xs ≡ true
+any-found p q [] x h t = cc
+any-found p q (y ∷ xs) x h t = elim (cases_Bool (p y)) [
+  | inl e ↦ let g = rw e at h in let same : y ≡ x = cc in or_left (q y) (list_any q xs) (ap q same ∙ t)
+  | inr e ↦ let g = rw e at h in or_right (q y) (list_any q xs) (any-found p q xs x g t)
+]
+
+-- so a spec of the search takes the directory whole
+some_whole : (search : List Numbered) (d : List ℕ) (p : Numbered → Bool) (o : Option Numbered) (a : Answer) → find p search ≡ o → answer_of search d true o ≡ Some a → found_takes_whole a ≡ true → list_any (excludes_whole d) (specs_of search) ≡ true
+some_whole search d p None a f h t = absurd (both_ways (found_takes_whole a) (not_by_default (list_any is_include (specs_of search)) (length search) a h) t)
+some_whole search d p (Some n) a f h t =
+    list_any-map (excludes_whole d) (λ (m : Numbered). m.spec) search ∙ any-found p (λ m. excludes_whole d m.spec) search n f (by_whole n d (fit n.spec d true) a refl h t)
+
+-- ---- a walk may skip it
+
+-- one of three tests, the second
+second_of_three : (a b c : Bool) → b ≡ true → (a || b || c) ≡ true
+second_of_three true b c h = refl
+second_of_three false b c h = or_left b c h
+
+whole-skipped : (specs : List Spec) (d : List ℕ) → is_empty d ≡ false → list_any (excludes_whole d) specs ≡ true → may_skip specs d ≡ true
+unfolding may_skip holds_nothing
+whole-skipped specs d some h =
+    let whole = list_any (excludes_whole d) specs in
+    let unreached = list_any is_include specs && not (list_any (λ i. is_live specs i && reaches i d (Some true)) specs) in
+    or_left (holds_nothing specs d) (not (is_empty d) && list_any (λ e. is_exclude e && takes_rest e d) specs)
+    (and_from (not (is_empty d)) (not (can_match specs d (Some true)) || whole || unreached) (ap not some) (second_of_three (not (can_match specs d (Some true))) whole unreached h))
+
+pub found_is_skipped : FoundIsSkipped
+unfolding answer
+found_is_skipped table search d a h t = elim (cases_Bool (is_empty d)) [
+  | inl e ↦ let g = rw e at h in absurd (both_ways (found_takes_whole a) (not_by_nil 0 a g) t)
+  | inr e ↦ elim (cases_Bool (begins_with d (common_prefix (specs_of search)))) [
+    | inl b ↦ let g = rw (e, b) at h in whole-skipped (specs_of search) d e (some_whole search d (λ n. spec_matches table n.spec d true) _ a refl g t)
+    | inr b ↦ let g = rw (e, b) at h in cc
+  ]
+]
+
+-- so a directory may be skipped whose match takes it whole
+pub visit-skipped : (table : Table) (search : List Numbered) (d : List ℕ) (is_dir : Bool) (o : Option Answer) → o ≡ answer table search d is_dir → is_dir ≡ true → answer_takes_whole o ≡ true → may_skip (specs_of search) d ≡ true
+visit-skipped table search d is_dir None e k t = cc
+visit-skipped table search d is_dir (Some a) e k t = found_is_skipped table search d a (ap (answer table search d) (sym k) ∙ sym e) t

@@ -1,0 +1,100 @@
+//! What a walk does with the entries of a tree.
+ghost use Rattle.std.specs.Prelude.{◌≡◌, ◌≢◌, ◌⊎◌, ◌&&◌, [], true, not, IfOk, OnOk, OnErr};
+ghost use Rattle.std.specs.Option.{option_map};
+ghost use Rattle.bstr.specs.BStr.{bstr_bytes};
+ghost use Rattle.pathspec_parts.specs.Attributes.{next_count};
+ghost use Rattle.gix_pathspec.specs.Attributes.{Table};
+ghost use Rattle.gix_pathspec.specs.Found.{match_view};
+ghost use Rattle.gix_pathspec.specs.Matching.{is_chosen};
+ghost use Rattle.gix_pathspec.specs.Room.{Fits};
+ghost use Rattle.gix_pathspec.specs.Search.{specs_of};
+ghost use Rattle.gix_pathspec.specs.Skipping.{answer_takes_whole, may_skip};
+ghost use Rattle.gix_pathspec.specs.SkipLaws.{SkippedIsNotChosen};
+ghost use Rattle.gix_pathspec.specs.Takers.{IsSkipCounted, IsVisitCounted, takers_of};
+
+use crate::search::found::selects;
+use crate::search::{Match, Scratch, Search};
+use bstr::BStr;
+use pathspec_parts::attributes::LookUp;
+
+/// What a walk does with an entry of a tree.
+#[derive(Clone, Copy, Debug, PartialEq, Eq)]
+pub struct Visit {
+    /// The search selects the entry.
+    pub is_selected: bool,
+    /// The entry is a directory that the walk may not skip.
+    pub is_entered: bool,
+}
+
+impl Search {
+    /// What a walk does with an entry that it comes to: whether the search selects it, as [`Search::is_selected`] says, and
+    /// whether it is a directory that the walk enters, since it may not skip it ([`Search::may_skip`]) (own; gix-pathspec has no
+    /// such call).
+    ///
+    /// One call costs less than the two. Where the match of a directory takes it whole
+    /// ([`Match::takes_whole`]), as `:!node_modules` does, the search asks nothing more; of a
+    /// file it asks no second question either. Else the cost and the paths are those of both calls, and
+    /// [`Scratch::last_tested`] tells of the second.
+    ///
+    /// # Errors
+    /// The look-up's fault, and only where the look-up failed in this call.
+    pub fn visit<L: LookUp>(
+        &self,
+        path: BStr<'_>,
+        is_dir: bool,
+        scratch: &mut Scratch,
+        look_up: &mut L,
+    ) -> Result<Visit, L::Fault>
+        requires { Fits self.now.specs scratch.old }
+        ensures selected { IfOk result (λ visit. bstr_bytes path.entry ≢ []
+            → visit.is_selected ≡ is_chosen (L.table look_up.old) (specs_of self.now.specs)
+            (bstr_bytes path.entry) is_dir) }
+        ensures entered { IfOk result (λ visit. visit.is_entered
+            ≡ (is_dir && not (may_skip (specs_of self.now.specs) (bstr_bytes path.entry)))) }
+        // Nothing below a directory that isn't entered is chosen, whatever a look-up says.
+        ensures safe { (table : Table) → SkippedIsNotChosen table (specs_of self.now.specs) }
+        ensures room { scratch.new.room ≡ scratch.old.room }
+        ensures counted { IsVisitCounted self.now.specs (bstr_bytes path.entry)
+            scratch.old.counts scratch.new.counts }
+        ensures table_stays { L.table look_up.new ≡ L.table look_up.old }
+        ensures ok_leaves_count { OnOk result (L.failures look_up.new ≡ L.failures look_up.old) }
+        ensures err_counts { OnErr result
+            (L.failures look_up.new ≡ next_count (L.failures look_up.old)) }
+    {
+        // The proof reads here that no nil spec has a prefix directory.
+        let _ = &self.specs;
+        let found = self.settle(path, Some(is_dir), scratch, look_up)?;
+        let is_selected = selects(&found);
+        let is_skipped = takes_whole(&found);
+        let is_entered = self.enters(path, is_dir, is_skipped, scratch);
+        Ok(Visit {
+            is_selected,
+            is_entered,
+        })
+    }
+
+    /// Whether a walk enters an entry: a directory that it may not skip, where it isn't known already that it may.
+    fn enters(&self, path: BStr<'_>, is_dir: bool, is_skipped: bool, scratch: &mut Scratch) -> bool
+        requires fits { Fits self.now.specs scratch.old }
+        requires skipped { is_dir ≡ true → is_skipped ≡ true
+            → may_skip (specs_of self.now.specs) (bstr_bytes path) ≡ true }
+        ensures entered { result
+            ≡ (is_dir && not (may_skip (specs_of self.now.specs) (bstr_bytes path.entry))) }
+        ensures room { scratch.new.room ≡ scratch.old.room }
+        ensures counted { (scratch.new.counts ≡ scratch.old.counts)
+            ⊎ IsSkipCounted (takers_of (specs_of self.now.specs))
+            (bstr_bytes path.entry) scratch.old.counts scratch.new.counts }
+    {
+        is_dir && !is_skipped && !self.may_skip(path, scratch)
+    }
+}
+
+/// Whether what a search found for a directory takes it whole.
+fn takes_whole(found: &Option<Match<'_>>) -> bool
+    ensures { result ≡ answer_takes_whole (option_map match_view found.now) }
+{
+    match found {
+        Some(found) => found.takes_whole(),
+        None => false,
+    }
+}
