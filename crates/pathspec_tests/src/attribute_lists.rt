@@ -1,8 +1,8 @@
 //! What lists of attributes say, and how they are refused.
 use crate::reading::is_fault;
-use crate::support::{Row, assert_each};
 use gix_pathspec::Pattern;
 use gix_pathspec::parse::attributes;
+use pathspec_test_support::support::{Row, assert_each};
 use std::alloc::Global;
 use std::test::Fail;
 
@@ -39,7 +39,7 @@ fn parts_of_a_list_say_assignments(rt: HostRuntime) -> Result<(), Fail> {
         Says("a a", b":(attr:a a)"),
         Says("A.b-c_9", b":(attr:A.b-c_9)"),
     ];
-    assert_each(&rt, rt.alloc(), ROWS)
+    assert_each(rt.alloc(), ROWS)
 }
 
 #[test]
@@ -61,5 +61,5 @@ fn the_first_part_at_fault_is_told(rt: HostRuntime) -> Result<(), Fail> {
         Says("a=x\\ b=.", b"TrailingEscape(x\\)"),
         Says("a b! c=.", b"InvalidName(b!)"),
     ];
-    assert_each(&rt, rt.alloc(), ROWS)
+    assert_each(rt.alloc(), ROWS)
 }

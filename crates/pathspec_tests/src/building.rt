@@ -1,8 +1,8 @@
 //! Searches that are made of specs, and specs that make none.
-use crate::searches::{Texts, search_of_list, search_of_many};
-use crate::support::{Row, assert_each, build, search_of};
 use bstr::BStr;
 use gix_pathspec::{BuildError, Error, MagicSignature, Pattern, Search, SearchMode};
+use pathspec_test_support::searches::{Texts, search_of_list, search_of_many};
+use pathspec_test_support::support::{Row, assert_each, build, search_of};
 use std::alloc::{AllocError, Global};
 use std::test::Fail;
 
@@ -43,7 +43,7 @@ fn the_first_fault_is_told(rt: HostRuntime) -> Result<(), Fail> {
         Fault(&["x", "/x", ".."], 1, "OutsideRoot", "spec 1: path is not inside of the repository: /x"),
         Fault(&["x", "y", ":!../z", ".."], 2, "LeavesRepository", "spec 2: path leaves the repository: ../z"),
     ];
-    assert_each(&rt, rt.alloc(), ROWS)
+    assert_each(rt.alloc(), ROWS)
 }
 
 #[test]

@@ -1,8 +1,8 @@
 //! Rows on what a search tells before any path is matched.
-use crate::support::{Row, assert_each, search_of};
 use bstr::BStr;
 use gix_pathspec::search::{IntoPatterns, Patterns};
 use gix_pathspec::{Pattern, Search};
+use pathspec_test_support::support::{Row, assert_each, search_of};
 use std::alloc::Global;
 use std::test::Fail;
 
@@ -71,7 +71,7 @@ fn stems_and_directories_lead_to_one_another(rt: HostRuntime) -> Result<(), Fail
         Leads(&["src/lib"], CanMatch(Some(true)), "src", true),
         Leads(&["src/lib"], CanMatch(Some(true)), "src/", false),
     ];
-    assert_each(&rt, rt.alloc(), ROWS)
+    assert_each(rt.alloc(), ROWS)
 }
 
 #[test]
@@ -89,7 +89,7 @@ fn directories_lie_in_the_prefix(rt: HostRuntime) -> Result<(), Fail> {
         Leads(&[":(exclude,attr:a)."], InPrefix(true), "q", true),
         Leads(&[], InPrefix(false), "q", true),
     ];
-    assert_each(&rt, rt.alloc(), ROWS)
+    assert_each(rt.alloc(), ROWS)
 }
 
 /// Texts, the directory that they are given in, and the common prefix, the prefix directory and the longest common
@@ -138,7 +138,7 @@ fn prefixes_and_directories_are_told(rt: HostRuntime) -> Result<(), Fail> {
         Tells(&[":"], "a", "", "", ""),
         Tells(&[], "", "", "", ""),
     ];
-    assert_each(&rt, rt.alloc(), ROWS)
+    assert_each(rt.alloc(), ROWS)
 }
 
 /// Whether this is the pattern with this path.

@@ -1,8 +1,8 @@
 //! Rows on how many specs a match asks, and how many heads it compares.
-use crate::searches::{Settled, Texts, nested, search_of_many, settled};
-use crate::support::{Row, assert_each, search_of};
 use gix_pathspec::Search;
 use gix_pathspec::search::MatchKind;
+use pathspec_test_support::searches::{Settled, Texts, nested, search_of_many, settled};
+use pathspec_test_support::support::{Row, assert_each, search_of};
 use std::alloc::Global;
 use std::process::Abort;
 use std::test::Fail;
@@ -92,7 +92,7 @@ fn only_specs_whose_head_begins_the_path_are_asked(rt: HostRuntime) -> Result<()
         Asks(&[":(icase)A", ":(top)d"], "d", "d/a", Some((0, VERBATIM)), 1, 2),
         Asks(&[":(icase)A", ":(top)d"], "d", "d/b", Some((1, PREFIX)), 1, 2),
     ];
-    assert_each(&rt, rt.alloc(), ROWS)
+    assert_each(rt.alloc(), ROWS)
 }
 
 /// In how many directories `a` a path lies, each in the one before it, the path in the last, what a match of it tells, and

@@ -1,6 +1,6 @@
 //! What the errors of reading and normalising tell.
-use crate::support::{Row, assert_each};
 use gix_pathspec::Error;
+use pathspec_test_support::support::{Row, assert_each};
 use std::alloc::{AllocError, Global};
 use std::test::Fail;
 
@@ -31,7 +31,7 @@ fn errors_have_a_kind_and_a_text(rt: HostRuntime) -> Result<(), Fail> {
         Told(Error::GlobAndNoGlob, "GlobAndNoGlob", "glob and no-glob settings are incompatible"),
         Told(Error::Memory, "Memory", "out of memory"),
     ];
-    assert_each(&rt, rt.alloc(), &rows)
+    assert_each(rt.alloc(), &rows)
 }
 
 /// A kind, the bytes that its error carries, and the error's text.
@@ -79,5 +79,5 @@ fn errors_that_carry_bytes_have_a_kind_and_a_text(rt: HostRuntime) -> Result<(),
         Carrying("LeavesRepository", "..", "path leaves the repository: .."),
         Carrying("NotTruth", "maybe", "not a boolean: maybe"),
     ];
-    assert_each(&rt, rt.alloc(), ROWS)
+    assert_each(rt.alloc(), ROWS)
 }

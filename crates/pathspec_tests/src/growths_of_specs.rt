@@ -1,15 +1,15 @@
 //! Each growth refused in turn, of calls that read, write, normalise and build specs.
 use crate::building::{are_same, is_cloned};
-use crate::growths::{
-    ALL, Call, Changes, Changing, Ended, Makes, Making, NONE, assert_calls, refuse,
-};
-use crate::look_ups::Marks;
-use crate::searches::{Settled, search_of_list, settled, settled_in, visited};
-use crate::support::{pattern_of, search_of, text_of};
 use bstr::{BStr, BString};
 use gix_pathspec::search::{Scratch, Visit};
 use gix_pathspec::{BuildError, Defaults, Error, MagicSignature, Pattern, Search, parse};
 use pathspec_parts::attributes::Assignment;
+use pathspec_test_support::growths::{
+    ALL, Call, Changes, Changing, Ended, Makes, Making, NONE, assert_calls, refuse,
+};
+use pathspec_test_support::look_ups::Marks;
+use pathspec_test_support::searches::{Settled, search_of_list, settled, settled_in, visited};
+use pathspec_test_support::support::{pattern_of, search_of, text_of};
 use std::alloc::{AllocError, Global};
 use std::test::Fail;
 
@@ -64,7 +64,7 @@ fn a_pattern_is_made_or_memory_ran_out(rt: HostRuntime) -> Result<(), Fail> {
         Makes(PatternCall::FromLiteral),
         Makes(PatternCall::TryClone),
     ];
-    assert_calls(&rt, rt.alloc(), CALLS)
+    assert_calls(rt.alloc(), CALLS)
 }
 
 /// A call that tells a fault with bytes.
@@ -134,7 +134,7 @@ fn a_fault_is_told_or_memory_ran_out(rt: HostRuntime) -> Result<(), Fail> {
         Makes(FaultCall::Normalize("../../x")),
         Makes(FaultCall::Normalize("/q/x")),
     ];
-    assert_calls(&rt, rt.alloc(), CALLS)
+    assert_calls(rt.alloc(), CALLS)
 }
 
 /// The call that writes a pattern's long text.
@@ -163,7 +163,7 @@ impl Making for LongText {
 
 #[test]
 fn a_long_text_is_written_or_memory_ran_out(rt: HostRuntime) -> Result<(), Fail> {
-    assert_calls(&rt, rt.alloc(), &[Makes(LongText)])
+    assert_calls(rt.alloc(), &[Makes(LongText)])
 }
 
 /// The call that reads a list of attributes.
@@ -192,7 +192,7 @@ impl Making for Attributes {
 
 #[test]
 fn a_list_of_attributes_is_read_or_memory_ran_out(rt: HostRuntime) -> Result<(), Fail> {
-    assert_calls(&rt, rt.alloc(), &[Makes(Attributes)])
+    assert_calls(rt.alloc(), &[Makes(Attributes)])
 }
 
 /// The call that normalises the pattern of a text, given in the directory `a/b` of a repository at `/r`.
@@ -227,7 +227,7 @@ fn a_pattern_is_normalised_or_as_before(rt: HostRuntime) -> Result<(), Fail> {
         Changes(Normalize(":(icase,exclude,attr:gen)../..")),
         Changes(Normalize(":(glob,attr:gen)/r/a/*/")),
     ];
-    assert_calls(&rt, rt.alloc(), CALLS)
+    assert_calls(rt.alloc(), CALLS)
 }
 
 /// A call that makes a search.
@@ -280,7 +280,7 @@ fn a_search_is_built_or_memory_ran_out(rt: HostRuntime) -> Result<(), Fail> {
         Makes(SearchCall::FromNoSpecs),
         Makes(SearchCall::FromLines),
     ];
-    assert_calls(&rt, rt.alloc(), CALLS)
+    assert_calls(rt.alloc(), CALLS)
 }
 
 /// The call that copies a search.
@@ -303,7 +303,7 @@ impl Call for CloneSearch {
 
 #[test]
 fn a_search_is_copied_or_memory_ran_out(rt: HostRuntime) -> Result<(), Fail> {
-    assert_calls(&rt, rt.alloc(), &[CloneSearch])
+    assert_calls(rt.alloc(), &[CloneSearch])
 }
 
 /// The call that makes a scratch of a search of these texts, which are given in the directory `a`.
@@ -336,7 +336,7 @@ fn a_scratch_is_made_or_memory_ran_out(rt: HostRuntime) -> Result<(), Fail> {
             ":(glob)**/y",
         ]),
     ];
-    assert_calls(&rt, rt.alloc(), CALLS)
+    assert_calls(rt.alloc(), CALLS)
 }
 
 /// What a search tells of a path and of itself, without memory.
@@ -423,5 +423,5 @@ fn a_search_that_is_built_takes_no_memory(rt: HostRuntime) -> Result<(), Fail> {
         Asked(&["*[!b-d]?x*", ":!**/x", ":(glob)**/*[a-z]/q"], "a/b/cxd"),
         Asked(&[], "a/b/c"),
     ];
-    assert_calls(&rt, rt.alloc(), CALLS)
+    assert_calls(rt.alloc(), CALLS)
 }

@@ -1,7 +1,7 @@
 //! Rows on the long texts of specs.
 use crate::reading::Reads;
-use crate::support::assert_each;
 use gix_pathspec::{Defaults, Pattern};
+use pathspec_test_support::support::assert_each;
 use std::test::Fail;
 
 #[test]
@@ -26,7 +26,7 @@ fn long_texts_read_back(rt: HostRuntime) -> Result<(), Fail> {
         Reads(":(prefix:1)a/", b":(prefix:1)a/"),
         Reads(":(prefix:0012)abcdefghijkl/m", b":(prefix:12)abcdefghijkl/m"),
     ];
-    assert_each(&rt, rt.alloc(), ROWS)
+    assert_each(rt.alloc(), ROWS)
 }
 
 #[test]

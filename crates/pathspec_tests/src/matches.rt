@@ -1,10 +1,12 @@
 //! Rows on which spec settles a path.
-use crate::look_ups::Marks;
-use crate::searches::{Settled, is_written, patterns_of, search_of_list, settled, settled_in};
-use crate::support::{Row, assert_each, assert_rising, search_of};
 use bstr::BStr;
 use gix_pathspec::search::{Match, MatchKind, Scratch};
 use gix_pathspec::{Pattern, Search};
+use pathspec_test_support::look_ups::Marks;
+use pathspec_test_support::searches::{
+    Settled, is_written, patterns_of, search_of_list, settled, settled_in,
+};
+use pathspec_test_support::support::{Row, assert_each, assert_rising, search_of};
 use std::alloc::{AllocError, Global};
 use std::test::Fail;
 
@@ -73,7 +75,7 @@ fn the_first_spec_that_matches_settles_a_path(rt: HostRuntime) -> Result<(), Fai
         Found(&[], "", "x", false, Some((0, MatchKind::Always))),
         Found(&[], "", "", false, Some((0, MatchKind::Always))),
     ];
-    assert_each(&rt, rt.alloc(), ROWS)
+    assert_each(rt.alloc(), ROWS)
 }
 
 /// How the first spec matches.
@@ -120,7 +122,7 @@ fn specs_match_paths_in_four_ways(rt: HostRuntime) -> Result<(), Fail> {
         Found(&[":(glob)s*"], "", "src", true, WILDCARD),
         Found(&[":(glob)s*"], "", "src/", true, None),
     ];
-    assert_each(&rt, rt.alloc(), ROWS)
+    assert_each(rt.alloc(), ROWS)
 }
 
 #[test]
@@ -175,7 +177,7 @@ fn stars_and_brackets_match_by_the_mode(rt: HostRuntime) -> Result<(), Fail> {
         Found(&["[a"], "", "[a", false, VERBATIM),
         Found(&["[a"], "", "a", false, None),
     ];
-    assert_each(&rt, rt.alloc(), ROWS)
+    assert_each(rt.alloc(), ROWS)
 }
 
 /// Texts, a file, the long text of the pattern that settles it, and whether the file is taken out.
@@ -206,7 +208,7 @@ fn a_match_lends_its_pattern(rt: HostRuntime) -> Result<(), Fail> {
         Lent(&["src/**", ":!src/generated/**"], "src/generated/lib.rs", ":(exclude)src/generated/**", true),
         Lent(&["src/**", ":!src/generated/**"], "", ":", false),
     ];
-    assert_each(&rt, rt.alloc(), ROWS)
+    assert_each(rt.alloc(), ROWS)
 }
 
 /// Whether this is found of a file, and so many questions were asked for it. The look-up would fail at one more.
@@ -269,7 +271,7 @@ fn attributes_are_asked_where_the_spec_fits(rt: HostRuntime) -> Result<(), Fail>
         Asked(TEXTS, "z", Some(3), 0, 1),
         Asked(TEXTS, "q", None, 0, 0),
     ];
-    assert_each(&rt, rt.alloc(), ROWS)
+    assert_each(rt.alloc(), ROWS)
 }
 
 #[test]
@@ -281,7 +283,7 @@ fn no_attributes_are_asked_where_the_spec_does_not_fit(rt: HostRuntime) -> Resul
         Asked(&[":(attr:gen)x/", "x"], "x", Some(1), 0, 2),
         Asked(&[":(exclude,attr:gen)*y", "x"], "x", Some(1), 0, 2),
     ];
-    assert_each(&rt, rt.alloc(), ROWS)
+    assert_each(rt.alloc(), ROWS)
 }
 
 #[test]
@@ -319,7 +321,7 @@ fn lends(search: &mut Search, path: &str, marks: &mut Marks) -> Option<bool> {
 
 #[test]
 fn a_fault_changes_no_later_answer(rt: HostRuntime) -> Result<(), Fail> {
-    assert_each(&rt, rt.alloc(), &[FailsAfter(0), FailsAfter(1)])
+    assert_each(rt.alloc(), &[FailsAfter(0), FailsAfter(1)])
 }
 
 /// Whether a search and a scratch tell the same of their last match and of all.
@@ -369,7 +371,7 @@ fn lending_a_match_leaves_the_search_as_settling_leaves_a_scratch(
         Left("x", 1, Some(true)),
         Left("x", 0, None),
     ];
-    assert_each(&rt, rt.alloc(), ROWS)
+    assert_each(rt.alloc(), ROWS)
 }
 
 /// A match with these fields.
@@ -406,7 +408,7 @@ fn matches_are_compared_field_by_field(rt: HostRuntime) -> Result<(), Fail> {
     let patterns = patterns_of(rt.alloc(), &[b"a", b"a", b"b"])?;
     if let [low, copy, high] = patterns.as_slice() {
         let values = rising(low, high);
-        assert_rising(&rt, &values, &rising(copy, high));
+        assert_rising(&values, &rising(copy, high))?;
         assert!(rt; are_equal_to_clones(&values)?);
         return Ok(());
     }
@@ -414,12 +416,12 @@ fn matches_are_compared_field_by_field(rt: HostRuntime) -> Result<(), Fail> {
 }
 
 #[test]
-fn kinds_are_ordered_by_their_variants(rt: HostRuntime) {
+fn kinds_are_ordered_by_their_variants() -> Result<(), Fail> {
     let rising = [
         MatchKind::Always,
         MatchKind::Prefix,
         MatchKind::WildcardMatch,
         MatchKind::Verbatim,
     ];
-    assert_rising(&rt, &rising, &rising);
+    assert_rising(&rising, &rising)
 }

@@ -1,9 +1,9 @@
 //! Rows on the normal forms of specs.
 use crate::reading::{has_long_text, is_fault};
-use crate::support::{Row, assert_each, pattern_of};
 use bstr::BStr;
 use gix_pathspec::{Defaults, Error, Pattern};
 use pathspec_parts::path::is_clean_prefix;
+use pathspec_test_support::support::{Row, assert_each, pattern_of};
 use std::alloc::Global;
 use std::test::Fail;
 
@@ -79,7 +79,7 @@ fn paths_are_resolved_from_the_prefix(rt: HostRuntime) -> Result<(), Fail> {
         Normal("a/b", "", "./", b":(prefix:3)a/b/"),
         Normal("a/b", "", "../b/c", b":(prefix:1)a/b/c"),
     ];
-    assert_each(&rt, rt.alloc(), ROWS)
+    assert_each(rt.alloc(), ROWS)
 }
 
 #[test]
@@ -93,7 +93,7 @@ fn absolute_paths_are_resolved_from_the_root(rt: HostRuntime) -> Result<(), Fail
         Normal("p", "/r", "/r/a/../b", b":()b"),
         Normal("p", "/", "/a", b":()a"),
     ];
-    assert_each(&rt, rt.alloc(), ROWS)
+    assert_each(rt.alloc(), ROWS)
 }
 
 #[test]
@@ -113,7 +113,7 @@ fn what_lies_outside_is_refused(rt: HostRuntime) -> Result<(), Fail> {
         Normal("a", "", ":(top,icase,exclude,attr:gen -b !c d=v)../c/", b"LeavesRepository(../c)"),
         Normal("a/b", "/r", ":(glob,attr:gen -b)/outside/*", b"OutsideRoot(/outside/*)"),
     ];
-    assert_each(&rt, rt.alloc(), ROWS)
+    assert_each(rt.alloc(), ROWS)
 }
 
 #[test]
@@ -140,7 +140,7 @@ fn a_normal_form_is_its_own_and_reads_back(rt: HostRuntime) -> Result<(), Fail> 
         Normal("0123456789", "/r", "x", b":(prefix:10)0123456789/x"),
         Normal("a", "/r", ":(attr:g,glob)**/x/", b":(glob,prefix:1,attr:g)a/**/x/"),
     ];
-    assert_each(&rt, rt.alloc(), ROWS)
+    assert_each(rt.alloc(), ROWS)
 }
 
 #[test]

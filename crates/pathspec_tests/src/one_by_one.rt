@@ -1,8 +1,8 @@
 //! What searches of several specs answer, beside going through searches of each of them alone.
-use crate::searches::{Settled, search_of_bytes, settled};
 use bstr::BStr;
 use gix_pathspec::Search;
 use gix_pathspec::search::MatchKind;
+use pathspec_test_support::searches::{Settled, search_of_bytes, settled};
 use std::alloc::Global;
 use std::test::Fail;
 

@@ -1,8 +1,8 @@
 //! Patterns that are made, compared and asked about their paths.
-use crate::support::{Row, assert_each, assert_rising, pattern_of, search_of};
 use bitflags::Flags;
 use bstr::BStr;
 use gix_pathspec::{MagicSignature, Pattern, SearchMode};
+use pathspec_test_support::support::{Row, assert_each, assert_rising, pattern_of, search_of};
 use std::alloc::Global;
 use std::test::Fail;
 
@@ -49,7 +49,7 @@ fn rising(alloc: Global) -> Result<Vec<Pattern>, Fail> {
 #[test]
 fn patterns_are_compared_field_by_field(rt: HostRuntime) -> Result<(), Fail> {
     let (values, others) = (rising(rt.alloc())?, rising(rt.alloc())?);
-    assert_rising(&rt, &values, &others);
+    assert_rising(&values, &others)?;
     Ok(())
 }
 
@@ -77,5 +77,5 @@ fn four_bytes_are_wildcards(rt: HostRuntime) -> Result<(), Fail> {
         Wild("a]b{}", false),
         Wild("", false),
     ];
-    assert_each(&rt, rt.alloc(), ROWS)
+    assert_each(rt.alloc(), ROWS)
 }

@@ -1,14 +1,14 @@
 //! Rows on the length of a prefix directory that a text asks for, and on specs that are stored with it.
-use crate::look_ups::Marks;
 use crate::reading::Reads;
-use crate::support::{Row, are_same, assert_each, pattern_of};
-use crate::walks::tree_of;
 use bstr::{BStr, BString};
 use gix_pathspec::{Defaults, Pattern, Search};
 use pathspec_callers::store::search_and_stored;
 use pathspec_parts::path::is_clean_prefix;
 use pathspec_parts::tree::{Cursor, Tree};
 use pathspec_select::select;
+use pathspec_test_support::look_ups::Marks;
+use pathspec_test_support::support::{Row, are_same, assert_each, pattern_of};
+use pathspec_test_support::trees::tree_of;
 use std::alloc::{AllocError, Global};
 use std::test::Fail;
 
@@ -52,7 +52,7 @@ fn the_last_piece_says_the_prefix_directory(rt: HostRuntime) -> Result<(), Fail>
         Asks(":!(prefix:1)a/b", "a"),
         Asks("::(prefix:1)a/b", "a"),
     ];
-    assert_each(&rt, rt.alloc(), ROWS)
+    assert_each(rt.alloc(), ROWS)
 }
 
 #[test]
@@ -98,7 +98,7 @@ fn other_numbers_are_refused(rt: HostRuntime) -> Result<(), Fail> {
         Reads(":(literal,prefix:x,glob)a", b"InvalidPrefix(prefix:x)"),
         Reads(":(attr:a,prefix:x,attr:b)a", b"InvalidPrefix(prefix:x)"),
     ];
-    assert_each(&rt, rt.alloc(), ROWS)
+    assert_each(rt.alloc(), ROWS)
 }
 
 #[test]
@@ -125,7 +125,7 @@ fn a_number_that_is_no_boundary_is_told_last(rt: HostRuntime) -> Result<(), Fail
         Reads(":(prefix:9,attr:a=b=c)x", b"InvalidValueByte(=)"),
         Reads(":(attr:a=b=c,prefix:x)x", b"InvalidValueByte(=)"),
     ];
-    assert_each(&rt, rt.alloc(), ROWS)
+    assert_each(rt.alloc(), ROWS)
 }
 
 /// The digit that a million times stands before the last digit, 1, of a number, and the prefix directory that it asks for, or
@@ -160,7 +160,7 @@ fn long_number(alloc: Global, digit: &str) -> Result<String, AllocError> {
 #[test]
 fn a_million_digits_are_read(rt: HostRuntime) -> Result<(), Fail> {
     const ROWS: &[Digits] = &[Digits("0", Some("a")), Digits("9", None)];
-    assert_each(&rt, rt.alloc(), ROWS)
+    assert_each(rt.alloc(), ROWS)
 }
 
 /// Whether two searches select the same entries of two trees.
@@ -229,5 +229,5 @@ fn a_stored_search_selects_the_same(rt: HostRuntime) -> Result<(), Fail> {
         Stored(&[":(attr:gen)."], ""),
         Stored(&["b", ":!a/b", ":/x"], "a"),
     ];
-    assert_each(&rt, rt.alloc(), ROWS)
+    assert_each(rt.alloc(), ROWS)
 }

@@ -1,9 +1,9 @@
 //! What texts say, and how they are refused.
-use crate::support::{Row, assert_each, carried, pattern_of};
 use bitflags::Flags;
 use gix_pathspec::SearchMode::{Literal, PathAwareGlob, ShellGlob};
 use gix_pathspec::parse::parse;
 use gix_pathspec::{Defaults, Error, MagicSignature, Pattern, SearchMode};
+use pathspec_test_support::support::{Row, assert_each, carried, pattern_of};
 use std::alloc::Global;
 use std::test::Fail;
 
@@ -85,7 +85,7 @@ fn magic_says_a_signature_and_a_mode(rt: HostRuntime) -> Result<(), Fail> {
         Reads(":(top)(icase)x", b":(top)(icase)x"),
         Reads(":(top):x)", b":(top):x)"),
     ];
-    assert_each(&rt, rt.alloc(), ROWS)
+    assert_each(rt.alloc(), ROWS)
 }
 
 #[test]
@@ -103,7 +103,7 @@ fn long_magic_says_attributes(rt: HostRuntime) -> Result<(), Fail> {
         Reads(":(attr:a=x\\,y)p", b":(attr:a=x\\,y)p"),
         Reads(":(glob,top,attr:a -b !c d=v)p/", b":(top,glob,attr:a -b !c d=v)p/"),
     ];
-    assert_each(&rt, rt.alloc(), ROWS)
+    assert_each(rt.alloc(), ROWS)
 }
 
 #[test]
@@ -149,7 +149,7 @@ fn defaults_fill_in(rt: HostRuntime) -> Result<(), Fail> {
         // A lone colon says that there is no pathspec, whatever the defaults.
         Under(GLOBS, ":", "", 0, ShellGlob, true),
     ];
-    assert_each(&rt, rt.alloc(), ROWS)
+    assert_each(rt.alloc(), ROWS)
 }
 
 #[test]
@@ -191,5 +191,5 @@ fn texts_are_refused_with_the_part_at_fault(rt: HostRuntime) -> Result<(), Fail>
         Reads(":(attr:-x=\\)y", b"InvalidName(x=\\)"),
         Reads(":(attr:a=x\\)y", b"TrailingEscape(x\\)"),
     ];
-    assert_each(&rt, rt.alloc(), ROWS)
+    assert_each(rt.alloc(), ROWS)
 }

@@ -1,8 +1,4 @@
 //! Scratches of searches that are shared: what matches in them answer and count, and which of them fit.
-use crate::look_ups::Marks;
-use crate::searches::{Settled, settled_in};
-use crate::support::{Row, are_same, assert_each, search_of};
-use crate::walks::{add, tree_of};
 use bstr::BStr;
 use gix_pathspec::Search;
 use gix_pathspec::attributes::NoAttributes;
@@ -10,6 +6,10 @@ use gix_pathspec::search::{MatchKind, Scratch};
 use pathspec_callers::search::count_selected;
 use pathspec_parts::tree::{Cursor, Tree, TreeError};
 use pathspec_select::select;
+use pathspec_test_support::look_ups::Marks;
+use pathspec_test_support::searches::{Settled, settled_in};
+use pathspec_test_support::support::{Row, are_same, assert_each, search_of};
+use pathspec_test_support::trees::{add, tree_of};
 use std::alloc::{AllocError, Global};
 use std::sync::Arc;
 use std::test::Fail;
@@ -300,7 +300,7 @@ fn a_scratch_fits_what_wants_no_other_room(rt: HostRuntime) -> Result<(), Fail> 
         Fitting(&["a*bcd", "e*"], &["e*", "a*bc"], false),
         Fitting(&[":(literal)a*bcd"], &["a*"], true),
     ];
-    assert_each(&rt, rt.alloc(), ROWS)
+    assert_each(rt.alloc(), ROWS)
 }
 
 /// Texts, a file, what settles it where no attributes are known, and whether it is selected.
@@ -341,5 +341,5 @@ fn no_attributes_match_no_spec_that_lists_some(rt: HostRuntime) -> Result<(), Fa
         Unknown(&["a", ":!a/b"], "a/c", Some((0, MatchKind::Prefix)), true),
         Unknown(&["a", ":!a/b"], "", Some((0, MatchKind::Always)), true),
     ];
-    assert_each(&rt, rt.alloc(), ROWS)
+    assert_each(rt.alloc(), ROWS)
 }

@@ -1,11 +1,11 @@
 //! Rows on the directories that a walk may skip, and on what that question counts.
-use crate::look_ups::Marks;
-use crate::searches::{search_from, visited};
-use crate::support::{Row, assert_each, pattern_of, search_of};
 use bitflags::Flags;
 use bstr::BStr;
 use gix_pathspec::search::{Scratch, Visit};
 use gix_pathspec::{Error, MagicSignature, Pattern, Search};
+use pathspec_test_support::look_ups::Marks;
+use pathspec_test_support::searches::{search_from, visited};
+use pathspec_test_support::support::{Row, assert_each, pattern_of, search_of};
 use std::alloc::Global;
 use std::process::Abort;
 use std::test::Fail;
@@ -44,7 +44,7 @@ fn excludes_take_directories_whole(rt: HostRuntime) -> Result<(), Fail> {
         Skips(&[":(exclude,attr:x)a"], "", "a", false),
         Skips(&[":(exclude,literal)a/*"], "", "a", false),
     ];
-    assert_each(&rt, rt.alloc(), ROWS)
+    assert_each(rt.alloc(), ROWS)
 }
 
 #[test]
@@ -65,7 +65,7 @@ fn excludes_take_the_rest_of_directories(rt: HostRuntime) -> Result<(), Fail> {
         // A glob that wants a directory takes no file in it.
         Skips(&[":(exclude,glob)a/**/"], "", "a", false),
     ];
-    assert_each(&rt, rt.alloc(), ROWS)
+    assert_each(rt.alloc(), ROWS)
 }
 
 #[test]
@@ -84,7 +84,7 @@ fn excludes_bury_includes(rt: HostRuntime) -> Result<(), Fail> {
         // An include with a wildcard stays.
         Skips(&["a/b/*.c", ":!a/b"], "", "a", false),
     ];
-    assert_each(&rt, rt.alloc(), ROWS)
+    assert_each(rt.alloc(), ROWS)
 }
 
 #[test]
@@ -99,7 +99,7 @@ fn the_root_is_never_skipped(rt: HostRuntime) -> Result<(), Fail> {
         Skips(&[], "", "", false),
         Skips(&[], "", "a", false),
     ];
-    assert_each(&rt, rt.alloc(), ROWS)
+    assert_each(rt.alloc(), ROWS)
 }
 
 #[test]
@@ -139,7 +139,7 @@ fn excludes_stand_above_at_and_below_includes(rt: HostRuntime) -> Result<(), Fai
         // An include with attributes is buried.
         Skips(&[":(attr:x)a/b", ":!a/b"], "", "a", true),
     ];
-    assert_each(&rt, rt.alloc(), ROWS)
+    assert_each(rt.alloc(), ROWS)
 }
 
 #[test]
@@ -162,7 +162,7 @@ fn excludes_may_cover_one_another(rt: HostRuntime) -> Result<(), Fail> {
         Skips(&[":(exclude,glob)a/b/**", ":(exclude,glob)**/b/**"], "", "b", true),
         Skips(&[":!.", ":!a"], "", "b", true),
     ];
-    assert_each(&rt, rt.alloc(), ROWS)
+    assert_each(rt.alloc(), ROWS)
 }
 
 #[test]
@@ -186,7 +186,7 @@ fn names_may_have_wildcard_bytes(rt: HostRuntime) -> Result<(), Fail> {
         Skips(&["a*/b", ":(exclude,literal)a*"], "", "a*", true),
         Skips(&["a*/b", ":(exclude,literal)a*"], "", "ab", false),
     ];
-    assert_each(&rt, rt.alloc(), ROWS)
+    assert_each(rt.alloc(), ROWS)
 }
 
 #[test]
@@ -208,7 +208,7 @@ fn a_path_with_a_slash_at_its_end_is_another(rt: HostRuntime) -> Result<(), Fail
         Skips(&["src/lib"], "", "src/", true),
         Skips(&[], "", "a/", false),
     ];
-    assert_each(&rt, rt.alloc(), ROWS)
+    assert_each(rt.alloc(), ROWS)
 }
 
 #[test]
@@ -240,7 +240,7 @@ fn the_prefix_directory_keeps_its_case(rt: HostRuntime) -> Result<(), Fail> {
         Skips(&["B", ":(exclude,icase)B"], "p", "p", false),
         Skips(&["B", ":!B"], "p", "p", true),
     ];
-    assert_each(&rt, rt.alloc(), ROWS)
+    assert_each(rt.alloc(), ROWS)
 }
 
 /// Texts, a path, whether it is that of a directory, and whether it is selected.
@@ -276,7 +276,7 @@ fn what_is_left_of_a_directory_is_selected(rt: HostRuntime) -> Result<(), Fail> 
         Selects(&[":(icase)a/b", ":!a/b"], "a/B", false, true),
         Selects(&[":(icase)B", ":(exclude,icase)B"], "b", false, false),
     ];
-    assert_each(&rt, rt.alloc(), ROWS)
+    assert_each(rt.alloc(), ROWS)
 }
 
 /// A pattern that is made by hand of that of a text, by these bits of its signature; a text beside it, or "" for none; a
@@ -341,7 +341,7 @@ fn signatures_may_be_set_by_hand(rt: HostRuntime) -> Result<(), Fail> {
         ByHand(":(glob)a/**", EXCLUDE + UNKNOWN + DIRECTORY, "", "a", false),
         ByHand("A", EXCLUDE + UNKNOWN + ICASE, "", "a", true),
     ];
-    assert_each(&rt, rt.alloc(), ROWS)
+    assert_each(rt.alloc(), ROWS)
 }
 
 /// What a scratch counts: of the last question and of all.
@@ -579,5 +579,5 @@ fn a_walk_visits_each_entry_once(rt: HostRuntime) -> Result<(), Fail> {
         // The empty path is the tree itself.
         Visits(&[":!a"], "", true, (true, true), 0),
     ];
-    assert_each(&rt, rt.alloc(), ROWS)
+    assert_each(rt.alloc(), ROWS)
 }

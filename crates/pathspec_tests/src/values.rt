@@ -1,7 +1,7 @@
 //! Flags, search modes and defaults.
-use crate::support::{Row, assert_each, assert_rising, is_placed};
 use bitflags::Flags;
 use gix_pathspec::{Defaults, MagicSignature, SearchMode};
+use pathspec_test_support::support::{Row, assert_each, assert_rising, is_placed};
 use std::alloc::Global;
 use std::test::Fail;
 
@@ -27,7 +27,7 @@ fn four_flags_have_a_bit_each(rt: HostRuntime) -> Result<(), Fail> {
         Flag("MUST_BE_DIR", 8),
         Flag("top", 0),
     ];
-    assert_each(&rt, rt.alloc(), ROWS)
+    assert_each(rt.alloc(), ROWS)
 }
 
 /// Signatures in rising order.
@@ -39,8 +39,8 @@ const SIGNATURES: &[MagicSignature] = &[
 ];
 
 #[test]
-fn signatures_are_ordered_by_their_bits(rt: HostRuntime) {
-    assert_rising(&rt, SIGNATURES, SIGNATURES);
+fn signatures_are_ordered_by_their_bits() -> Result<(), Fail> {
+    assert_rising(SIGNATURES, SIGNATURES)
 }
 
 #[test]
@@ -60,8 +60,8 @@ const MODES: &[SearchMode] = &[
 ];
 
 #[test]
-fn modes_are_ordered_by_their_place(rt: HostRuntime) {
-    assert_rising(&rt, MODES, MODES);
+fn modes_are_ordered_by_their_place() -> Result<(), Fail> {
+    assert_rising(MODES, MODES)
 }
 
 /// Defaults in rising order.
@@ -91,7 +91,7 @@ impl Row for Place {
 #[test]
 fn defaults_are_compared_field_by_field(rt: HostRuntime) -> Result<(), Fail> {
     const ROWS: &[Place] = &[Place(0), Place(1), Place(2), Place(3), Place(4), Place(5)];
-    assert_each(&rt, rt.alloc(), ROWS)
+    assert_each(rt.alloc(), ROWS)
 }
 
 #[test]

@@ -1,0 +1,109 @@
+//! Listings that are read as trees.
+use pathspec_parts::tree::Cursor;
+use pathspec_select::listing::{Listing, ListingError, read};
+use pathspec_test_support::support::{Row, assert_each};
+use std::alloc::Global;
+use std::test::Fail;
+
+/// An entry: its path, whether it is a directory, and the record that it is made from, "" for none.
+type Entry = (&'static str, bool, &'static str);
+
+/// A listing, its separator, and its entries in order, where every directory is entered.
+#[derive(Clone, Copy)]
+struct Entries(&'static str, u8, &'static [Entry]);
+
+impl Row for Entries {
+    fn holds(&self, alloc: Global) -> Result<bool, Fail> {
+        let listing = read(alloc, self.0.as_bytes(), self.1)?;
+        has_entries(alloc, &listing, self.2)
+    }
+}
+
+/// Whether a listing has these entries.
+fn has_entries(alloc: Global, listing: &Listing<'_>, entries: &[Entry]) -> Result<bool, Fail> {
+    let mut cursor = Cursor::new(alloc, listing.tree())?;
+    Ok(comes_to(listing, &mut cursor, entries) && listing.record(entries.len()).is_none())
+}
+
+/// Whether a cursor comes to these entries and to no other, where every directory is entered.
+fn comes_to(listing: &Listing<'_>, cursor: &mut Cursor<'_>, entries: &[Entry]) -> bool {
+    for entry in entries {
+        if !is_next(listing, cursor, entry) {
+            return false;
+        }
+    }
+    cursor.next().is_none()
+}
+
+/// Whether this is the next entry, which is entered.
+fn is_next(listing: &Listing<'_>, cursor: &mut Cursor<'_>, entry: &Entry) -> bool {
+    let (path, is_dir, record) = entry;
+    let Some(number) = cursor.next() else {
+        return false;
+    };
+    let is_same = cursor.path().as_bytes() == path.as_bytes() && cursor.is_dir() == *is_dir;
+    cursor.enter();
+    match listing.record(number) {
+        Some(found) => is_same && found.as_bytes() == record.as_bytes(),
+        None => is_same && record.is_empty(),
+    }
+}
+
+#[test]
+fn records_are_entries_and_missing_parents_are_implied(rt: HostRuntime) -> Result<(), Fail> {
+    const ROWS: &[Entries] = &[
+        Entries(
+            "a/b/c\na/d\na/\na/e/\nf",
+            b'\n',
+            &[
+                ("a", true, ""),
+                ("a/b", true, ""),
+                ("a/b/c", false, "a/b/c"),
+                ("a/d", false, "a/d"),
+                ("a", true, "a/"),
+                ("a/e", true, "a/e/"),
+                ("f", false, "f"),
+            ],
+        ),
+        Entries(
+            "a/x\0a/y\0b\0a/z\0",
+            0,
+            &[
+                ("a", true, ""),
+                ("a/x", false, "a/x"),
+                ("a/y", false, "a/y"),
+                ("b", false, "b"),
+                ("a", true, ""),
+                ("a/z", false, "a/z"),
+            ],
+        ),
+        Entries("", b'\n', &[]),
+    ];
+    assert_each(rt.alloc(), ROWS)
+}
+
+/// A listing, and the number of its first bad record.
+#[derive(Clone, Copy)]
+struct Bad(&'static str, usize);
+
+impl Row for Bad {
+    fn holds(&self, alloc: Global) -> Result<bool, Fail> {
+        let refused = read(alloc, self.0.as_bytes(), b'\n').err();
+        Ok(refused == Some(ListingError::BadLine(self.1)))
+    }
+}
+
+#[test]
+fn the_first_bad_record_is_told(rt: HostRuntime) -> Result<(), Fail> {
+    const ROWS: &[Bad] = &[
+        Bad("\n", 1),
+        Bad("/", 1),
+        Bad("a\n/b\n\n", 2),
+        Bad("a//b", 1),
+        Bad("a//\n", 1),
+        Bad("a\n\nb\n", 2),
+        Bad("a/\na/b\nc//\n", 3),
+        Bad("a\nb\na//b\n/\n", 3),
+    ];
+    assert_each(rt.alloc(), ROWS)
+}

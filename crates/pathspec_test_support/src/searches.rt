@@ -1,0 +1,146 @@
+//! Searches that several tables of tests ask, and what settles a path in them.
+use crate::look_ups::Marks;
+use crate::support::{build_from, pattern_of, search_of};
+use bstr::{BStr, BString};
+use gix_pathspec::attributes::LookUp;
+use gix_pathspec::search::{MatchKind, Scratch, Visit};
+use gix_pathspec::{Defaults, Error, Pattern, Search};
+use std::alloc::{AllocError, Global};
+use std::test::Fail;
+
+/// The number and the kind of a match, if there is one.
+pub type Settled = Option<(usize, MatchKind)>;
+
+/// What settles a path.
+pub fn settled(search: &mut Search, path: &[u8], is_dir: Option<bool>) -> Result<Settled, Fail> {
+    let path = BStr::new(path);
+    match search.pattern_matching_relative_path(path, is_dir, &mut Marks::new())? {
+        Some(found) => Ok(Some((found.sequence_number, found.kind))),
+        None => Ok(None),
+    }
+}
+
+/// What settles a path in a scratch, or None where the look-up fails. The totals of the scratch grow by what it tells.
+pub fn settled_in<L: LookUp>(
+    search: &Search,
+    path: &[u8],
+    is_dir: Option<bool>,
+    scratch: &mut Scratch,
+    look_up: &mut L,
+) -> Result<Option<Settled>, Fail> {
+    if !search.fits(scratch) {
+        return Err("the scratch doesn't fit the search".into());
+    }
+    let (tested, compared) = (scratch.total_tested(), scratch.total_compared());
+    let found = match search.settle(BStr::new(path), is_dir, scratch, look_up) {
+        Ok(Some(found)) => Some(Some((found.sequence_number, found.kind))),
+        Ok(None) => Some(None),
+        Err(_) => None,
+    };
+    let tested = tested.wrapping_add(scratch.last_tested() as u128);
+    let compared = compared.wrapping_add(scratch.last_compared());
+    if scratch.total_tested() != tested || scratch.total_compared() != compared {
+        return Err("a total of the scratch doesn't tell of the match".into());
+    }
+    Ok(found)
+}
+
+/// What a walk does with a path, in a scratch of the search's, by marks that no path has.
+pub fn visited(
+    search: &Search,
+    path: &[u8],
+    is_dir: bool,
+    scratch: &mut Scratch,
+) -> Result<Visit, Fail> {
+    if !search.fits(scratch) {
+        return Err("the scratch doesn't fit the search".into());
+    }
+    Ok(search.visit(BStr::new(path), is_dir, scratch, &mut Marks::new())?)
+}
+
+/// Whether a pattern has this long text.
+pub fn is_written(pattern: &Pattern, text: &str) -> Result<bool, Error> {
+    Ok(pattern.to_bstring()?.as_bytes() == text.as_bytes())
+}
+
+/// The search of these patterns, given in this directory of a repository at `/r`.
+pub fn search_from(
+    alloc: Global,
+    patterns: Vec<Pattern>,
+    prefix: &str,
+) -> Result<Box<Search>, Fail> {
+    Ok(build_from(alloc, patterns, prefix)??)
+}
+
+/// The patterns of these specs.
+pub fn patterns_of(alloc: Global, specs: &[&[u8]]) -> Result<Vec<Pattern>, Error> {
+    let mut patterns = Vec::new(alloc);
+    for spec in specs {
+        patterns.push(Pattern::from_bytes(alloc, spec, Defaults::default())?)?;
+    }
+    Ok(patterns)
+}
+
+/// The search of specs of any bytes, given in this directory of a repository at `/r`.
+pub fn search_of_bytes(alloc: Global, specs: &[&[u8]], prefix: &str) -> Result<Box<Search>, Fail> {
+    search_from(alloc, patterns_of(alloc, specs)?, prefix)
+}
+
+/// The search of these texts, which comes from a list.
+pub fn search_of_list(alloc: Global, texts: &[&str], prefix: &str) -> Result<Box<Search>, Fail> {
+    let mut search = search_of(alloc, texts, prefix)?;
+    search.source = Some(BString::from_slice(alloc, "list")?);
+    Ok(search)
+}
+
+/// The texts of many specs.
+#[derive(Clone, Copy)]
+pub enum Texts {
+    /// The file `f` in a directory that has the number of the spec.
+    Files,
+    /// One text.
+    Same(&'static str),
+    /// The first at even numbers, and the second at odd ones.
+    InTurn(&'static str, &'static str),
+    /// A text in directories `a`, each in the one before it: in so many for the first spec, and in one less for each other.
+    Nested(u32, &'static str),
+}
+
+impl Texts {
+    /// The text of the spec with a number.
+    fn at(self, alloc: Global, number: u32) -> Result<String, AllocError> {
+        match self {
+            Texts::Files => format!(in alloc; "d{number}/f"),
+            Texts::Same(text) => String::from_str(alloc, text),
+            Texts::InTurn(even, odd) => {
+                String::from_str(alloc, if number % 2 == 0 { even } else { odd })
+            }
+            Texts::Nested(depth, text) => nested(alloc, depth.saturating_sub(number), text),
+        }
+    }
+}
+
+/// Directories `a`, each in the one before it, and behind the last of so many the text.
+pub fn nested(alloc: Global, depth: u32, text: &str) -> Result<String, AllocError> {
+    let mut path = String::new(alloc);
+    for _ in 0..depth {
+        path.push_str("a/")?;
+    }
+    path.push_str(text)?;
+    Ok(path)
+}
+
+/// The patterns of so many specs.
+fn many(alloc: Global, count: u32, texts: Texts) -> Result<Vec<Pattern>, Error> {
+    let mut patterns = Vec::new(alloc);
+    for number in 0..count {
+        let text = texts.at(alloc, number)?;
+        patterns.push(pattern_of(alloc, text.as_str())?)?;
+    }
+    Ok(patterns)
+}
+
+/// The search of so many specs.
+pub fn search_of_many(alloc: Global, count: u32, texts: Texts) -> Result<Box<Search>, Fail> {
+    search_from(alloc, many(alloc, count, texts)?, "")
+}
