@@ -49,7 +49,7 @@ pub enum MatchKind {
 pub struct Search {
     specs: SpecsByHead,
     /// The room for the matches of [`Search::pattern_matching_relative_path`].
-    scratch: Scratch,
+    scratch: Box<Scratch>,
     /// Which paths the includes reach, and what the excludes take whole by their paths.
     reach: Reach,
     /// The excludes that are asked one by one whether a walk may skip a directory.
@@ -61,6 +61,7 @@ pub struct Search {
 }
 
 impl Model for Search {
+    ghost use Rattle.std.specs.Box.{box_value};
     ghost use Rattle.std.specs.Option.{option_map};
     ghost use Rattle.bstr.specs.Owned.{bstring_bytes};
     ghost use Rattle.gix_pathspec.specs.Search.{SearchContents};
@@ -68,9 +69,9 @@ impl Model for Search {
 
     ghost Value = { SearchContents };
 
-    ghost view = { λ s. record { specs = s.specs; source = option_map bstring_bytes s.source; counts = s.scratch.counts } };
+    ghost view = { λ s. record { specs = s.specs; source = option_map bstring_bytes s.source; counts = (box_value s.scratch).counts } };
 
-    ghost invariant = { λ s. IsSearch s.specs s.reach s.takers s.nil s.scratch };
+    ghost invariant = { λ s. IsSearch s.specs s.reach s.takers s.nil (box_value s.scratch) };
 }
 
 impl fmt::Debug for Search {

@@ -9,12 +9,14 @@ ghost use Rattle.pathspec_parts.specs.TreeAnswers.{AnswersName, AnswersClose};
 ghost use Rattle.pathspec_parts.specs.TreeLayout.{name_start_at, name_end_at, name_at, open_end, path_above};
 
 mod cursor;
+mod walk;
 
 pub use cursor::Cursor;
 use std::alloc::{AllocError, Global};
 use std::fmt;
 use std::marker::Model;
 use thiserror::Error;
+pub use walk::Walk;
 
 /// Why a tree refuses a call, which then changes nothing.
 #[derive(Clone, Copy, Debug, PartialEq, Eq, Error)]

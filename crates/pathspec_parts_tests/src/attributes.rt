@@ -8,7 +8,6 @@ use std::alloc::{AllocError, Global};
 use std::test::Fail;
 
 /// A text, and whether it is a name.
-#[derive(Clone, Copy)]
 struct Named(&'static str, bool);
 
 impl Row for Named {
@@ -108,7 +107,6 @@ fn outcome(alloc: Global) -> Result<Outcome, Fail> {
 }
 
 /// What is set one after the other, and the states that an outcome then has.
-#[derive(Clone, Copy)]
 struct Sets(
     &'static [(&'static str, StateRef<'static>)],
     &'static [StateRef<'static>],

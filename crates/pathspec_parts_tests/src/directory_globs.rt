@@ -1,8 +1,8 @@
 //! Globs that are asked of directories: their answers, their ends and the scratches that fit them.
 use pathspec_parts::glob::Case::{self, Fold, Sensitive};
 use pathspec_parts::glob::Mode::{self, PathAware, Shell};
-use pathspec_parts::glob::{DirectoryGlob, Glob, Scratch};
-use pathspec_test_support::support::{Row, assert_each};
+use pathspec_parts::glob::{DirectoryGlob, Glob};
+use pathspec_test_support::support::{Row, assert_each, boxed_room};
 use std::alloc::{AllocError, Global};
 use std::test::Fail;
 
@@ -13,14 +13,14 @@ struct Matches(Mode, Case, &'static str, &'static str, bool);
 /// What the glob of a pattern says of a directory.
 fn of_directory(alloc: Global, row: Matches) -> Result<bool, AllocError> {
     let glob = DirectoryGlob::compile(alloc, row.2.as_bytes(), row.0)?;
-    let mut scratch = Scratch::for_tokens(alloc, glob.tokens())?;
+    let mut scratch = boxed_room(alloc, glob.tokens())?;
     Ok(glob.matches(row.3.as_bytes(), row.1, &mut scratch))
 }
 
 /// What it says of the text of the directory and a slash.
 fn of_text(alloc: Global, row: Matches) -> Result<bool, AllocError> {
     let glob = Glob::compile(alloc, row.2.as_bytes(), row.0)?;
-    let mut scratch = Scratch::for_tokens(alloc, glob.tokens())?;
+    let mut scratch = boxed_room(alloc, glob.tokens())?;
     let text = format!(in alloc; "{}/", row.3)?;
     Ok(glob.matches(text.as_bytes(), row.1, &mut scratch))
 }
@@ -82,7 +82,6 @@ fn globs_match_directories_with_a_slash_behind_them(rt: HostRuntime) -> Result<(
 }
 
 /// A pattern with its mode, how many tokens it has, and whether the last of them takes any bytes.
-#[derive(Clone, Copy)]
 struct Ends(Mode, &'static str, usize, bool);
 
 impl Row for Ends {
@@ -112,7 +111,6 @@ fn the_last_token_may_take_any_bytes(rt: HostRuntime) -> Result<(), Fail> {
 }
 
 /// A pattern with its mode, and whether the last of its tokens takes any bytes.
-#[derive(Clone, Copy)]
 struct IsOpen(Mode, &'static str, bool);
 
 impl Row for IsOpen {
@@ -139,13 +137,12 @@ fn double_stars_behind_a_slash_take_any_bytes(rt: HostRuntime) -> Result<(), Fai
 }
 
 /// For how many tokens a scratch is made, and whether a glob of three fits it.
-#[derive(Clone, Copy)]
 struct Fits(usize, bool);
 
 impl Row for Fits {
     fn holds(&self, alloc: Global) -> Result<bool, Fail> {
         let glob = DirectoryGlob::compile(alloc, b"a?*", Shell)?;
-        Ok(glob.fits(&Scratch::for_tokens(alloc, self.0)?) == self.1)
+        Ok(glob.fits(&*boxed_room(alloc, self.0)?) == self.1)
     }
 }
 
@@ -156,13 +153,12 @@ fn a_scratch_fits_directory_globs_of_at_most_its_tokens(rt: HostRuntime) -> Resu
 }
 
 /// A directory, whether the glob `a/**` matches it, and how many steps that takes at most, and at least where it does.
-#[derive(Clone, Copy)]
 struct Steps(&'static str, bool, u128);
 
 impl Row for Steps {
     fn holds(&self, alloc: Global) -> Result<bool, Fail> {
         let glob = DirectoryGlob::compile(alloc, b"a/**", PathAware)?;
-        let mut scratch = Scratch::for_tokens(alloc, glob.tokens())?;
+        let mut scratch = boxed_room(alloc, glob.tokens())?;
         let is_new = scratch.last_steps() == 0 && scratch.total_steps() == 0;
         let found = glob.matches(self.0.as_bytes(), Sensitive, &mut scratch);
         let bytes = self.0.len() as u128;

@@ -2,7 +2,7 @@
 use pathspec_glob::Case::{self, Fold, Sensitive};
 use pathspec_glob::Mode::{self, PathAware, Shell};
 use pathspec_glob::{Glob, Scratch, first_wildcard};
-use pathspec_test_support::support::{Row, assert_each};
+use pathspec_test_support::support::{Row, assert_each, boxed_room};
 use std::alloc::{AllocError, Global};
 use std::test::Fail;
 
@@ -25,13 +25,12 @@ fn answer_of(
     case: Case,
     text: &[u8],
 ) -> Result<(bool, u128), AllocError> {
-    let mut scratch = Scratch::for_tokens(alloc, glob.tokens())?;
+    let mut scratch = boxed_room(alloc, glob.tokens())?;
     let found = glob.matches(text, case, &mut scratch);
     Ok((found, scratch.last_steps()))
 }
 
 /// A pattern with its mode and case, a text, and whether they match.
-#[derive(Clone, Copy)]
 struct Matches(Mode, Case, &'static str, &'static [u8], bool);
 
 impl Row for Matches {
@@ -196,7 +195,6 @@ fn matched_bytes(alloc: Global, case: Case, pattern: &str) -> Result<Vec<u8>, Al
 }
 
 /// A pattern with its case, and the bytes that it matches alone, rising.
-#[derive(Clone, Copy)]
 struct Holds(Case, &'static str, &'static str);
 
 impl Row for Holds {
@@ -272,7 +270,6 @@ fn brackets_that_cannot_be_read_hold_nothing(rt: HostRuntime) -> Result<(), Fail
 }
 
 /// How many question marks a glob has, which takes as many bytes and no more.
-#[derive(Clone, Copy)]
 struct QuestionMarks(usize);
 
 impl Row for QuestionMarks {
@@ -302,7 +299,6 @@ fn long_globs_take_each_byte(rt: HostRuntime) -> Result<(), Fail> {
 
 /// A text so many times and a last byte for a glob, its mode, a text so many times, whether they match, and the most
 /// steps that it may take.
-#[derive(Clone, Copy)]
 struct Few(
     &'static str,
     usize,
@@ -337,7 +333,6 @@ fn steps_are_few(rt: HostRuntime) -> Result<(), Fail> {
 }
 
 /// A pattern, its mode, a text, whether they match, and in how many steps.
-#[derive(Clone, Copy)]
 struct Steps(&'static str, Mode, &'static str, bool, u128);
 
 impl Row for Steps {
@@ -399,7 +394,7 @@ fn are_counted(alloc: Global, scratch: &mut Scratch, rows: &[Count]) -> Result<b
 
 /// Whether a scratch for three tokens has no steps, and its matches leave these counts.
 fn all_are_counted(alloc: Global, rows: &[Count]) -> Result<bool, AllocError> {
-    let mut scratch = Scratch::for_tokens(alloc, 3)?;
+    let mut scratch = boxed_room(alloc, 3)?;
     are_counted(alloc, &mut scratch, rows)
 }
 
@@ -417,7 +412,6 @@ fn all_steps_of_a_scratch_are_counted(rt: HostRuntime) -> Result<(), AllocError>
 }
 
 /// A pattern, and how many tokens it has.
-#[derive(Clone, Copy)]
 struct Tokens(&'static str, usize);
 
 impl Row for Tokens {
@@ -438,13 +432,12 @@ fn tokens_are_counted(rt: HostRuntime) -> Result<(), Fail> {
 }
 
 /// For how many tokens a scratch is made, and whether a glob of three fits it.
-#[derive(Clone, Copy)]
 struct Fits(usize, bool);
 
 impl Row for Fits {
     fn holds(&self, alloc: Global) -> Result<bool, Fail> {
         let glob = Glob::compile(alloc, b"a?c", Shell)?;
-        Ok(glob.fits(&Scratch::for_tokens(alloc, self.0)?) == self.1)
+        Ok(glob.fits(&*boxed_room(alloc, self.0)?) == self.1)
     }
 }
 
@@ -455,7 +448,6 @@ fn a_scratch_fits_globs_of_at_most_its_tokens(rt: HostRuntime) -> Result<(), Fai
 }
 
 /// A text, and the place of its first wildcard byte.
-#[derive(Clone, Copy)]
 struct Wildcard(&'static str, Option<usize>);
 
 impl Row for Wildcard {
@@ -478,7 +470,6 @@ fn the_first_wildcard_is_found(rt: HostRuntime) -> Result<(), Fail> {
 }
 
 /// How many bytes a glob has between two stars: it takes a text with as many side by side, and none with fewer.
-#[derive(Clone, Copy)]
 struct Between(usize);
 
 impl Row for Between {
@@ -520,7 +511,6 @@ fn long_globs_between_stars_take_each_byte(rt: HostRuntime) -> Result<(), Fail> 
 
 /// How many times `**/` stands before `x`, alone and behind `*a/`: each stands for directories or for nothing (gitignore(5), "A
 /// leading `**` followed by a slash").
-#[derive(Clone, Copy)]
 struct Chain(usize);
 
 impl Row for Chain {

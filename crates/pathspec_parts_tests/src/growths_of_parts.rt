@@ -6,20 +6,20 @@ use pathspec_heads::paths::{PathTable, SpecPath};
 use pathspec_heads::places::PlacesByHead;
 use pathspec_heads::tables::{SpecStem, StemTable};
 use pathspec_parts::attributes::{Assignment, Case, Name, Outcome, StateRef};
-use pathspec_parts::glob::{DirectoryGlob, Glob, Mode, Scratch};
+use pathspec_parts::glob::{DirectoryGlob, Glob, Mode};
 use pathspec_parts::path::Stack;
-use pathspec_parts::tree::{Cursor, Tree, TreeError};
+use pathspec_parts::tree::{Cursor, Tree, TreeError, Walk as _};
 use pathspec_select::Rows;
 use pathspec_test_support::growths::{
     Call, Changes, Changing, Ended, Makes, Making, NONE, assert_calls, refuse,
 };
 use pathspec_test_support::look_ups::{ask, has_states};
+use pathspec_test_support::support::boxed_room;
 use pathspec_test_support::trees::{add, tree_of};
 use std::alloc::{AllocError, Global};
 use std::test::Fail;
 
 /// The calls that compile a glob and make the room for its matches, and a text that it matches.
-#[derive(Clone, Copy)]
 struct Compile(&'static str, &'static str);
 
 impl Making for Compile {
@@ -35,7 +35,7 @@ impl Making for Compile {
 
     fn make(&self, alloc: Global, _: ()) -> Result<bool, AllocError> {
         let glob = Glob::compile(alloc, self.0.as_bytes(), Mode::Shell)?;
-        let mut scratch = Scratch::for_tokens(alloc, glob.tokens())?;
+        let mut scratch = boxed_room(alloc, glob.tokens())?;
         let text = self.1.as_bytes();
         Ok(glob.fits(&scratch) && glob.matches(text, Case::Sensitive, &mut scratch))
     }
@@ -63,7 +63,6 @@ fn a_glob_is_compiled_or_memory_ran_out(rt: HostRuntime) -> Result<(), Fail> {
 }
 
 /// The calls that compile a glob for directories and make the room for its matches, and a directory that it matches.
-#[derive(Clone, Copy)]
 struct CompileDirectory(&'static str, Mode, &'static str);
 
 impl Making for CompileDirectory {
@@ -79,7 +78,7 @@ impl Making for CompileDirectory {
 
     fn make(&self, alloc: Global, _: ()) -> Result<bool, AllocError> {
         let glob = DirectoryGlob::compile(alloc, self.0.as_bytes(), self.1)?;
-        let mut scratch = Scratch::for_tokens(alloc, glob.tokens())?;
+        let mut scratch = boxed_room(alloc, glob.tokens())?;
         let directory = self.2.as_bytes();
         Ok(glob.fits(&scratch) && glob.matches(directory, Case::Sensitive, &mut scratch))
     }
@@ -116,7 +115,6 @@ fn copies(alloc: Global, texts: &[&str]) -> Result<Vec<Vec<u8>>, Fail> {
 }
 
 /// The call that groups places by these heads.
-#[derive(Clone, Copy)]
 struct GroupPlaces(&'static [&'static str]);
 
 impl Making for GroupPlaces {
@@ -142,7 +140,6 @@ impl Making for GroupPlaces {
 }
 
 /// The call that makes a table of stems.
-#[derive(Clone, Copy)]
 struct NewTable;
 
 impl Making for NewTable {
@@ -183,7 +180,6 @@ impl Making for NewTable {
 }
 
 /// The call that makes a table of paths.
-#[derive(Clone, Copy)]
 struct NewPathTable;
 
 impl Making for NewPathTable {
@@ -329,7 +325,6 @@ fn are_same_outcomes(outcome: &Outcome, other: &Outcome) -> bool {
 }
 
 /// The call that gives a name a state.
-#[derive(Clone, Copy)]
 struct Set(&'static str, StateRef<'static>);
 
 impl Changing for Set {
@@ -351,7 +346,6 @@ impl Changing for Set {
 }
 
 /// The call that makes an outcome.
-#[derive(Clone, Copy)]
 struct ForAssignments;
 
 impl Making for ForAssignments {
@@ -387,7 +381,6 @@ fn an_outcome_is_set_or_as_before(rt: HostRuntime) -> Result<(), Fail> {
 }
 
 /// The call that puts a component on a stack of so many.
-#[derive(Clone, Copy)]
 struct Push(usize);
 
 impl Changing for Push {
@@ -458,7 +451,6 @@ fn has_same_entries(alloc: Global, tree: &Tree, other: &Tree) -> Result<bool, Al
 }
 
 /// The call that adds the entry of a word to the tree of these.
-#[derive(Clone, Copy)]
 struct Add(&'static [&'static str], &'static str);
 
 impl Changing for Add {
@@ -496,7 +488,6 @@ fn an_entry_is_added_or_the_tree_is_as_before(rt: HostRuntime) -> Result<(), Fai
 }
 
 /// The call that makes a cursor.
-#[derive(Clone, Copy)]
 struct NewCursor;
 
 impl Call for NewCursor {
@@ -533,7 +524,6 @@ fn add_row(alloc: Global, rows: &mut Rows, path: &str, list: &str) -> Result<(),
 }
 
 /// The call that reads a row of `x` and adds it behind so many of `y`.
-#[derive(Clone, Copy)]
 struct PushRow(usize);
 
 /// Rows, and whether one is for `x`.

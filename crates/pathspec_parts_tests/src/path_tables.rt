@@ -23,7 +23,6 @@ fn table(alloc: Global, paths: &[(&str, &str)]) -> Result<PathTable, AllocError>
 }
 
 /// Paths, a path that is asked, whether it is that of a directory, and who takes it.
-#[derive(Clone, Copy)]
 struct Takes(
     &'static [(&'static str, &'static str)],
     &'static str,

@@ -23,7 +23,6 @@ fn are_left(mut found: Components<'_>, want: &[&str]) -> bool {
 }
 
 /// A path, and its components.
-#[derive(Clone, Copy)]
 struct Cut(&'static str, &'static [&'static str]);
 
 impl Row for Cut {
@@ -46,7 +45,6 @@ fn components_are_the_pieces_that_name_something(rt: HostRuntime) -> Result<(), 
 }
 
 /// A path, whether it is absolute, and whether it is a clean prefix.
-#[derive(Clone, Copy)]
 struct Kind(&'static str, bool, bool);
 
 impl Row for Kind {
@@ -77,7 +75,6 @@ fn paths_are_absolute_or_clean_prefixes(rt: HostRuntime) -> Result<(), Fail> {
 }
 
 /// A path, a root, whether the path lies there, and the components after the root.
-#[derive(Clone, Copy)]
 struct Rooted(&'static str, &'static str, bool, &'static [&'static str]);
 
 impl Row for Rooted {
@@ -110,7 +107,6 @@ fn a_root_is_stripped_by_its_components(rt: HostRuntime) -> Result<(), Fail> {
 }
 
 /// A text, the text without its last slash, and what stands before and after its first slash.
-#[derive(Clone, Copy)]
 struct Slashes(&'static str, &'static str, &'static str, &'static str);
 
 impl Row for Slashes {

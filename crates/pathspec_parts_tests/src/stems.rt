@@ -27,7 +27,6 @@ fn reaches(
 }
 
 /// Stems, a path, whether it is that of a directory, and whether one of the stems reaches it.
-#[derive(Clone, Copy)]
 struct Reaching(
     &'static [(&'static str, &'static str)],
     &'static str,

@@ -1,5 +1,5 @@
 //! Trees, and walks over them by a cursor.
-use pathspec_parts::tree::{Cursor, Tree, TreeError};
+use pathspec_parts::tree::{Cursor, Tree, TreeError, Walk as _};
 use pathspec_test_support::support::{Row, are_same, assert_each};
 use std::alloc::Global;
 use std::test::Fail;
@@ -51,7 +51,6 @@ fn is_nowhere(cursor: &mut Cursor<'_>) -> bool {
 }
 
 /// The calls of a tree, the entries that a walk comes to, and the directories that it entered.
-#[derive(Clone, Copy)]
 struct Walk(&'static [Call], &'static [Visit], &'static [usize]);
 
 impl Row for Walk {
@@ -118,7 +117,6 @@ fn a_walk_comes_to_what_lies_in_directories_that_it_entered(rt: HostRuntime) -> 
 }
 
 /// Calls that make a tree, a call that it then refuses, and the error.
-#[derive(Clone, Copy)]
 struct Refused(&'static [Call], Call, TreeError);
 
 impl Row for Refused {
@@ -144,7 +142,6 @@ fn a_refused_call_changes_nothing(rt: HostRuntime) -> Result<(), Fail> {
 }
 
 /// An error, and its text.
-#[derive(Clone, Copy)]
 struct Told(TreeError, &'static str);
 
 impl Row for Told {

@@ -5,7 +5,6 @@ use std::alloc::Global;
 use std::test::Fail;
 
 /// A word, and what it says.
-#[derive(Clone, Copy)]
 struct Truth(&'static [u8], Option<bool>);
 
 impl Row for Truth {

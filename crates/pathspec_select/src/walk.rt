@@ -1,6 +1,6 @@
 //! The entries of a tree that a search chooses, by a walk that looks only where one can lie.
-ghost use Rattle.std.specs.Prelude.{◌≡◌, ◌≢◌, ◌&&◌, [], Some, length, if◌then◌else◌, IfOk, OnOk, OnErr};
-ghost use Rattle.pathspec_parts.specs.Cursors.{IsNew, path_at, is_dir_at, after_enter, append_if};
+ghost use Rattle.std.specs.Prelude.{◌≡◌, ◌≢◌, ◌&&◌, ◌++◌, ◌∷◌, [], map, length, if◌then◌else◌, IfOk, OnOk, OnErr};
+ghost use Rattle.pathspec_parts.specs.Cursors.{IsNew, path_at, is_dir_at, after_enter};
 ghost use Rattle.gix_pathspec.specs.Matching.{is_chosen};
 ghost use Rattle.gix_pathspec.specs.Room.{Fits};
 ghost use Rattle.gix_pathspec.specs.Search.{specs_of};
@@ -11,7 +11,7 @@ use bstr::BStr;
 use gix_pathspec::Search;
 use gix_pathspec::search::Scratch;
 use pathspec_parts::attributes::LookUp;
-use pathspec_parts::tree::Cursor;
+use pathspec_parts::tree::Walk;
 use std::alloc::{AllocError, Global};
 use std::fmt::Debug;
 
@@ -27,10 +27,11 @@ pub enum SelectError<F> {
     Memory,
 }
 
-/// The numbers of the entries of a tree that a search chooses, each once, in the tree's order: exactly those that no
+/// The places of the entries of a tree that a search chooses, each once, in the tree's order: exactly those that no
 /// exclude matches and some include matches (or any, without an include).
 ///
-/// The cursor must be new. It is the only way to the tree, so its trail, [`Cursor::entered`], tells what was looked into:
+/// The cursor must be new. It is any walk ([`Walk`]), as a [`pathspec_parts::tree::Cursor`] over a tree, whose places are the
+/// numbers of entries. It is the only way to the entries, so its trail, [`Walk::entered`], tells what was looked into:
 /// exactly the directories that the walk came to and that it may not skip ([`Search::may_skip`]). Nothing that is chosen is
 /// lost by that. Where all includes are plain (no wildcard, no attributes, no prefix directory without case), each of them is
 /// one at or below which an include matches. Where all specs are plain, they are exactly those at or below which something is
@@ -44,24 +45,26 @@ pub enum SelectError<F> {
 /// # Errors
 /// [`SelectError::LookUp`], only where the look-up failed in this call, and [`SelectError::Memory`]. The cursor then stands at
 /// the entry that was asked; it is still new where there is no memory for the scratch.
-pub fn select<L: LookUp>(
+pub fn select<W: Walk, L: LookUp>(
     alloc: Global,
-    cursor: &mut Cursor<'_>,
+    cursor: &mut W,
     search: &Search,
     look_up: &mut L,
-) -> Result<Vec<usize>, SelectError<L::Fault>>
-    requires { IsNew cursor.old }
+) -> Result<Vec<W::Place>, SelectError<L::Fault>>
+    requires { IsNew (W.contents cursor.old) }
     // Exactly the chosen entries, by a walk that enters only directories which can hold one.
-    ensures walk { IfOk result (λ given. IsWalk (L.table look_up.old) (specs_of search.now.specs)
-        cursor.old.entries given.items cursor.new.entered) }
+    ensures walk { let es = (W.contents cursor.old).entries in
+        IfOk result (λ given. IsWalk (L.table look_up.old) (specs_of search.now.specs)
+        es (map (W.number es) given.items) (W.contents cursor.new).entered) }
     // They are one list, that of the definition.
     ensures given { GivenIsOne (L.table look_up.old) (specs_of search.now.specs) }
     // Exactly the directories that it came to and that can hold a chosen path.
-    ensures entered { OnOk result (HasWalked (specs_of search.now.specs)
-        cursor.old.entries (length cursor.old.entries) cursor.new.entered) }
+    ensures entered { let es = (W.contents cursor.old).entries in
+        OnOk result (HasWalked (specs_of search.now.specs)
+        es (length es) (W.contents cursor.new).entered) }
     // They are one list too.
     ensures trail { EnteredIsOne }
-    ensures tree { cursor.new.entries ≡ cursor.old.entries }
+    ensures tree { (W.contents cursor.new).entries ≡ (W.contents cursor.old).entries }
     ensures table_stays { L.table look_up.new ≡ L.table look_up.old }
     ensures counts { CountsFailure (L.failures look_up.old) (L.failures look_up.new) result }
 {
@@ -73,42 +76,63 @@ pub fn select<L: LookUp>(
         Err(AllocError) => return Err(SelectError::Memory),
     };
     let mut given = Vec::new(alloc);
-    while let Some(number) = cursor.next() {
-        visit(cursor, search, &mut scratch, look_up, number, &mut given)?;
+    while let Some(place) = cursor.next() {
+        visit(cursor, search, &mut scratch, look_up, place, &mut given)?;
     }
     Ok(given)
 }
 
 /// Gives the entry at which the cursor stands where it is chosen, and enters it unless a walk may skip it.
-fn visit<L: LookUp>(
-    cursor: &mut Cursor<'_>,
+fn visit<W: Walk, L: LookUp>(
+    cursor: &mut W,
     search: &Search,
     scratch: &mut Scratch,
     look_up: &mut L,
-    number: usize,
-    given: &mut Vec<usize>,
+    place: W::Place,
+    given: &mut Vec<W::Place>,
 ) -> Result<(), SelectError<L::Fault>>
-    requires path { path_at cursor.old ≢ [] }
+    requires path { path_at (W.contents cursor.old) ≢ [] }
     requires fits { Fits search.now.specs scratch.old }
     ensures room { scratch.new.room ≡ scratch.old.room }
-    ensures given { OnOk result (given.new.items ≡ append_if
-        (is_chosen (L.table look_up.old) (specs_of search.now.specs)
-        (path_at cursor.old) (is_dir_at cursor.old))
-        number given.old.items) }
-    ensures entered { OnOk result (cursor.new ≡
-        (if is_dir_at cursor.old && can_hold (specs_of search.now.specs) (path_at cursor.old)
-        then after_enter cursor.old else cursor.old)) }
-    ensures tree { cursor.new.entries ≡ cursor.old.entries }
+    ensures given { let c = W.contents cursor.old in OnOk result (given.new.items
+        ≡ (if is_chosen (L.table look_up.old) (specs_of search.now.specs) (path_at c) (is_dir_at c)
+        then given.old.items ++ place ∷ [] else given.old.items)) }
+    ensures entered { let c = W.contents cursor.old in OnOk result (W.contents cursor.new ≡
+        (if is_dir_at c && can_hold (specs_of search.now.specs) (path_at c)
+        then after_enter c else c)) }
+    ensures tree { (W.contents cursor.new).entries ≡ (W.contents cursor.old).entries }
     ensures table_stays { L.table look_up.new ≡ L.table look_up.old }
     ensures counts { CountsFailure (L.failures look_up.old) (L.failures look_up.new) result }
 {
     let visit = search.visit(cursor.path(), cursor.is_dir(), scratch, look_up);
     let visit = visit.map_err(SelectError::LookUp)?;
-    if visit.is_selected && given.push(number).is_err() {
+    if give_if(visit.is_selected, place, given).is_err() {
         return Err(SelectError::Memory);
     }
-    if visit.is_entered {
-        cursor.enter();
+    enter_if(visit.is_entered, cursor);
+    Ok(())
+}
+
+/// Gives a place if its entry is selected.
+///
+/// # Errors
+/// Memory runs out.
+fn give_if<P: Copy>(is_selected: bool, place: P, given: &mut Vec<P>) -> Result<(), AllocError>
+    ensures { OnOk result (given.new.items
+        ≡ (if is_selected then given.old.items ++ place ∷ [] else given.old.items)) }
+{
+    if is_selected {
+        given.push(place)?;
     }
     Ok(())
+}
+
+/// Enters the directory at which a walk stands if it is one to enter.
+fn enter_if<W: Walk>(is_entered: bool, cursor: &mut W)
+    ensures { let c = W.contents cursor.old in
+        W.contents cursor.new ≡ (if is_entered then after_enter c else c) }
+{
+    if is_entered {
+        cursor.enter();
+    }
 }

@@ -33,7 +33,6 @@ fn is_found(found: &Result<Defaults, Error>, want: Wanted) -> bool {
 }
 
 /// Variables, what they ask for, and how many were asked for.
-#[derive(Clone, Copy)]
 struct Asks(Variables, Wanted, usize);
 
 impl Row for Asks {
@@ -143,7 +142,6 @@ fn is_read(found: &Result<Environment, Refusal>, want: Option<Variables>) -> boo
 
 /// Variables; the words that are read, by the names of their fields, or None where one that counts isn't UTF-8, and how
 /// many were asked for.
-#[derive(Clone, Copy)]
 struct Reads(Variables, Option<Variables>, usize);
 
 impl Row for Reads {

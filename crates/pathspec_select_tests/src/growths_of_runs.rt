@@ -2,7 +2,7 @@
 use crate::environments::read;
 use crate::program::Run;
 use gix_pathspec::Search;
-use pathspec_parts::tree::{Cursor, Tree};
+use pathspec_parts::tree::{Cursor, Tree, Walk as _};
 use pathspec_select::listing::{self, ListingError};
 use pathspec_select::{Environment, Job, Refusal, Rows, SelectError, run, run_with, select};
 use pathspec_test_support::growths::{
@@ -43,7 +43,6 @@ fn end_of_walk(
 }
 
 /// The call that walks over a tree, with the texts of its search and the numbers of the entries that it gives.
-#[derive(Clone, Copy)]
 struct Select(&'static [&'static str], &'static [usize]);
 
 impl Call for Select {
@@ -68,7 +67,6 @@ fn a_walk_ends_or_memory_ran_out(rt: HostRuntime) -> Result<(), Fail> {
 }
 
 /// The call that reads a listing of so many bytes, which has so many entries.
-#[derive(Clone, Copy)]
 struct ReadListing(&'static [u8], usize);
 
 impl Making for ReadListing {
@@ -234,7 +232,6 @@ fn end_of_job_from(
 }
 
 /// The call that makes a job of the words of a line.
-#[derive(Clone, Copy)]
 struct FromWords(&'static str, Variables);
 
 impl Call for FromWords {
@@ -258,7 +255,6 @@ fn a_job_is_made_or_memory_ran_out(rt: HostRuntime) -> Result<(), Fail> {
 }
 
 /// The call that reads the environment, by a closure that takes memory.
-#[derive(Clone, Copy)]
 struct ReadEnvironment;
 
 impl Making for ReadEnvironment {

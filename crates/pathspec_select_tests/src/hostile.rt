@@ -72,7 +72,6 @@ type Attribute = (&'static str, StateRef<'static>);
 
 /// A pattern that is made by hand of that of a text, with these bits of its signature and this attribute, and its long
 /// text; a path, whether something at or below a directory there can match, and how the pattern matches a file there.
-#[derive(Clone, Copy)]
 struct ByHand(
     &'static str,
     u32,

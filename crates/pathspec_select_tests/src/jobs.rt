@@ -28,7 +28,7 @@ fn add_job(text: &mut Vec<u8>, job: &Job) -> Result<(), Fail> {
 fn add_asked(
     alloc: Global,
     text: &mut Vec<u8>,
-    asked: Result<(Job, Rows), Refusal>,
+    asked: Result<(Box<Job>, Rows), Refusal>,
 ) -> Result<(), Fail> {
     match asked {
         Ok((job, _rows)) => add_job(text, &job),
@@ -37,7 +37,6 @@ fn add_asked(
 }
 
 /// Words, variables, and the job that they ask for, or what their refusal is told as.
-#[derive(Clone, Copy)]
 struct Asked(&'static str, Variables, &'static str);
 
 impl Row for Asked {
@@ -192,7 +191,6 @@ fn has_state(
 }
 
 /// Words, a path, the name of an attribute, and its state there.
-#[derive(Clone, Copy)]
 struct StateAt(&'static str, &'static str, &'static str, StateRef<'static>);
 
 impl Row for StateAt {

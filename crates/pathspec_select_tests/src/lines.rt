@@ -56,7 +56,6 @@ fn is_at_fault(error: &BuildError, want: Wanted) -> bool {
 }
 
 /// A text, the directory that its lines are given in, whether they are literal by default, and what comes of them.
-#[derive(Clone, Copy)]
 struct Lines(&'static [u8], &'static str, bool, Wanted);
 
 impl Row for Lines {
@@ -133,7 +132,6 @@ fn specs_have_the_numbers_of_their_lines(rt: HostRuntime) -> Result<(), Fail> {
 }
 
 /// A text so many times, and how many specs it has then.
-#[derive(Clone, Copy)]
 struct Many(&'static str, usize, usize);
 
 impl Row for Many {
@@ -155,7 +153,6 @@ fn texts_may_be_large(rt: HostRuntime) -> Result<(), Fail> {
 }
 
 /// The text of a file `specs`, and the report on it.
-#[derive(Clone, Copy)]
 struct Reported(&'static [u8], &'static [u8]);
 
 impl Row for Reported {

@@ -1,5 +1,5 @@
 //! Listings that are read as trees.
-use pathspec_parts::tree::Cursor;
+use pathspec_parts::tree::{Cursor, Walk as _};
 use pathspec_select::listing::{Listing, ListingError, read};
 use pathspec_test_support::support::{Row, assert_each};
 use std::alloc::Global;
@@ -9,7 +9,6 @@ use std::test::Fail;
 type Entry = (&'static str, bool, &'static str);
 
 /// A listing, its separator, and its entries in order, where every directory is entered.
-#[derive(Clone, Copy)]
 struct Entries(&'static str, u8, &'static [Entry]);
 
 impl Row for Entries {
@@ -83,7 +82,6 @@ fn records_are_entries_and_missing_parents_are_implied(rt: HostRuntime) -> Resul
 }
 
 /// A listing, and the number of its first bad record.
-#[derive(Clone, Copy)]
 struct Bad(&'static str, usize);
 
 impl Row for Bad {

@@ -522,7 +522,6 @@ fn no_write_is_made_again_and_none_flushed(rt: HostRuntime) -> Result<(), Fail> 
 }
 
 /// How a writer that takes one byte a call answers its first call, its second, and so on until one that is never made.
-#[derive(Clone, Copy)]
 struct Taken(Took);
 
 impl Row for Taken {

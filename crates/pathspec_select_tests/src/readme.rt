@@ -26,7 +26,6 @@ fn selects(search: &Search, scratch: &mut search::Scratch, path: &str) -> (bool,
 }
 
 /// A path, and whether the specs of the README's program select it.
-#[derive(Clone, Copy)]
 struct Named(&'static str, bool);
 
 impl Row for Named {

@@ -2,9 +2,10 @@
 use bstr::BStr;
 use gix_pathspec::Search;
 use gix_pathspec::search::Scratch;
-use pathspec_parts::tree::{Cursor, Tree, TreeError};
+use pathspec_parts::tree::{Cursor, Tree, TreeError, Walk as _};
 use pathspec_select::select;
 use pathspec_test_support::look_ups::Marks;
+use pathspec_test_support::searches::scratch_of;
 use pathspec_test_support::support::{are_same, search_of};
 use std::alloc::{AllocError, Global};
 use std::process::Abort;
@@ -226,7 +227,7 @@ struct Alike {
 impl Rule for Alike {
     fn assert_of(&mut self, rt: &impl Abort, alloc: Global, texts: &[&str]) -> Result<(), Fail> {
         let search = search_of(alloc, texts, "")?;
-        let mut scratch = search.new_scratch(alloc)?;
+        let mut scratch = scratch_of(alloc, &search)?;
         for _ in 0..14 {
             let grown = self.draws.one_of(&self.trees).ok_or("no tree")?;
             assert!(rt;
@@ -473,7 +474,7 @@ fn holders(
 
 /// Whether just those directories may be skipped that hold nothing which is selected. The root isn't asked.
 fn is_exact(alloc: Global, search: &Search, all: &All) -> Result<bool, Fail> {
-    let mut scratch = search.new_scratch(alloc)?;
+    let mut scratch = scratch_of(alloc, &search)?;
     let holders = holders(alloc, search, &mut scratch, all)?;
     for (entry, holds) in all.directories.iter().zip(&holders).skip(1) {
         if may_skip(search, &mut scratch, entry)? == *holds {

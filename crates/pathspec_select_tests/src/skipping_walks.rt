@@ -1,5 +1,5 @@
 //! Rows on walks that skip directories since excludes take them.
-use pathspec_parts::tree::Cursor;
+use pathspec_parts::tree::{Cursor, Walk as _};
 use pathspec_select::select;
 use pathspec_test_support::look_ups::Marks;
 use pathspec_test_support::support::{Row, are_same, assert_each, search_of};
@@ -8,7 +8,6 @@ use std::alloc::Global;
 use std::test::Fail;
 
 /// Texts, the words of a tree, and the numbers of the entries that are given and entered.
-#[derive(Clone, Copy)]
 struct Walk(
     &'static [&'static str],
     &'static [&'static str],

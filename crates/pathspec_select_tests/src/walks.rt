@@ -1,6 +1,6 @@
 //! Rows on walks over trees: what a search chooses there, and which directories are entered.
 use gix_pathspec::Search;
-use pathspec_parts::tree::{Cursor, Tree};
+use pathspec_parts::tree::{Cursor, Tree, Walk as _};
 use pathspec_select::{SelectError, select};
 use pathspec_test_support::look_ups::Marks;
 use pathspec_test_support::support::{Row, are_same, assert_each, search_of};
@@ -10,7 +10,6 @@ use std::test::Fail;
 
 /// Texts, the directory that they are given in, the words of a tree, and the numbers of the entries that are given and
 /// entered.
-#[derive(Clone, Copy)]
 struct Walk(
     &'static [&'static str],
     &'static str,
@@ -85,7 +84,6 @@ fn a_walk_gives_what_is_chosen_and_enters_what_can_hold_it(rt: HostRuntime) -> R
 }
 
 /// After how many answers a look-up fails, and the path of the entry that was asked about then, where the walk ends.
-#[derive(Clone, Copy)]
 struct FailsAfter(u64, &'static str);
 
 impl Row for FailsAfter {
@@ -109,7 +107,6 @@ fn a_fault_ends_a_walk_and_leaves_the_search(rt: HostRuntime) -> Result<(), Fail
 }
 
 /// A fault of a look-up or none, and what is printed of the error of a walk.
-#[derive(Clone, Copy)]
 struct Told(Option<u8>, &'static str);
 
 impl Row for Told {

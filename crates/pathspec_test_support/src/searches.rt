@@ -1,4 +1,8 @@
 //! Searches that several tables of tests ask, and what settles a path in them.
+ghost use Rattle.std.specs.Prelude.{IfOk};
+ghost use Rattle.std.specs.Box.{box_value};
+ghost use Rattle.gix_pathspec.specs.Room.{Fits};
+
 use crate::look_ups::Marks;
 use crate::support::{build_from, pattern_of, search_of};
 use bstr::{BStr, BString};
@@ -43,6 +47,13 @@ pub fn settled_in<L: LookUp>(
         return Err("a total of the scratch doesn't tell of the match".into());
     }
     Ok(found)
+}
+
+/// A scratch of a search, boxed as the searches of the tests are.
+pub fn scratch_of(alloc: Global, search: &Search) -> Result<Box<Scratch>, AllocError>
+    ensures { IfOk result (λ scratch. Fits search.now.specs (box_value scratch)) }
+{
+    Ok(Box::new(alloc, search.new_scratch(alloc)?)?)
 }
 
 /// What a walk does with a path, in a scratch of the search's, by marks that no path has.

@@ -1,6 +1,11 @@
 //! What several tables of tests share.
+ghost use Rattle.std.specs.Prelude.{◌≡◌, IfOk};
+ghost use Rattle.std.specs.Box.{box_value};
+ghost use Rattle.pathspec_glob.specs.Globs.{room_for};
+
 use bstr::BStr;
 use gix_pathspec::{BuildError, Defaults, Error, Pattern, Search};
+use pathspec_parts::glob::Scratch;
 use pathspec_parts::path::is_clean_prefix;
 use pathspec_select::{Environment, Job, Refusal, Rows};
 use std::alloc::{AllocError, Global};
@@ -72,6 +77,13 @@ pub fn build(
 /// The search of these texts, given in this directory of a repository at `/r`.
 pub fn search_of(alloc: Global, texts: &[&str], prefix: &str) -> Result<Box<Search>, Fail> {
     Ok(build(alloc, texts, prefix)??)
+}
+
+/// Room for a glob of so many tokens, boxed as searches are.
+pub fn boxed_room(alloc: Global, tokens: usize) -> Result<Box<Scratch>, AllocError>
+    ensures { IfOk result (λ scratch. box_value scratch ≡ room_for tokens) }
+{
+    Ok(Box::new(alloc, Scratch::for_tokens(alloc, tokens)?)?)
 }
 
 /// The bytes that an error carries, or the one byte, if it carries some.
@@ -184,13 +196,16 @@ pub fn environment_of(alloc: Global, variables: Variables) -> Result<Environment
     })
 }
 
-/// What the words of a line ask for, with these variables.
+/// What the words of a line ask for, with these variables. The job is boxed, as searches are.
 pub fn job_of(
     alloc: Global,
     line: &str,
     variables: Variables,
-) -> Result<Result<(Job, Rows), Refusal>, AllocError> {
+) -> Result<Result<(Box<Job>, Rows), Refusal>, AllocError> {
     let words = words_of(alloc, line)?;
     let environment = environment_of(alloc, variables)?;
-    Ok(Job::from_words(alloc, words.as_slice(), &environment))
+    match Job::from_words(alloc, words.as_slice(), &environment) {
+        Ok((job, rows)) => Ok(Ok((Box::new(alloc, job)?, rows))),
+        Err(refusal) => Ok(Err(refusal)),
+    }
 }

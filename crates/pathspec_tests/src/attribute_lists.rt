@@ -7,7 +7,6 @@ use std::alloc::Global;
 use std::test::Fail;
 
 /// A list, and the long text of a pattern with its attributes, or the fault of the list.
-#[derive(Clone, Copy)]
 struct Says(&'static str, &'static [u8]);
 
 impl Row for Says {

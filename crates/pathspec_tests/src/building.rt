@@ -7,7 +7,6 @@ use std::alloc::{AllocError, Global};
 use std::test::Fail;
 
 /// Texts, the number of the first that has a fault, the kind of the fault, and its text.
-#[derive(Clone, Copy)]
 struct Fault(&'static [&'static str], usize, &'static str, &'static str);
 
 impl Row for Fault {

@@ -18,7 +18,6 @@ enum Question {
 use Question::{CanMatch, InPrefix};
 
 /// Texts, a question, the path that it is about, and the answer.
-#[derive(Clone, Copy)]
 struct Leads(&'static [&'static str], Question, &'static str, bool);
 
 impl Row for Leads {
@@ -94,7 +93,6 @@ fn directories_lie_in_the_prefix(rt: HostRuntime) -> Result<(), Fail> {
 
 /// Texts, the directory that they are given in, and the common prefix, the prefix directory and the longest common
 /// directory, where "" stands for none.
-#[derive(Clone, Copy)]
 struct Tells(
     &'static [&'static str],
     &'static str,

@@ -29,7 +29,6 @@ fn compares_few(search: &Search) -> bool {
 }
 
 /// Texts, the directory that they are given in, a file, the match, and the fewest and the most specs that it may ask.
-#[derive(Clone, Copy)]
 struct Asks(
     &'static [&'static str],
     &'static str,

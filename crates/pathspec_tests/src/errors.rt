@@ -35,7 +35,6 @@ fn errors_have_a_kind_and_a_text(rt: HostRuntime) -> Result<(), Fail> {
 }
 
 /// A kind, the bytes that its error carries, and the error's text.
-#[derive(Clone, Copy)]
 struct Carrying(&'static str, &'static str, &'static str);
 
 impl Carrying {

@@ -8,7 +8,9 @@ use pathspec_test_support::growths::{
     ALL, Call, Changes, Changing, Ended, Makes, Making, NONE, assert_calls, refuse,
 };
 use pathspec_test_support::look_ups::Marks;
-use pathspec_test_support::searches::{Settled, search_of_list, settled, settled_in, visited};
+use pathspec_test_support::searches::{
+    Settled, scratch_of, search_of_list, settled, settled_in, visited,
+};
 use pathspec_test_support::support::{pattern_of, search_of, text_of};
 use std::alloc::{AllocError, Global};
 use std::test::Fail;
@@ -138,7 +140,6 @@ fn a_fault_is_told_or_memory_ran_out(rt: HostRuntime) -> Result<(), Fail> {
 }
 
 /// The call that writes a pattern's long text.
-#[derive(Clone, Copy)]
 struct LongText;
 
 impl Making for LongText {
@@ -167,7 +168,6 @@ fn a_long_text_is_written_or_memory_ran_out(rt: HostRuntime) -> Result<(), Fail>
 }
 
 /// The call that reads a list of attributes.
-#[derive(Clone, Copy)]
 struct Attributes;
 
 impl Making for Attributes {
@@ -196,7 +196,6 @@ fn a_list_of_attributes_is_read_or_memory_ran_out(rt: HostRuntime) -> Result<(),
 }
 
 /// The call that normalises the pattern of a text, given in the directory `a/b` of a repository at `/r`.
-#[derive(Clone, Copy)]
 struct Normalize(&'static str);
 
 impl Changing for Normalize {
@@ -284,7 +283,6 @@ fn a_search_is_built_or_memory_ran_out(rt: HostRuntime) -> Result<(), Fail> {
 }
 
 /// The call that copies a search.
-#[derive(Clone, Copy)]
 struct CloneSearch;
 
 impl Call for CloneSearch {
@@ -307,7 +305,6 @@ fn a_search_is_copied_or_memory_ran_out(rt: HostRuntime) -> Result<(), Fail> {
 }
 
 /// The call that makes a scratch of a search of these texts, which are given in the directory `a`.
-#[derive(Clone, Copy)]
 struct NewScratch(&'static [&'static str]);
 
 impl Call for NewScratch {
@@ -397,13 +394,12 @@ fn answers_of(search: &mut Search, scratch: &mut Scratch, path: &str) -> Result<
 }
 
 /// Texts, and a path that a search of them is asked about.
-#[derive(Clone, Copy)]
 struct Asked(&'static [&'static str], &'static str);
 
 impl Call for Asked {
     fn end(&self, alloc: Global, _: usize) -> Result<Ended, Fail> {
         let mut search = search_of(alloc, self.0, "a/b")?;
-        let mut scratch = search.new_scratch(alloc)?;
+        let mut scratch = scratch_of(alloc, &search)?;
         let want = answers_of(&mut search, &mut scratch, self.1)?;
         refuse(alloc, ALL);
         let answer = answers_of(&mut search, &mut scratch, self.1);

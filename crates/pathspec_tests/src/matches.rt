@@ -4,7 +4,7 @@ use gix_pathspec::search::{Match, MatchKind, Scratch};
 use gix_pathspec::{Pattern, Search};
 use pathspec_test_support::look_ups::Marks;
 use pathspec_test_support::searches::{
-    Settled, is_written, patterns_of, search_of_list, settled, settled_in,
+    Settled, is_written, patterns_of, scratch_of, search_of_list, settled, settled_in,
 };
 use pathspec_test_support::support::{Row, assert_each, assert_rising, search_of};
 use std::alloc::{AllocError, Global};
@@ -12,7 +12,6 @@ use std::test::Fail;
 
 /// Texts, the directory that they are given in, a path, whether it is a directory, and the number and the kind of the
 /// match.
-#[derive(Clone, Copy)]
 struct Found(
     &'static [&'static str],
     &'static str,
@@ -181,7 +180,6 @@ fn stars_and_brackets_match_by_the_mode(rt: HostRuntime) -> Result<(), Fail> {
 }
 
 /// Texts, a file, the long text of the pattern that settles it, and whether the file is taken out.
-#[derive(Clone, Copy)]
 struct Lent(&'static [&'static str], &'static str, &'static str, bool);
 
 impl Row for Lent {
@@ -233,7 +231,6 @@ fn is_verbatim(found: Option<Match<'_>>, want: Option<usize>) -> bool {
 }
 
 /// Texts, a file, the number of the spec that matches it verbatim, and how many questions and how many specs were asked.
-#[derive(Clone, Copy)]
 struct Asked(
     &'static [&'static str],
     &'static str,
@@ -246,7 +243,7 @@ impl Row for Asked {
     fn holds(&self, alloc: Global) -> Result<bool, Fail> {
         let mut search = search_of(alloc, self.0, "")?;
         let is_asked = is_asked(&mut search, self.1, self.2, self.3)?;
-        let mut scratch = search.new_scratch(alloc)?;
+        let mut scratch = scratch_of(alloc, &search)?;
         let mut marks = Marks::failing_after(self.3);
         let settled = settled_in(&search, self.1.as_bytes(), None, &mut scratch, &mut marks)?;
         let want = self.2.map(|number| (number, MatchKind::Verbatim));
@@ -298,7 +295,6 @@ fn each_question_is_asked_on_a_reset_outcome(rt: HostRuntime) -> Result<(), Fail
 }
 
 /// After how many answers a look-up fails, of the two that a file asks for; the next call answers as if it hadn't.
-#[derive(Clone, Copy)]
 struct FailsAfter(u64);
 
 impl Row for FailsAfter {
@@ -341,13 +337,12 @@ fn asked_search(alloc: Global) -> Result<Box<Search>, Fail> {
 
 /// A file, after how many answers the look-up fails, and whether a spec settles the file, or None where the look-up fails:
 /// a match that a search lends in its own scratch leaves it as `settle` leaves the scratch that it is lent.
-#[derive(Clone, Copy)]
 struct Left(&'static str, u64, Option<bool>);
 
 impl Row for Left {
     fn holds(&self, alloc: Global) -> Result<bool, Fail> {
         let (mut search, other) = (asked_search(alloc)?, asked_search(alloc)?);
-        let mut scratch = other.new_scratch(alloc)?;
+        let mut scratch = scratch_of(alloc, &other)?;
         settled_in(&other, b"x", None, &mut scratch, &mut Marks::new())?;
         let is_found = lends(&mut search, self.0, &mut Marks::failing_after(self.1));
         let mut marks = Marks::failing_after(self.1);

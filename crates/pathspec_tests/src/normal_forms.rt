@@ -18,7 +18,6 @@ fn normalise(pattern: &mut Pattern, prefix: &str, root: &str) -> Result<(), Erro
 
 /// A prefix, a root, a text, and the long text of its normal form, which is its own normal form and reads back; or `nil` and
 /// the path of a nil one; or the fault, which leaves the pattern as it was.
-#[derive(Clone, Copy)]
 struct Normal(&'static str, &'static str, &'static str, &'static [u8]);
 
 impl Row for Normal {

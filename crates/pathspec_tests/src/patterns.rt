@@ -54,7 +54,6 @@ fn patterns_are_compared_field_by_field(rt: HostRuntime) -> Result<(), Fail> {
 }
 
 /// A path, and whether it has a wildcard.
-#[derive(Clone, Copy)]
 struct Wild(&'static str, bool);
 
 impl Row for Wild {

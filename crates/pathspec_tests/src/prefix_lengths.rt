@@ -4,7 +4,7 @@ use bstr::{BStr, BString};
 use gix_pathspec::{Defaults, Pattern, Search};
 use pathspec_callers::store::search_and_stored;
 use pathspec_parts::path::is_clean_prefix;
-use pathspec_parts::tree::{Cursor, Tree};
+use pathspec_parts::tree::{Cursor, Tree, Walk as _};
 use pathspec_select::select;
 use pathspec_test_support::look_ups::Marks;
 use pathspec_test_support::support::{Row, are_same, assert_each, pattern_of};
@@ -13,7 +13,6 @@ use std::alloc::{AllocError, Global};
 use std::test::Fail;
 
 /// A text, and the prefix directory that it asks for.
-#[derive(Clone, Copy)]
 struct Asks(&'static str, &'static str);
 
 impl Row for Asks {
@@ -130,7 +129,6 @@ fn a_number_that_is_no_boundary_is_told_last(rt: HostRuntime) -> Result<(), Fail
 
 /// The digit that a million times stands before the last digit, 1, of a number, and the prefix directory that it asks for, or
 /// none where the number is no boundary.
-#[derive(Clone, Copy)]
 struct Digits(&'static str, Option<&'static str>);
 
 impl Row for Digits {
@@ -184,7 +182,6 @@ fn selects(alloc: Global, tree: &Tree, search: &Search, again: &Search) -> Resul
 
 /// Texts, and the directory that they are given in: a search that is made of what [`search_and_stored`] stores selects the
 /// same entries of two trees. Of specs that aren't nil it stores the long texts.
-#[derive(Clone, Copy)]
 struct Stored(&'static [&'static str], &'static str);
 
 impl Row for Stored {

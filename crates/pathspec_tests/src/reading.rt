@@ -127,7 +127,6 @@ const VERBATIM: Defaults = Defaults {
 
 /// Defaults, a text, and what it says under them: the path, the bits of the signature, the mode, and whether it is
 /// nil; and no prefix directory.
-#[derive(Clone, Copy)]
 struct Under(Defaults, &'static str, &'static str, u32, SearchMode, bool);
 
 impl Row for Under {

@@ -4,10 +4,10 @@ use gix_pathspec::Search;
 use gix_pathspec::attributes::NoAttributes;
 use gix_pathspec::search::{MatchKind, Scratch};
 use pathspec_callers::search::count_selected;
-use pathspec_parts::tree::{Cursor, Tree, TreeError};
+use pathspec_parts::tree::{Cursor, Tree, TreeError, Walk as _};
 use pathspec_select::select;
 use pathspec_test_support::look_ups::Marks;
-use pathspec_test_support::searches::{Settled, settled_in};
+use pathspec_test_support::searches::{Settled, scratch_of, settled_in};
 use pathspec_test_support::support::{Row, are_same, assert_each, search_of};
 use pathspec_test_support::trees::{add, tree_of};
 use std::alloc::{AllocError, Global};
@@ -25,7 +25,6 @@ const TEXTS: &[&str] = &[
 ];
 
 /// A path, the number and the kind of the spec of [`TEXTS`] that settles it, and how many questions are asked for it.
-#[derive(Clone, Copy)]
 struct Asked(&'static str, Settled, u64);
 
 /// Excludes come first in search order, so that of `x` and what lies below it the last spec asks before the first does.
@@ -66,9 +65,9 @@ fn goes_on(search: &Search, scratch: &mut Scratch, path: &str, left: u64) -> Res
 #[test]
 fn a_fault_changes_no_later_answer_in_its_scratch(rt: HostRuntime) -> Result<(), Fail> {
     let search = search_of(rt.alloc(), TEXTS, "")?;
-    let mut scratch = search.new_scratch(rt.alloc())?;
+    let mut scratch = scratch_of(rt.alloc(), &search)?;
     for asked in ASKED {
-        let mut fresh = search.new_scratch(rt.alloc())?;
+        let mut fresh = scratch_of(rt.alloc(), &search)?;
         assert!(rt; answers(&search, &mut fresh, asked)?, "{}", asked.0);
         for left in 0..asked.2 {
             assert!(rt;
@@ -105,8 +104,8 @@ fn answers_beside(
 #[test]
 fn scratches_that_are_used_in_turn_answer_alike(rt: HostRuntime) -> Result<(), Fail> {
     let search = search_of(rt.alloc(), TEXTS, "")?;
-    let mut first = search.new_scratch(rt.alloc())?;
-    let mut second = search.new_scratch(rt.alloc())?;
+    let mut first = scratch_of(rt.alloc(), &search)?;
+    let mut second = scratch_of(rt.alloc(), &search)?;
     // The second comes to each path from another one.
     for (asked, other) in ASKED.iter().zip(ASKED.iter().rev()) {
         assert!(rt;
@@ -150,7 +149,7 @@ fn whole_tree(alloc: Global) -> Result<Tree, TreeError> {
 #[derive(Drop)]
 struct Walker<'t> {
     cursor: Cursor<'t>,
-    scratch: Scratch,
+    scratch: Box<Scratch>,
     /// How many entries the parts before this one have.
     before: usize,
     /// The numbers of the entries that it found, in the whole tree.
@@ -186,7 +185,7 @@ fn walkers<'t>(
     for part in parts {
         walkers.push(Walker {
             cursor: Cursor::new(alloc, part)?,
-            scratch: search.new_scratch(alloc)?,
+            scratch: scratch_of(alloc, search)?,
             before,
             selected: Vec::new(alloc),
         })?;
@@ -228,7 +227,7 @@ fn walkers_of_four_parts_select_what_one_walk_gives(rt: HostRuntime) -> Result<(
 /// How many files of the four parts are selected, asked in one scratch by the caller that counts them.
 fn selected_count(alloc: Global, files: &[&[u8]]) -> Result<usize, Fail> {
     let search = search_of(alloc, TEXTS, "")?;
-    let mut scratch = search.new_scratch(alloc)?;
+    let mut scratch = scratch_of(alloc, &search)?;
     if !search.fits(&scratch) {
         return Err("the scratch doesn't fit the search".into());
     }
@@ -250,23 +249,22 @@ fn may_be_shared<T: Send + Sync>(_: &T) -> bool {
 #[test]
 fn threads_may_share_a_search_and_hand_on_scratches(rt: HostRuntime) -> Result<(), Fail> {
     let search = search_of(rt.alloc(), TEXTS, "")?;
-    assert!(rt; may_be_shared(&search.new_scratch(rt.alloc())?));
+    assert!(rt; may_be_shared(&scratch_of(rt.alloc(), &search)?));
     assert!(rt; may_be_shared(&*search) && may_be_shared(&Arc::new(rt.alloc(), search)?));
     Ok(())
 }
 
 /// The texts of a search, those of another, and whether a scratch of the other fits the search.
-#[derive(Clone, Copy)]
 struct Fitting(&'static [&'static str], &'static [&'static str], bool);
 
 impl Row for Fitting {
     fn holds(&self, alloc: Global) -> Result<bool, Fail> {
         let search = search_of(alloc, self.0, "")?;
         let copy = Box::new(alloc, search.try_clone()?)?;
-        let own = search.new_scratch(alloc)?;
-        let of_copy = copy.new_scratch(alloc)?;
+        let own = scratch_of(alloc, &search)?;
+        let of_copy = scratch_of(alloc, &copy)?;
         let is_own = search.fits(&own) && search.fits(&of_copy) && copy.fits(&own);
-        let other = search_of(alloc, self.1, "")?.new_scratch(alloc)?;
+        let other = scratch_of(alloc, &*search_of(alloc, self.1, "")?)?;
         Ok(is_own && search.fits(&other) == self.2 && copy.fits(&other) == self.2)
     }
 }
@@ -304,13 +302,12 @@ fn a_scratch_fits_what_wants_no_other_room(rt: HostRuntime) -> Result<(), Fail> 
 }
 
 /// Texts, a file, what settles it where no attributes are known, and whether it is selected.
-#[derive(Clone, Copy)]
 struct Unknown(&'static [&'static str], &'static str, Settled, bool);
 
 impl Row for Unknown {
     fn holds(&self, alloc: Global) -> Result<bool, Fail> {
         let search = search_of(alloc, self.0, "")?;
-        let mut scratch = search.new_scratch(alloc)?;
+        let mut scratch = scratch_of(alloc, &search)?;
         let (path, file) = (self.1.as_bytes(), Some(false));
         let is_selected = search.is_selected(
             BStr::new(path),

@@ -4,20 +4,19 @@ use bstr::BStr;
 use gix_pathspec::search::{Scratch, Visit};
 use gix_pathspec::{Error, MagicSignature, Pattern, Search};
 use pathspec_test_support::look_ups::Marks;
-use pathspec_test_support::searches::{search_from, visited};
+use pathspec_test_support::searches::{scratch_of, search_from, visited};
 use pathspec_test_support::support::{Row, assert_each, pattern_of, search_of};
 use std::alloc::Global;
 use std::process::Abort;
 use std::test::Fail;
 
 /// Texts, the directory that they are given in, a directory, and whether a walk may skip what lies below it.
-#[derive(Clone, Copy)]
 struct Skips(&'static [&'static str], &'static str, &'static str, bool);
 
 impl Row for Skips {
     fn holds(&self, alloc: Global) -> Result<bool, Fail> {
         let search = search_of(alloc, self.0, self.1)?;
-        let mut scratch = search.new_scratch(alloc)?;
+        let mut scratch = scratch_of(alloc, &search)?;
         Ok(search.may_skip(BStr::new(self.2.as_bytes()), &mut scratch) == self.3)
     }
 }
@@ -244,13 +243,12 @@ fn the_prefix_directory_keeps_its_case(rt: HostRuntime) -> Result<(), Fail> {
 }
 
 /// Texts, a path, whether it is that of a directory, and whether it is selected.
-#[derive(Clone, Copy)]
 struct Selects(&'static [&'static str], &'static str, bool, bool);
 
 impl Row for Selects {
     fn holds(&self, alloc: Global) -> Result<bool, Fail> {
         let search = search_of(alloc, self.0, "")?;
-        let mut scratch = search.new_scratch(alloc)?;
+        let mut scratch = scratch_of(alloc, &search)?;
         let path = BStr::new(self.1.as_bytes());
         let answer = search.is_selected(path, Some(self.2), &mut scratch, &mut Marks::new())?;
         Ok(answer == self.3)
@@ -281,7 +279,6 @@ fn what_is_left_of_a_directory_is_selected(rt: HostRuntime) -> Result<(), Fail> 
 
 /// A pattern that is made by hand of that of a text, by these bits of its signature; a text beside it, or "" for none; a
 /// directory, and whether a walk may skip what lies below it.
-#[derive(Clone, Copy)]
 struct ByHand(&'static str, u32, &'static str, &'static str, bool);
 
 impl ByHand {
@@ -301,7 +298,7 @@ impl ByHand {
 impl Row for ByHand {
     fn holds(&self, alloc: Global) -> Result<bool, Fail> {
         let search = search_from(alloc, self.patterns(alloc)?, "")?;
-        let mut scratch = search.new_scratch(alloc)?;
+        let mut scratch = scratch_of(alloc, &search)?;
         Ok(search.may_skip(BStr::new(self.3.as_bytes()), &mut scratch) == self.4)
     }
 }
@@ -427,7 +424,7 @@ fn both_questions_are_counted_in_a_scratch(rt: HostRuntime) -> Result<(), Fail> 
         Step(MaySkip, "a/b", true, 1, 6),
     ];
     let search = search_of(rt.alloc(), &[":(exclude,glob)a/**", ":!b", "*.c"], "")?;
-    let mut scratch = search.new_scratch(rt.alloc())?;
+    let mut scratch = scratch_of(rt.alloc(), &search)?;
     for (number, step) in STEPS.iter().enumerate() {
         assert!(rt; goes(&search, &mut scratch, *step)?, "step {number}");
     }
@@ -464,7 +461,7 @@ fn assert_answers(
     rows: &[Asked],
 ) -> Result<(), Fail> {
     let search = search_from(alloc, patterns, "")?;
-    let mut scratch = search.new_scratch(alloc)?;
+    let mut scratch = scratch_of(alloc, &search)?;
     for asked in rows {
         assert!(rt; answers(&search, &mut scratch, *asked)?, "{}", asked.0);
     }
@@ -531,7 +528,6 @@ fn ten_thousand_plain_excludes_are_not_asked(rt: HostRuntime) -> Result<(), Fail
 }
 
 /// Texts, a path, whether it is a directory, whether a walk gives it and enters it, and how many specs are asked for that.
-#[derive(Clone, Copy)]
 struct Visits(
     &'static [&'static str],
     &'static str,
@@ -543,7 +539,7 @@ struct Visits(
 impl Row for Visits {
     fn holds(&self, alloc: Global) -> Result<bool, Fail> {
         let search = search_of(alloc, self.0, "")?;
-        let mut scratch = search.new_scratch(alloc)?;
+        let mut scratch = scratch_of(alloc, &search)?;
         let visit = visited(&search, self.1.as_bytes(), self.2, &mut scratch)?;
         let (is_selected, is_entered) = self.3;
         let is_right = visit

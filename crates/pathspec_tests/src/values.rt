@@ -6,7 +6,6 @@ use std::alloc::Global;
 use std::test::Fail;
 
 /// A name, and the bits of the flag that has it, 0 for none.
-#[derive(Clone, Copy)]
 struct Flag(&'static str, u32);
 
 impl Row for Flag {
@@ -76,7 +75,6 @@ const DEFAULTS: &[Defaults] = &[
 ];
 
 /// A place in the list of defaults, of which all before are less and all behind are greater.
-#[derive(Clone, Copy)]
 struct Place(usize);
 
 impl Row for Place {

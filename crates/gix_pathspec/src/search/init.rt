@@ -21,7 +21,7 @@ use crate::by_head::takers::TakersByHead;
 use crate::search::Search;
 use crate::search::counted::{CountedHeads, CountedSpecs, CountedTakers};
 use crate::search::reach::Reach;
-use crate::search::scratch::scratch_for;
+use crate::search::scratch::boxed_scratch;
 use crate::search::spec::CompiledSpec;
 use crate::search::takers::takers_with_heads;
 use crate::{Error, MagicSignature, Pattern};
@@ -119,7 +119,7 @@ impl Search {
         let reach = Reach::of_specs(alloc, &specs)?;
         let takers = takers_by_head(alloc, &specs)?;
         let specs = by_head(alloc, specs)?;
-        let scratch = scratch_for(alloc, &specs)?;
+        let scratch = boxed_scratch(alloc, &specs)?;
         let source = clone_source(&self.source)?;
         Ok(Search {
             specs,
@@ -170,7 +170,7 @@ pub(super) fn build(
     let reach = Reach::of_specs(alloc, specs.as_slice())?;
     let takers = takers_by_head(alloc, specs.as_slice())?;
     let specs = by_head(alloc, specs)?;
-    let scratch = scratch_for(alloc, &specs)?;
+    let scratch = boxed_scratch(alloc, &specs)?;
     Ok(Search {
         specs,
         scratch,

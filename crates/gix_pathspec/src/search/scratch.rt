@@ -1,5 +1,6 @@
 //! Scratches of searches.
 ghost use Rattle.std.specs.Prelude.{◌≡◌, ◌↔◌, IsTrue, IfOk};
+ghost use Rattle.std.specs.Box.{box_value};
 ghost use Rattle.gix_pathspec.specs.Search.{IsFresh};
 ghost use Rattle.gix_pathspec.specs.Room.{Fits};
 
@@ -32,10 +33,18 @@ impl Search {
 }
 
 /// Room for matches of these specs, in which nothing was asked yet.
-pub(super) fn scratch_for(alloc: Global, specs: &SpecsByHead) -> Result<Scratch, AllocError>
+fn scratch_for(alloc: Global, specs: &SpecsByHead) -> Result<Scratch, AllocError>
     ensures fits { IfOk result (Fits specs.now) }
     ensures fresh { IfOk result (λ scratch. IsFresh scratch.counts) }
 {
     let room = SpecScratch::for_specs(alloc, specs.counted())?;
     Ok(Scratch::new(room, specs.heads().new_scratch()))
+}
+
+/// The same in a box: whoever drops a search needn't prove anew what becomes of a scratch's lists.
+pub(super) fn boxed_scratch(alloc: Global, specs: &SpecsByHead) -> Result<Box<Scratch>, AllocError>
+    ensures fits { IfOk result (λ scratch. Fits specs.now (box_value scratch)) }
+    ensures fresh { IfOk result (λ scratch. IsFresh (box_value scratch).counts) }
+{
+    Ok(Box::new(alloc, scratch_for(alloc, specs)?)?)
 }

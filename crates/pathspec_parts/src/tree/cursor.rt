@@ -1,12 +1,10 @@
 //! A cursor over a tree, the only way to its entries.
-ghost use Rattle.std.specs.Prelude.{◌≡◌, ◌<◌, ◌≤◌, ◌+◌, ◌↔◌, ℕ, false, Some, IsTrue, length, IfOk, Contains, vec_capacity};
+ghost use Rattle.std.specs.Prelude.{◌≡◌, ◌<◌, ◌≤◌, ◌+◌, ℕ, false, Some, length, IfOk, Contains, vec_capacity};
 ghost use Rattle.std.specs.List.Sorted.{IsStrictlyIncreasing};
-ghost use Rattle.bstr.specs.BStr.{bstr_bytes};
 ghost use Rattle.pathspec_parts.specs.Bytes.{is_one_of};
-ghost use Rattle.pathspec_parts.specs.Trees.{IsNested, HasBytePaths};
-ghost use Rattle.pathspec_parts.specs.Cursors.{next_seen, IsNew, new_cursor, next_number, cursor_at, path_at, is_dir_at, after_enter, append_once};
+ghost use Rattle.pathspec_parts.specs.Cursors.{new_cursor, append_once};
 
-use super::Tree;
+use super::{Tree, Walk};
 use bstr::BStr;
 use std::alloc::{AllocError, Global};
 use std::fmt;
@@ -76,17 +74,17 @@ impl<'a> Cursor<'a> {
             is_new: true,
         })
     }
+}
 
-    /// Goes to the next entry that doesn't lie in a directory that wasn't entered, and gives its number; nothing at the
-    /// end, where no entry stands.
-    ///
+impl<'a> Walk for Cursor<'a> {
+    type Place = usize;
+
+    ghost number = { λ es n. n };
+
+    ghost contents = { λ it. it };
+
     /// It looks at the bytes of the entry's name, and at no entry that it passes over.
-    pub fn next(&mut self) -> Option<usize>
-        ensures next { result ≡ next_seen self.old.entered (next_number self.old) self.old.entries }
-        ensures place { self.new ≡ cursor_at self.old result }
-        ensures nested { IsNested self.old.entries }
-        ensures bytes { HasBytePaths self.old.entries }
-    {
+    fn next(&mut self) -> Option<usize> {
         let number = self.next;
         let tree = self.tree;
         self.is_new = false;
@@ -101,29 +99,18 @@ impl<'a> Cursor<'a> {
         Some(number)
     }
 
-    /// The path of the entry, its names joined by slashes; empty where no entry stands.
-    pub fn path(&self) -> BStr<'_>
-        ensures { bstr_bytes result ≡ path_at self.now }
-    {
+    fn path(&self) -> BStr<'_> {
         BStr::new(&self.path)
     }
 
-    /// Whether the entry is a directory; false where no entry stands.
-    pub fn is_dir(&self) -> bool
-        ensures { result ≡ is_dir_at self.now }
-    {
+    fn is_dir(&self) -> bool {
         match self.at {
             Some(number) => self.tree.is_dir(number),
             None => false,
         }
     }
 
-    /// Enters the directory, so that the entries in it come next, and writes its number on the trail, once. It says
-    /// whether there is a directory: nothing changes at a file, and where no entry stands.
-    pub fn enter(&mut self) -> bool
-        ensures entered { self.new ≡ after_enter self.old }
-        ensures is_dir { result ≡ is_dir_at self.old }
-    {
+    fn enter(&mut self) -> bool {
         let Some(number) = self.at else {
             return false;
         };
@@ -135,17 +122,11 @@ impl<'a> Cursor<'a> {
         true
     }
 
-    /// The trail: the numbers of the directories that were entered, rising.
-    pub fn entered(&self) -> &[usize]
-        ensures { result.now ≡ self.now.entered }
-    {
+    fn entered(&self) -> &[usize] {
         &self.entered
     }
 
-    /// Whether [`Cursor::next`] was never called.
-    pub fn is_new(&self) -> bool
-        ensures { IsTrue result ↔ IsNew self.now }
-    {
+    fn is_new(&self) -> bool {
         self.is_new
     }
 }

@@ -1,5 +1,6 @@
 -- What a walk gives is the list of the definition.
-use Rattle.std.proofs.Common.{◌≡◌, ◌∙◌, ap}
+use Rattle.std.proofs.Common.{◌≡◌, ◌∙◌, ap, map, sym}
+use Rattle.std.proofs.lemmas.List.{map-id}
 use Rattle.std.proofs.lemmas.Result.{IfOk-weaker}
 use Rattle.pathspec_parts.specs.Cursors.{CursorContents}
 use Rattle.gix_pathspec.specs.Search.{specs_of}
@@ -13,5 +14,5 @@ returns g c =
     let es = c.in-Ok.cursor.entries in
     let entered = c.select.new.cursor.entered in
     let same = ap (λ (x : CursorContents). x.entries) c.in-Ok.ensures in
-    IfOk-weaker c.select.result (λ given. IsWalk table specs es given.items entered) (λ given. given.items ≡ chosen_entries table specs c.args.tree.now.entries)
-    (λ given walk. c.select.ensures.given es given.items entered walk ∙ ap (chosen_entries table specs) same) c.select.ensures.walk
+    IfOk-weaker c.select.result (λ given. IsWalk table specs es (map (λ n. n) given.items) entered) (λ given. given.items ≡ chosen_entries table specs c.args.tree.now.entries)
+    (λ given walk. sym (map-id given.items) ∙ c.select.ensures.given es (map (λ n. n) given.items) entered walk ∙ ap (chosen_entries table specs) same) c.select.ensures.walk

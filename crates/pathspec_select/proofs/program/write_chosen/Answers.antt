@@ -1,8 +1,11 @@
 -- The walk over the listing's tree gives just the entries whose records are to be written.
-use Rattle.std.proofs.Common.{◌∙◌, ap, rules}
+use Rattle.std.proofs.Common.{ℕ, List, ◌∙◌, ap, subst, rules}
+use Rattle.std.proofs.lemmas.List.{map-id}
 use Rattle.pathspec_parts.specs.Cursors.{CursorContents}
 use Rattle.pathspec_select.specs.declared.refusal.Refusal.{Refusal}
 use Rattle.pathspec_select.specs.Listing.{written_entries, ListingContents}
+use Rattle.pathspec_select.specs.Walks.{IsWalk}
+use Rattle.gix_pathspec.specs.Search.{specs_of}
 use Rattle.pathspec_select.proofs.ProgramProofs.{mapped_ok, output-is, ends-output, refuses-listing}
 use Rattle.pathspec_select.proofs.program.write_chosen.Goals as goal
 
@@ -18,7 +21,7 @@ returns-clause-ends g c =
     let listing = c.in-Ok.listing in
     let given = c.in_ok-given.given.items in
     let walked = mapped_ok Refusal c.select.result c.in_ok-given.given c.in_ok-given.ensures.cases in
-    let walk = rw walked at c.select.ensures.walk in
+    let walk = subst (λ (numbers : List ℕ). IsWalk table (specs_of ns) c.in_ok-cursor.cursor.entries numbers c.select.new.cursor.entered) (map-id given) (rw walked at c.select.ensures.walk) in
     let es = ap (λ (l : CursorContents). l.entries) c.in_ok-cursor.ensures ∙ (c.tree.ensures ∙ ap (λ (l : ListingContents). l.entries) c.in-Ok.ensures.contents) in
     let marks = ap (λ (l : ListingContents). l.marks) c.in-Ok.ensures.contents in
     let written = ap (written_entries separator listing.marks) c.as_slice.ensures.value ∙ output-is table ns separator bytes listing.marks _ given _ marks es walk in

@@ -1,5 +1,6 @@
 -- Each turn visits the next entry that the walk sees.
-use Rattle.std.proofs.Common.{◌≡◌, ℕ, ◌-◌, ◌<◌, length, List, [], refl, sym, ap, subst, ◌∙◌, Some, None}
+use Rattle.std.proofs.Common.{◌≡◌, ℕ, ◌-◌, ◌<◌, Bool, true, false, cond, length, map, List, [], ◌∷◌, ◌++◌, refl, sym, ap, subst, ◌∙◌, Some, None}
+use Rattle.std.proofs.lemmas.List.{map-append}
 use Rattle.pathspec_parts.specs.Attributes.{Table}
 use Rattle.pathspec_parts.specs.Entries.{Entry}
 use Rattle.pathspec_parts.specs.Trees.{IsNested, HasBytePaths}
@@ -43,57 +44,77 @@ finish table specs none spec_bytes es c d given e nested bytes h next m =
 nearer_as : (specs : List Spec) (c d : CursorContents) (n : ℕ) → c.entries ≡ d.entries → Some n ≡ next_seen c.entered (next_number c) c.entries → d ≡ after_visit specs (cursor_at c (Some n)) → length d.entries - next_number d < length c.entries - next_number c
 nearer_as specs c d n e next v = subst (λ (es : List Entry). length es - next_number d < length c.entries - next_number c) e (nearer specs c d n next v)
 
-pub loop-number-init : goal.loop-number-init
-loop-number-init g c = record {
-  course = start_as (g.L.LookUp.table c.args.look_up.now) (specs_of c.args.search.now.specs) c.args.cursor.now c.requires c.new-given.result.items c.new-given.ensures.items;
-  tree = refl;
-  room = c.in-Ok.ensures.fits;
-  table = refl;
-  count = refl;
-}
+-- a place more, by its number
+map-append_if : {P : Type 0} (f : P → ℕ) (b : Bool) (p : P) (ps : List P) → map f (cond b (ps ++ p ∷ []) ps) ≡ append_if b (f p) (map f ps)
+map-append_if f true p ps = map-append f ps (p ∷ [])
+map-append_if f false p ps = refl
+
+pub loop-place-init : goal.loop-place-init
+loop-place-init g c =
+    let begin = g.W.Walk.contents c.args.cursor.now in
+    let numbers = map (g.W.Walk.number begin.entries) in
+    record {
+      course = start_as (g.L.LookUp.table c.args.look_up.now) (specs_of c.args.search.now.specs) begin c.requires (numbers c.new-given.result.items) (ap numbers c.new-given.ensures.items);
+      tree = refl;
+      room = c.in-Ok.ensures.fits;
+      table = refl;
+      count = refl;
+    }
 
 pub visit-requires-clause-path : goal.visit-requires-clause-path
 visit-requires-clause-path g c =
+    let at = g.W.Walk.contents c.loop-place.cursor in
     let e = c.in-Some.ensures in
-    λ q. path_some c.loop-number.cursor c.in-Some.number e.nested e.next (ap path_at (sym e.place) ∙ q)
+    λ q. path_some at (g.W.Walk.number at.entries c.in-Some.place) e.nested e.next (ap path_at (sym e.place) ∙ q)
 
-pub loop-number-smaller : goal.loop-number-smaller
-loop-number-smaller g c =
+pub loop-place-smaller : goal.loop-place-smaller
+loop-place-smaller g c =
+    let at = g.W.Walk.contents c.loop-place.cursor in
     let e = c.in-Some.ensures in
     let v = c.in_ok-visit.ensures in
     let specs = specs_of c.args.search.now.specs in
-    nearer_as specs c.loop-number.cursor c.visit.new.cursor c.in-Some.number (sym (v.tree ∙ ap (λ (x : CursorContents). x.entries) e.place)) e.next (v.entered ∙ ap (after_visit specs) e.place)
+    nearer_as specs at (g.W.Walk.contents c.visit.new.cursor) (g.W.Walk.number at.entries c.in-Some.place) (sym (v.tree ∙ ap (λ (x : CursorContents). x.entries) e.place)) e.next (v.entered ∙ ap (after_visit specs) e.place)
 
-pub loop-number-preserved : goal.loop-number-preserved
-loop-number-preserved g c =
-    let at = c.loop-number.cursor in
-    let i = c.loop-number.invariant in
+pub loop-place-preserved : goal.loop-place-preserved
+loop-place-preserved g c =
+    let at = g.W.Walk.contents c.loop-place.cursor in
+    let there = g.W.Walk.contents c.next.new.self in
+    let i = c.loop-place.invariant in
     let e = c.in-Some.ensures in
     let v = c.in_ok-visit.ensures in
     let table = g.L.LookUp.table c.args.look_up.now in
-    let before = g.L.LookUp.table c.loop-number.look_up in
+    let before = g.L.LookUp.table c.loop-place.look_up in
     let specs = specs_of c.args.search.now.specs in
+    let es = (g.W.Walk.contents c.args.cursor.now).entries in
+    let number_in = λ (x : List Entry). g.W.Walk.number x c.in-Some.place in
+    let numbers = map (g.W.Walk.number es) in
+    let given = c.loop-place.given.items in
+    let next = sym (ap (λ (x : List Entry). Some (number_in x)) i.tree) ∙ e.next in
+    let here = e.place ∙ ap (λ (x : List Entry). cursor_at at (Some (number_in x))) i.tree in
+    let more = ap numbers v.given ∙ map-append_if (g.W.Walk.number es) (is_chosen before specs (path_at there) (is_dir_at there)) c.in-Some.place given in
     record {
-      course = step table specs c.nil_specs_lack_a_prefix.ensures c.args.cursor.now.entries at c.visit.new.cursor c.loop-number.given.items c.visit.new.given.items i.tree e.nested i.course c.in-Some.number e.next
-          (given_is table before specs at c.next.new.self c.in-Some.number c.loop-number.given.items c.visit.new.given.items e.place i.table v.given)
-          (v.entered ∙ ap (after_visit specs) e.place);
+      course = step table specs c.nil_specs_lack_a_prefix.ensures es at (g.W.Walk.contents c.visit.new.cursor) (numbers given) (numbers c.visit.new.given.items) i.tree e.nested i.course (number_in es) next
+          (given_is table before specs at there (number_in es) (numbers given) (numbers c.visit.new.given.items) here i.table more)
+          (v.entered ∙ ap (after_visit specs) here);
       tree = v.tree ∙ (ap (λ (x : CursorContents). x.entries) e.place ∙ i.tree);
-      room = fits-kept _ c.loop-number.scratch c.visit.new.scratch i.room v.room;
+      room = fits-kept _ c.loop-place.scratch c.visit.new.scratch i.room v.room;
       table = v.table_stays ∙ i.table;
       count = v.counts ∙ i.count;
     }
 
 pub returns-clause-walk : goal.returns-clause-walk
 returns-clause-walk g c =
-    let i = c.loop-number.invariant in
+    let i = c.loop-place.invariant in
     let e = c.in_default.ensures in
-    (finish (g.L.LookUp.table c.args.look_up.now) (specs_of c.args.search.now.specs) c.nil_specs_lack_a_prefix.ensures c.spec_paths_are_bytes.ensures c.args.cursor.now.entries c.loop-number.cursor c.next.new.self c.loop-number.given.items i.tree e.nested e.bytes i.course e.next e.place).0
+    let es = (g.W.Walk.contents c.args.cursor.now).entries in
+    (finish (g.L.LookUp.table c.args.look_up.now) (specs_of c.args.search.now.specs) c.nil_specs_lack_a_prefix.ensures c.spec_paths_are_bytes.ensures es (g.W.Walk.contents c.loop-place.cursor) (g.W.Walk.contents c.next.new.self) (map (g.W.Walk.number es) c.loop-place.given.items) i.tree e.nested e.bytes i.course e.next e.place).0
 
 pub returns-clause-entered : goal.returns-clause-entered
 returns-clause-entered g c =
-    let i = c.loop-number.invariant in
+    let i = c.loop-place.invariant in
     let e = c.in_default.ensures in
-    (finish (g.L.LookUp.table c.args.look_up.now) (specs_of c.args.search.now.specs) c.nil_specs_lack_a_prefix.ensures c.spec_paths_are_bytes.ensures c.args.cursor.now.entries c.loop-number.cursor c.next.new.self c.loop-number.given.items i.tree e.nested e.bytes i.course e.next e.place).1
+    let es = (g.W.Walk.contents c.args.cursor.now).entries in
+    (finish (g.L.LookUp.table c.args.look_up.now) (specs_of c.args.search.now.specs) c.nil_specs_lack_a_prefix.ensures c.spec_paths_are_bytes.ensures es (g.W.Walk.contents c.loop-place.cursor) (g.W.Walk.contents c.next.new.self) (map (g.W.Walk.number es) c.loop-place.given.items) i.tree e.nested e.bytes i.course e.next e.place).1
 
 -- ---- the laws
 

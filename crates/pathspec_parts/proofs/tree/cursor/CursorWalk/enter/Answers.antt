@@ -1,6 +1,6 @@
 use Rattle.std.proofs.Common.{sym, ◌∙◌}
 use Rattle.pathspec_parts.proofs.CursorProofs.{entered_below, enters_as, room_for}
-use Rattle.pathspec_parts.proofs.tree.cursor.Cursor.enter.Goals as goal
+use Rattle.pathspec_parts.proofs.tree.cursor.CursorWalk.enter.Goals as goal
 
 pub push_once-requires-clause-below : goal.push_once-requires-clause-below
 push_once-requires-clause-below c =

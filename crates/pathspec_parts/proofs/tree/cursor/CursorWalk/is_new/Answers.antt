@@ -2,7 +2,7 @@ use Rattle.std.proofs.Common.{◌≡◌, true, subst}
 use Rattle.std.specs.Prelude.{◌↔◌}
 use Rattle.pathspec_parts.specs.Cursors.{CursorContents, IsNew}
 use Rattle.pathspec_parts.proofs.CursorProofs.{new_is}
-use Rattle.pathspec_parts.proofs.tree.cursor.Cursor.is_new.Goals as goal
+use Rattle.pathspec_parts.proofs.tree.cursor.CursorWalk.is_new.Goals as goal
 
 pub returns : goal.returns
 returns c =

@@ -5,7 +5,7 @@ use Rattle.pathspec_parts.specs.Entries.{Entry}
 use Rattle.pathspec_parts.specs.Cursors.{next_seen}
 use Rattle.pathspec_parts.specs.Cursors.{CursorContents, next_number}
 use Rattle.pathspec_parts.proofs.CursorProofs.{is_near, ends_as, ends_none, goes, goes_next}
-use Rattle.pathspec_parts.proofs.tree.cursor.Cursor.next.Goals as goal
+use Rattle.pathspec_parts.proofs.tree.cursor.CursorWalk.next.Goals as goal
 
 -- an entry stands where the number is below the count
 entry_there : (es : List Entry) (n k : ℕ) → k ≡ length es → n < k → (e : Entry) × (slice_get es n ≡ Some e)
