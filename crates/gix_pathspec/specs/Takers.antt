@@ -1,5 +1,5 @@
 -- Excludes that are asked one by one whether a walk may skip a directory, and how many are asked.
-use Rattle.std.specs.Prelude.{◌≡◌, ◌⊎◌, ℕ, ◌+◌, ◌^◌, ◌<◌, ◌≤◌, Bool, true, not, ◌&&◌, ◌||◌, List, length, map, filter, if◌then◌else◌, Option, Some, None}
+use Rattle.std.specs.Prelude.{◌≡◌, MatchBool, ℕ, ◌+◌, ◌^◌, ◌<◌, ◌≤◌, Bool, true, not, ◌&&◌, ◌||◌, List, length, map, filter, if◌then◌else◌, Option, Some, None}
 use Rattle.pathspec_glob.specs.Counts.{Counts}
 use Rattle.pathspec_glob.specs.Globs.{GlobSource}
 use Rattle.pathspec_heads.specs.Groups.{GroupedPlaces, IsGrouped}
@@ -62,8 +62,8 @@ pub record IsSkipCounted (takers : List Spec) (d : List ℕ) (old new : MatchCou
   pub few_tested : new.last_tested ≤ taker_count takers d
   pub few_compared : (b : ℕ) → length takers < 2 ^ b → new.last_compared ≤ b + 2
 
--- What a visit asked and compared is counted: that of the match, and then that of the question whether a walk may skip the path, if it was asked.
-pub record IsVisitCounted (specs : List Numbered) (path : List ℕ) (old new : MatchCounts) : Type 0 where
+-- What a visit asked and compared is counted: that of the match, and then, where it asks whether a walk may skip the path, that of this question.
+pub record IsVisitCounted (specs : List Numbered) (path : List ℕ) (asks : Bool) (old new : MatchCounts) : Type 0 where
   pub between : MatchCounts
   pub matched : IsCounted specs path old between
-  pub skipped : (new ≡ between) ⊎ IsSkipCounted (takers_of (specs_of specs)) path between new
+  pub skipped : MatchBool asks (IsSkipCounted (takers_of (specs_of specs)) path between new) (new ≡ between)

@@ -9,7 +9,7 @@ use Rattle.std.specs.Cmp.Lexicographic.{slice_cmp}
 use Rattle.pathspec_glob.specs.Bytes.{begins_with}
 use Rattle.pathspec_heads.specs.Agreement.{agreement, is_behind}
 use Rattle.pathspec_heads.specs.Heads.{head_at, IsRising, IsLinked, IsLastFront, IsChainOf, Brackets}
-use Rattle.pathspec_heads.proofs.AgreementProofs.{agreement-self, front-agreement, not_behind, begins-through, begins-take, take-begins, begins-between, begins-not_behind, behind-not_front, behind-further, same_fronts, not_true, both}
+use Rattle.pathspec_heads.proofs.AgreementProofs.{agreement-self, agreement-front, front-agreement, not_behind, begins-through, begins-take, take-begins, begins-between, begins-not_behind, behind-not_front, behind-further, same_fronts, not_true, both}
 
 pub begins-itself : (x : List ℕ) → begins_with x x ≡ true
 begins-itself x = front-agreement x x (agreement-self x)
@@ -160,6 +160,23 @@ module _ (heads : List (List ℕ)) (rising : IsRising heads) where
   pub chained_last : (text : List ℕ) (last : Option ℕ) → IsLastFront heads (length heads) text last → IfSome last (IsChainOf heads text)
   chained_last text None h = tt
   chained_last text (Some j) h = chained text j h
+
+-- ---- a list of one head
+
+pub only-found : (heads : List (List ℕ)) (text : List ℕ) → length heads ≡ 1 → length (head_at heads 0) ≤ agreement (head_at heads 0) text → IsLastFront heads (length heads) text (Some 0)
+only-found heads text one whole = record {
+  begins = λ j e. let is : 0 ≡ j = cc in subst (λ i. (i < length heads) × (begins_with text (head_at heads i) ≡ true)) is (omega (arith, one), front-agreement (head_at heads 0) text whole);
+  later = λ j e k a l. absurd (omega (arith, one, a, l));
+  none = λ e. cc;
+}
+
+pub only-none : (heads : List (List ℕ)) (text : List ℕ) → length heads ≡ 1 → agreement (head_at heads 0) text < length (head_at heads 0) → IsLastFront heads (length heads) text None
+only-none heads text one apart = record {
+  begins = λ j e. cc;
+  later = λ j e. cc;
+  none = λ e k l. let is : 0 ≡ k = omega (arith, one, l) in subst (λ i. begins_with text (head_at heads i) ≡ false) is
+      (not_true (begins_with text (head_at heads 0)) (λ b. let w = agreement-front (head_at heads 0) text b in omega (arith, apart, w)));
+}
 
 -- one more link
 pub linked-more : (heads : List (List ℕ)) (links : List (Option ℕ)) (link : Option ℕ) (place : ℕ) → length links ≡ place → IsLinked heads links → IsLastFront heads place (head_at heads place) link → IsLinked heads (links ++ link ∷ [])

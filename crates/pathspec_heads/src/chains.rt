@@ -207,6 +207,22 @@ pub fn linked(alloc: Global, heads: &Texts) -> Result<Vec<Option<usize>>, AllocE
     Ok(links)
 }
 
+/// Whether the only head begins the text, as one search of all heads finds it.
+fn only(heads: &Heads, text: &[u8], scratch: &mut Scratch) -> Deepest
+    requires { length heads.now ≡ 1 }
+    ensures found { IsLastFront heads.now (length heads.now) text.now result.head }
+    ensures counted { Counts scratch.old result.compared scratch.new }
+    ensures compared { result.compared ≡ 1 }
+{
+    let comparison = heads.compare(0, text, scratch);
+    let head = if comparison.agreed < heads.texts().text_len(0) {
+        None
+    } else {
+        Some(0)
+    };
+    Deepest { head, compared: 1 }
+}
+
 impl Chains {
     /// The chains of different heads in byte order. The cost is linear in their bytes.
     ///
@@ -224,7 +240,7 @@ impl Chains {
     /// the text are those that begin this one.
     ///
     /// It compares at most as many heads as their count has binary digits, and two: where the texts of one scratch come
-    /// in byte order often one or two. It takes no memory.
+    /// in byte order often one or two, and of one head that one. It takes no memory.
     pub fn deepest(&self, text: &[u8], scratch: &mut Scratch) -> Deepest
         ensures found { IsLastFront self.now (length self.now) text.now result.head }
         ensures chain { IfSome result.head (λ j. IsChainOf self.now text.now j) }
@@ -232,6 +248,9 @@ impl Chains {
         ensures cost { (b : ℕ) → length self.now < 2 ^ b → result.compared ≤ b + 2 }
         ensures asked { 0 < length self.now → 1 ≤ result.compared }
     {
+        if self.links.len() == 1 {
+            return only(&self.heads, text, scratch);
+        }
         let point = sought(&self.heads, text, scratch);
         scratch.hint = point.low;
         if point.low == 0 {

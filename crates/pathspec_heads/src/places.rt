@@ -33,17 +33,36 @@ impl Model for PlacesByHead {
     ghost invariant = { λ p. IsOrder p.chains p.starts.items p.order.items };
 }
 
+/// Up to so many numbers are gone through one by one, which takes less than halves of them do.
+const FEW: usize = 8;
+
 /// The least number in an ascending list from one on.
 fn next_in(places: &[usize], from: usize) -> Option<usize>
     requires { IsNonDecreasing places.now }
     ensures { IsLeastFrom (Contains places.now) from result }
 {
+    if places.len() <= FEW {
+        return next_of_few(places, from);
+    }
     let at = places.partition_point(|place| *place < from);
     if at < places.len() {
         Some(places[at])
     } else {
         None
     }
+}
+
+/// The same, number by number.
+fn next_of_few(places: &[usize], from: usize) -> Option<usize>
+    requires { IsNonDecreasing places.now }
+    ensures { IsLeastFrom (Contains places.now) from result }
+{
+    for place in places {
+        if *place >= from {
+            return Some(*place);
+        }
+    }
+    None
 }
 
 /// The lesser of two numbers, of those that are there.

@@ -61,10 +61,12 @@ pub(super) fn is_in_prefix_directory(pattern: &Pattern, path: BStr<'_>, is_dir: 
     ensures { result ≡ is_in_prefix_directory (pattern_spec pattern.now)
         (bstr_bytes path.entry) is_dir }
 {
+    if !ignores_case(pattern) {
+        return true;
+    }
     let path = path.as_bytes();
     let prefix = pattern.prefix_directory().as_bytes();
-    !ignores_case(pattern)
-        || prefix.is_empty()
+    prefix.is_empty()
         || is_below(path, prefix, false)
         || is_same_text(path, prefix, false) && is_dir
 }

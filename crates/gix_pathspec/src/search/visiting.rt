@@ -1,13 +1,14 @@
 //! What a walk does with the entries of a tree.
-ghost use Rattle.std.specs.Prelude.{◌≡◌, ◌≢◌, ◌⊎◌, ◌&&◌, [], true, not, IfOk, OnOk, OnErr};
+ghost use Rattle.std.specs.Prelude.{◌≡◌, ◌≢◌, ◌&&◌, [], true, not, MatchBool, IfOk, OnOk, OnErr};
 ghost use Rattle.std.specs.Option.{option_map};
 ghost use Rattle.bstr.specs.BStr.{bstr_bytes};
 ghost use Rattle.pathspec_parts.specs.Attributes.{next_count};
 ghost use Rattle.gix_pathspec.specs.Attributes.{Table};
+ghost use Rattle.gix_pathspec.specs.Effort.{IsCounted};
 ghost use Rattle.gix_pathspec.specs.Found.{match_view};
 ghost use Rattle.gix_pathspec.specs.Matching.{is_chosen};
 ghost use Rattle.gix_pathspec.specs.Room.{Fits};
-ghost use Rattle.gix_pathspec.specs.Search.{specs_of};
+ghost use Rattle.gix_pathspec.specs.Search.{specs_of, answer};
 ghost use Rattle.gix_pathspec.specs.Skipping.{answer_takes_whole, may_skip};
 ghost use Rattle.gix_pathspec.specs.SkipLaws.{SkippedIsNotChosen};
 ghost use Rattle.gix_pathspec.specs.Takers.{IsSkipCounted, IsVisitCounted, takers_of};
@@ -31,9 +32,8 @@ impl Search {
     /// whether it is a directory that the walk enters, since it may not skip it ([`Search::may_skip`]) (own; gix-pathspec has no
     /// such call).
     ///
-    /// One call costs less than the two. Where the match of a directory takes it whole
-    /// ([`Match::takes_whole`]), as `:!node_modules` does, the search asks nothing more; of a
-    /// file it asks no second question either. Else the cost and the paths are those of both calls, and
+    /// One call costs less than the two. Of a file it asks for the match alone, and so of a directory whose match takes it whole
+    /// ([`Match::takes_whole`]), as `:!node_modules` does. Of any other directory it asks both, at the cost of both, and
     /// [`Scratch::last_tested`] tells of the second.
     ///
     /// # Errors
@@ -54,8 +54,13 @@ impl Search {
         // Nothing below a directory that isn't entered is chosen, whatever a look-up says.
         ensures safe { (table : Table) → SkippedIsNotChosen table (specs_of self.now.specs) }
         ensures room { scratch.new.room ≡ scratch.old.room }
-        ensures counted { IsVisitCounted self.now.specs (bstr_bytes path.entry)
-            scratch.old.counts scratch.new.counts }
+        // Of a file, and of a directory whose match takes it whole, nothing more is asked.
+        ensures counted { let found = answer (L.table look_up.old) self.now.specs
+            (bstr_bytes path.entry) is_dir in
+            OnOk result (IsVisitCounted self.now.specs (bstr_bytes path.entry)
+            (is_dir && not (answer_takes_whole found)) scratch.old.counts scratch.new.counts) }
+        ensures match_counted { OnErr result (IsCounted self.now.specs (bstr_bytes path.entry)
+            scratch.old.counts scratch.new.counts) }
         ensures table_stays { L.table look_up.new ≡ L.table look_up.old }
         ensures ok_leaves_count { OnOk result (L.failures look_up.new ≡ L.failures look_up.old) }
         ensures err_counts { OnErr result
@@ -81,9 +86,10 @@ impl Search {
         ensures entered { result
             ≡ (is_dir && not (may_skip (specs_of self.now.specs) (bstr_bytes path.entry))) }
         ensures room { scratch.new.room ≡ scratch.old.room }
-        ensures counted { (scratch.new.counts ≡ scratch.old.counts)
-            ⊎ IsSkipCounted (takers_of (specs_of self.now.specs))
-            (bstr_bytes path.entry) scratch.old.counts scratch.new.counts }
+        ensures counted { MatchBool (is_dir && not is_skipped)
+            (IsSkipCounted (takers_of (specs_of self.now.specs))
+            (bstr_bytes path.entry) scratch.old.counts scratch.new.counts)
+            (scratch.new.counts ≡ scratch.old.counts) }
     {
         is_dir && !is_skipped && !self.may_skip(path, scratch)
     }

@@ -27,3 +27,8 @@ returns-clause-found c =
 pub returns-clause-chain : goal.returns-clause-chain
 returns-clause-chain c =
     subst (λ g. IfSome c.front_of-head.result (IsChainOf g c.args.text.now)) c.self.view_is (chained_last c.self.inside.heads c.self.invariant.rising c.args.text.now c.front_of-head.result (found c))
+
+pub returns-then-len-eq1-clause-chain : goal.returns-then-len-eq1-clause-chain
+returns-then-len-eq1-clause-chain c =
+    let h = c.self.inside.heads in
+    subst (λ g. IfSome c.only.result.head (IsChainOf g c.args.text.now)) c.self.view_is (chained_last h c.self.invariant.rising c.args.text.now c.only.result.head c.only.ensures.found)
