@@ -140,7 +140,8 @@ impl PlacesByHead {
 
     /// The least place from one on whose head begins this one.
     ///
-    /// For each head that begins it, it looks at as many places as their count has binary digits. It takes no memory.
+    /// For each head that begins it, it looks at as many places as their count has binary digits, or at up to eight. It takes no
+    /// memory.
     pub fn next_place(&self, head: usize, from: usize) -> Option<usize>
         requires { head < length self.now.heads }
         ensures { IsLeastFrom (IsInChain self.now.heads self.now.starts self.now.order head)
