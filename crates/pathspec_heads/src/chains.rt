@@ -208,7 +208,7 @@ pub fn linked(alloc: Global, heads: &Texts) -> Result<Vec<Option<usize>>, AllocE
 }
 
 /// Whether the only head begins the text, as one search of all heads finds it.
-fn only(heads: &Heads, text: &[u8], scratch: &mut Scratch) -> Deepest
+fn only_head(heads: &Heads, text: &[u8], scratch: &mut Scratch) -> Deepest
     requires { length heads.now ≡ 1 }
     ensures found { IsLastFront heads.now (length heads.now) text.now result.head }
     ensures counted { Counts scratch.old result.compared scratch.new }
@@ -249,7 +249,7 @@ impl Chains {
         ensures asked { 0 < length self.now → 1 ≤ result.compared }
     {
         if self.links.len() == 1 {
-            return only(&self.heads, text, scratch);
+            return only_head(&self.heads, text, scratch);
         }
         let point = sought(&self.heads, text, scratch);
         scratch.hint = point.low;

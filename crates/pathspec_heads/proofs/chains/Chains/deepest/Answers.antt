@@ -31,4 +31,4 @@ returns-clause-chain c =
 pub returns-then-len-eq1-clause-chain : goal.returns-then-len-eq1-clause-chain
 returns-then-len-eq1-clause-chain c =
     let h = c.self.inside.heads in
-    subst (λ g. IfSome c.only.result.head (IsChainOf g c.args.text.now)) c.self.view_is (chained_last h c.self.invariant.rising c.args.text.now c.only.result.head c.only.ensures.found)
+    subst (λ g. IfSome c.only_head.result.head (IsChainOf g c.args.text.now)) c.self.view_is (chained_last h c.self.invariant.rising c.args.text.now c.only_head.result.head c.only_head.ensures.found)

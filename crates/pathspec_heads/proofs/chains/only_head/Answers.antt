@@ -2,7 +2,7 @@
 use Rattle.std.proofs.Common.{arith, length, ap, ◌∙◌}
 use Rattle.pathspec_heads.specs.Heads.{head_at}
 use Rattle.pathspec_heads.proofs.HeadProofs.{only-found, only-none}
-use Rattle.pathspec_heads.proofs.chains.only.Goals as goal
+use Rattle.pathspec_heads.proofs.chains.only_head.Goals as goal
 
 pub returns-then-comparison-text_len-clause-found : goal.returns-then-comparison-text_len-clause-found
 returns-then-comparison-text_len-clause-found c =
