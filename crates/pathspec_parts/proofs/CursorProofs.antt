@@ -5,8 +5,8 @@ use Rattle.std.proofs.lemmas.List.{get_or_default, length_push}
 use Rattle.std.proofs.lemmas.List.Sums.{sum_by-append}
 use Rattle.std.proofs.lemmas.List.Kept.{AllPairs-from_increasing}
 use Rattle.std.proofs.lemmas.List.Elements.{Contains-append_left, Contains-push, Contains-push_cases, Contains-get_or}
-use Rattle.std.proofs.lemmas.Option.{slice_get_within, same_Some, get_or_from_slice_get, slice_get-get_or, none-some}
-use Rattle.std.specs.Prelude.{◌⊎◌, ◌↔◌, slice_get, Contains}
+use Rattle.std.proofs.lemmas.Option.{slice_get_cases, slice_get_within, same_Some, get_or_from_slice_get, slice_get-get_or, none-some}
+use Rattle.std.specs.Prelude.{◌⊎◌, ◌↔◌, slice_get, option_map, unwrap_or, Contains}
 use Rattle.std.specs.List.Sorted.{IsStrictlyIncreasing}
 use Rattle.pathspec_glob.specs.Bytes.{is_one_of}
 use Rattle.pathspec_parts.specs.Paths.{IsBelow}
@@ -15,16 +15,15 @@ use Rattle.pathspec_parts.specs.Trees.{IsNested, HasBytePaths}
 use Rattle.pathspec_parts.proofs.EntryProofs.{Contains-here, Contains-later}
 use Rattle.pathspec_parts.proofs.SeenProofs.{one_of-from, from-one_of, seen_from, from_seen, next_seen-is, none-next_seen, rising-push}
 use Rattle.pathspec_parts.proofs.TreeProofs.{entries_run}
-use Rattle.pathspec_parts.specs.Cursors.{CursorContents, IsNew, number_after_place, next_seen, append_if, append_once, directory_count, IsDirectoryIn, IsEndOf, IsNearPath, HoldsPaths, IsCursor}
+use Rattle.pathspec_parts.specs.Cursors.{CursorContents, IsNew, number_after_place, next_seen, append_if, append_once, directory_count, path_at, cursor_at, IsDirectoryIn, IsEndOf, IsNearPath, IsCursor}
 
 -- ---- the start
 
-pub starts : (es : List Entry) (room entered_room : ℕ) → IsNested es → HasBytePaths es → HoldsPaths es room → directory_count es ≤ entered_room → IsCursor es None 0 [] [] true room entered_room
-starts es room entered_room nest bytes paths long = record {
+pub starts : (es : List Entry) (entered_room : ℕ) → IsNested es → HasBytePaths es → directory_count es ≤ entered_room → IsCursor es None 0 [] true entered_room
+starts es entered_room nest bytes long = record {
   nested = nest;
   bytes = bytes;
   here = λ n e. cc;
-  nowhere = λ e. refl;
   fresh = λ e. (refl, refl);
   onward = omega arith;
   unseen = λ j f a b s. absurd (omega (arith, b));
@@ -33,45 +32,60 @@ starts es room entered_room nest bytes paths long = record {
   rising = λ k l. absurd (omega (arith, l));
   directories = λ m c. absurd (omega (arith, c.1));
   entered_before = λ m c. absurd (omega (arith, c.1));
-  holds_paths = paths;
   holds_entered = long;
 }
 
 -- ---- where it stands
 
-module _ (es : List Entry) (at : Option ℕ) (next : ℕ) (path entered : List ℕ) (is_new : Bool) (room entered_room : ℕ) (h : IsCursor es at next path entered is_new room entered_room) where
+-- an entry stands where the number is below the count
+pub entry_there : (es : List Entry) (n : ℕ) → n < length es → (e : Entry) × (slice_get es n ≡ Some e)
+entry_there es n l = elim (slice_get_cases es n).1 [
+  | inl q ↦ (q.0, q.2)
+  | inr q ↦ absurd (omega (arith, q.0, l))
+]
+
+-- the path of the entry to which it goes
+pub path_after : (c : CursorContents) (n : ℕ) (e : Entry) → slice_get c.entries n ≡ Some e → path_at (cursor_at c (Some n)) ≡ e.path
+path_after c n e s = ap (λ (o : Option Entry). unwrap_or (option_map (λ x. x.path) o) []) s
+
+-- the path of the entry there
+pub path_there : (es : List Entry) (at : Option ℕ) (n : ℕ) (e : Entry) (entered : List ℕ) (is_new : Bool) → at ≡ Some n → slice_get es n ≡ Some e → path_at (record { entries = es; at = at; entered = entered; is_new = is_new }) ≡ e.path
+path_there es at n e entered is_new a s =
+    ap (λ (o : Option ℕ). path_at (record { entries = es; at = o; entered = entered; is_new = is_new })) a ∙ ap (λ (o : Option Entry). unwrap_or (option_map (λ x. x.path) o) []) s
+
+module _ (es : List Entry) (at : Option ℕ) (next : ℕ) (entered : List ℕ) (is_new : Bool) (entered_room : ℕ) (h : IsCursor es at next entered is_new entered_room) where
   after_le : number_after_place es at is_new ≤ length es
   after_le = go at is_new h.here
     where
-      go : (o : Option ℕ) (b : Bool) → ((n : ℕ) → o ≡ Some n → (e : Entry) × (slice_get es n ≡ Some e) × (is_seen entered e ≡ true) × (path ≡ e.path)) → number_after_place es o b ≤ length es
+      go : (o : Option ℕ) (b : Bool) → ((n : ℕ) → o ≡ Some n → (e : Entry) × (slice_get es n ≡ Some e) × (is_seen entered e ≡ true)) → number_after_place es o b ≤ length es
       go (Some n) b f = let r = f n refl in let w = slice_get_within es n r.0 r.1 in omega (arith, w)
       go None true f = omega arith
       go None false f = omega arith
 
-  -- the path is near the next entry
-  pub is_near : IsNearPath es next path
+  -- the path of the entry is near the next one
+  pub is_near : IsNearPath es next (path_at (record { entries = es; at = at; entered = entered; is_new = is_new }))
   is_near e d m s c t =
       let r = h.near e m s c in
       let q = h.here r.0 r.2 in
       let same : q.0 ≡ r.1 = same_Some q.0 r.1 (sym q.1 ∙ r.3) in
+      let path_is = path_there es at r.0 q.0 entered is_new r.2 q.1 in
       elim r.4 [
         | inl k ↦
             let d_is : r.1 ≡ d = same_Some r.1 d (sym r.3 ∙ (ap (slice_get es) (sym k) ∙ t)) in
-            inl (q.3 ∙ ap (λ (x : Entry). x.path) (same ∙ d_is))
+            inl (path_is ∙ ap (λ (x : Entry). x.path) (same ∙ d_is))
         | inr k ↦
             let a = h.nested.above r.0 m r.1 r.3 k in
             let d_is : a.directory ≡ d = same_Some a.directory d (sym a.stands ∙ t) in
-            inr (subst (λ (x : List ℕ). IsBelow x d.path) (sym (q.3 ∙ ap (λ (x : Entry). x.path) same)) (subst (λ (x : Entry). IsBelow r.1.path x.path) d_is a.below))
+            inr (subst (λ (x : List ℕ). IsBelow x d.path) (sym (path_is ∙ ap (λ (x : Entry). x.path) same)) (subst (λ (x : Entry). IsBelow r.1.path x.path) d_is a.below))
       ]
 
   -- the end
 
-  pub ends : length es ≤ next → (more_room : ℕ) → room ≤ more_room → IsCursor es None next [] entered false more_room entered_room
-  ends le more_room wide = record {
+  pub ends : length es ≤ next → IsCursor es None next entered false entered_room
+  ends le = record {
     nested = h.nested;
     bytes = h.bytes;
     here = λ n e. cc;
-    nowhere = λ e. refl;
     fresh = λ e. cc;
     onward = le;
     unseen = λ j f a b s. let w = slice_get_within es j f s in absurd (omega (arith, w, a));
@@ -80,7 +94,6 @@ module _ (es : List Entry) (at : Option ℕ) (next : ℕ) (path entered : List �
     rising = h.rising;
     directories = h.directories;
     entered_before = λ m c. let b = h.entered_before m c in omega (arith, b, after_le);
-    holds_paths = λ i e s. let p = h.holds_paths i e s in omega (arith, p, wide);
     holds_entered = h.holds_entered;
   }
 
@@ -106,12 +119,11 @@ module _ (es : List Entry) (at : Option ℕ) (next : ℕ) (path entered : List �
         ]
       ]
 
-  pub goes : (e : Entry) → slice_get es next ≡ Some e → (more_path : List ℕ) → more_path ≡ e.path → (end : ℕ) → IsEndOf es next end → (more_room : ℕ) → room ≤ more_room → IsCursor es (Some next) end more_path entered false more_room entered_room
-  goes e s more_path p end is more_room wide = record {
+  pub goes : (e : Entry) → slice_get es next ≡ Some e → (end : ℕ) → IsEndOf es next end → IsCursor es (Some next) end entered false entered_room
+  goes e s end is = record {
     nested = h.nested;
     bytes = h.bytes;
-    here = λ n q. let k : next ≡ n = same_Some next n q in (e, ap (slice_get es) (sym k) ∙ s, h.seen e s, p);
-    nowhere = λ q. cc;
+    here = λ n q. let k : next ≡ n = same_Some next n q in (e, ap (slice_get es) (sym k) ∙ s, h.seen e s);
     fresh = λ q. cc;
     onward = let first = is.0 in omega (arith, first);
     unseen = λ j f a b t. false_from_ne_true (is_seen entered f) (λ v. not_entered (from_seen entered f next v ((is.1 j f (omega (arith, a)) t).1 b)));
@@ -120,7 +132,6 @@ module _ (es : List Entry) (at : Option ℕ) (next : ℕ) (path entered : List �
     rising = h.rising;
     directories = h.directories;
     entered_before = λ m c. let b = h.entered_before m c in omega (arith, b, h.onward);
-    holds_paths = λ i f t. let q = h.holds_paths i f t in omega (arith, q, wide);
     holds_entered = h.holds_entered;
   }
 
@@ -159,16 +170,15 @@ append_once-rising entered n r below = elim (cases_Bool (is_one_of entered n)) [
   ]))
 ]
 
-pub enters : (es : List Entry) (n next : ℕ) (path entered : List ℕ) (is_new : Bool) (room entered_room : ℕ) → IsCursor es (Some n) next path entered is_new room entered_room → IsDirectoryIn es n → (more_room : ℕ) → entered_room ≤ more_room
-    → IsCursor es (Some n) (n + 1) path (append_once entered (Some n)) is_new room more_room
-enters es n next path entered is_new room entered_room h dir more_room wide =
+pub enters : (es : List Entry) (n next : ℕ) (entered : List ℕ) (is_new : Bool) (entered_room : ℕ) → IsCursor es (Some n) next entered is_new entered_room → IsDirectoryIn es n → (more_room : ℕ) → entered_room ≤ more_room
+    → IsCursor es (Some n) (n + 1) (append_once entered (Some n)) is_new more_room
+enters es n next entered is_new entered_room h dir more_room wide =
     let q = h.here n refl in
     let e = q.0 in
     record {
       nested = h.nested;
       bytes = h.bytes;
-      here = λ k r. let same : n ≡ k = same_Some n k r in (e, ap (slice_get es) (sym same) ∙ q.1, seen_from (append_once entered (Some n)) e (λ m c. append_once-keeps entered n m (from_seen entered e m q.2 c)), q.3);
-      nowhere = λ r. cc;
+      here = λ k r. let same : n ≡ k = same_Some n k r in (e, ap (slice_get es) (sym same) ∙ q.1, seen_from (append_once entered (Some n)) e (λ m c. append_once-keeps entered n m (from_seen entered e m q.2 c)));
       fresh = λ r. let f = (h.fresh r).0 in cc;
       onward = omega arith;
       unseen = λ j f a b s. absurd (omega (arith, a, b));
@@ -195,7 +205,6 @@ enters es n next path entered is_new room entered_room h dir more_room wide =
         | inl d ↦ h.entered_before m d
         | inr d ↦ omega (arith, d)
       ];
-      holds_paths = h.holds_paths;
       holds_entered = let l = h.holds_entered in omega (arith, l, wide);
     }
 
@@ -244,17 +253,17 @@ rising_count n (e ∷ es) (x ∷ xs) r d = elim (cases_lt n x) [
     below m (suc k, l, p) lt = let up = rising_head x xs r m (k, omega (arith, l), p) in omega (arith, up, lt)
 
 -- what was entered stands at the place or before it
-pub entered_below : (es : List Entry) (at : Option ℕ) (n next : ℕ) (path entered : List ℕ) (is_new : Bool) (room entered_room : ℕ) → IsCursor es at next path entered is_new room entered_room → at ≡ Some n → (m : ℕ) → Contains entered m → m < n + 1
-entered_below es at n next path entered is_new room entered_room h e m c = subst (λ (o : Option ℕ). m < number_after_place es o is_new) e (h.entered_before m c)
+pub entered_below : (es : List Entry) (at : Option ℕ) (n next : ℕ) (entered : List ℕ) (is_new : Bool) (entered_room : ℕ) → IsCursor es at next entered is_new entered_room → at ≡ Some n → (m : ℕ) → Contains entered m → m < n + 1
+entered_below es at n next entered is_new entered_room h e m c = subst (λ (o : Option ℕ). m < number_after_place es o is_new) e (h.entered_before m c)
 
 -- a directory that has not been entered finds room
-pub room_for : (es : List Entry) (at : Option ℕ) (n next : ℕ) (path entered : List ℕ) (is_new : Bool) (room entered_room : ℕ) → IsCursor es at next path entered is_new room entered_room → at ≡ Some n → IsDirectoryIn es n
+pub room_for : (es : List Entry) (at : Option ℕ) (n next : ℕ) (entered : List ℕ) (is_new : Bool) (entered_room : ℕ) → IsCursor es at next entered is_new entered_room → at ≡ Some n → IsDirectoryIn es n
     → is_one_of entered n ≡ false → length entered < entered_room
-room_for es at n next path entered is_new room entered_room h e dir f =
+room_for es at n next entered is_new entered_room h e dir f =
     let below : (m : ℕ) → Contains entered m → m < n = λ m c. elim (cases_lt m n) [
       | inl lt ↦ lt
       | inr ge ↦
-          let b = entered_below es at n next path entered is_new room entered_room h e m c in
+          let b = entered_below es at n next entered is_new entered_room h e m c in
           let same : m ≡ n = omega (arith, b, ge) in
           absurd (both_ways (is_one_of entered n) f (one_of-from entered n (subst (Contains entered) same c)))
     ] in
@@ -300,22 +309,17 @@ none_tells (x ∷ xs) n s =
 
 -- ---- the same, by other names
 
-pub enters_as : (es : List Entry) (at : Option ℕ) (n next : ℕ) (path entered : List ℕ) (is_new : Bool) (room entered_room : ℕ) → IsCursor es at next path entered is_new room entered_room → at ≡ Some n → IsDirectoryIn es n → (more_room : ℕ) → entered_room ≤ more_room
-    → (more : List ℕ) → more ≡ append_once entered (Some n) → IsCursor es at (n + 1) path more is_new room more_room
-enters_as es at n next path entered is_new room entered_room h e dir more_room wide more m =
-    subst (λ (o : Option ℕ). IsCursor es o (n + 1) path more is_new room more_room) (sym e)
-    (subst (λ (xs : List ℕ). IsCursor es (Some n) (n + 1) path xs is_new room more_room) (sym m)
-    (enters es n next path entered is_new room entered_room (subst (λ (o : Option ℕ). IsCursor es o next path entered is_new room entered_room) e h) dir more_room wide))
-
-pub ends_as : (es : List Entry) (at : Option ℕ) (next : ℕ) (path entered : List ℕ) (is_new : Bool) (room entered_room : ℕ) → IsCursor es at next path entered is_new room entered_room → length es ≤ next → (more_room : ℕ) → more_room ≡ room
-    → (none : List ℕ) → none ≡ [] → IsCursor es None next none entered false more_room entered_room
-ends_as es at next path entered is_new room entered_room h le more_room wide none n =
-    subst (λ (xs : List ℕ). IsCursor es None next xs entered false more_room entered_room) (sym n) (ends es at next path entered is_new room entered_room h le more_room (omega (arith, wide)))
+pub enters_as : (es : List Entry) (at : Option ℕ) (n next : ℕ) (entered : List ℕ) (is_new : Bool) (entered_room : ℕ) → IsCursor es at next entered is_new entered_room → at ≡ Some n → IsDirectoryIn es n → (more_room : ℕ) → entered_room ≤ more_room
+    → (more : List ℕ) → more ≡ append_once entered (Some n) → IsCursor es at (n + 1) more is_new more_room
+enters_as es at n next entered is_new entered_room h e dir more_room wide more m =
+    subst (λ (o : Option ℕ). IsCursor es o (n + 1) more is_new more_room) (sym e)
+    (subst (λ (xs : List ℕ). IsCursor es (Some n) (n + 1) xs is_new more_room) (sym m)
+    (enters es n next entered is_new entered_room (subst (λ (o : Option ℕ). IsCursor es o next entered is_new entered_room) e h) dir more_room wide))
 
 -- a cursor that is new is a new one
-pub new_is : (es : List Entry) (at : Option ℕ) (next : ℕ) (path entered : List ℕ) (is_new : Bool) (room entered_room : ℕ) → IsCursor es at next path entered is_new room entered_room
+pub new_is : (es : List Entry) (at : Option ℕ) (next : ℕ) (entered : List ℕ) (is_new : Bool) (entered_room : ℕ) → IsCursor es at next entered is_new entered_room
     → (is_new ≡ true) ↔ IsNew (record { entries = es; at = at; entered = entered; is_new = is_new })
-new_is es at next path entered is_new room entered_room h = (
+new_is es at next entered is_new entered_room h = (
   λ t. let f = h.fresh t in ap (λ a. record { entries = es; at = a; entered = entered; is_new = is_new }) f.0 ∙ (ap (λ x. record { entries = es; at = None; entered = x; is_new = is_new }) f.1 ∙ ap (λ b. record { entries = es; at = None; entered = []; is_new = b }) t),
   λ e. ap (λ (s : CursorContents). s.is_new) e,
 )

@@ -93,11 +93,10 @@ IsDirectoryIn es m = (e : Entry) × (slice_get es m ≡ Some e) × IsTrue e.is_d
 -- ---- the fields of a cursor
 
 -- what a cursor knows of its place, and of the next one
-pub record IsCursor (es : List Entry) (at : Option ℕ) (next : ℕ) (path entered : List ℕ) (is_new : Bool) (path_room entered_room : ℕ) : Type 0 where
+pub record IsCursor (es : List Entry) (at : Option ℕ) (next : ℕ) (entered : List ℕ) (is_new : Bool) (entered_room : ℕ) : Type 0 where
   pub nested : IsNested es
   pub bytes : HasBytePaths es
-  pub here : (n : ℕ) → at ≡ Some n → (e : Entry) × (slice_get es n ≡ Some e) × (is_seen entered e ≡ true) × (path ≡ e.path)
-  pub nowhere : at ≡ None → path ≡ []
+  pub here : (n : ℕ) → at ≡ Some n → (e : Entry) × (slice_get es n ≡ Some e) × (is_seen entered e ≡ true)
   pub fresh : is_new ≡ true → (at ≡ None) × (entered ≡ [])
   pub onward : number_after_place es at is_new ≤ next
   pub unseen : (j : ℕ) (f : Entry) → number_after_place es at is_new ≤ j → j < next → slice_get es j ≡ Some f → is_seen entered f ≡ false
@@ -106,5 +105,8 @@ pub record IsCursor (es : List Entry) (at : Option ℕ) (next : ℕ) (path enter
   pub rising : IsStrictlyIncreasing entered
   pub entered_before : (m : ℕ) → Contains entered m → m < number_after_place es at is_new
   pub directories : (m : ℕ) → Contains entered m → IsDirectoryIn es m
-  pub holds_paths : HoldsPaths es path_room
   pub holds_entered : directory_count es ≤ entered_room
+
+-- The bytes are the path of the entry at which the cursor stands, and there is room for every path.
+abbrev pub KeepsPath : CursorContents → List ℕ → ℕ → Type 0
+KeepsPath c path room = (path ≡ path_at c) × HoldsPaths c.entries room

@@ -3,18 +3,20 @@ ghost use Rattle.std.specs.Prelude.{◌≡◌, ◌≤◌, ◌<◌, ◌+◌, ◌-
 ghost use Rattle.pathspec_parts.specs.Bytes.{slash};
 ghost use Rattle.pathspec_parts.specs.Entries.{Entry, own_call};
 ghost use Rattle.pathspec_parts.specs.Entries.Call.{Open, File, Close};
-ghost use Rattle.pathspec_parts.specs.Trees.{empty_tree, tree_after, IsNested, HasBytePaths};
-ghost use Rattle.pathspec_parts.specs.Cursors.{IsEndOf, IsNearPath, IsPathOf, HoldsPaths, directory_count};
+ghost use Rattle.pathspec_parts.specs.Trees.{empty_tree, tree_after};
+ghost use Rattle.pathspec_parts.specs.Cursors.{IsNearPath, IsPathOf, HoldsPaths};
 ghost use Rattle.pathspec_parts.specs.TreeAnswers.{AnswersName, AnswersClose};
 ghost use Rattle.pathspec_parts.specs.TreeLayout.{name_start_at, name_end_at, name_at, open_end, path_above};
 
 mod cursor;
+mod steps;
 mod walk;
 
 pub use cursor::Cursor;
 use std::alloc::{AllocError, Global};
 use std::fmt;
 use std::marker::Model;
+pub use steps::{Entries, EntryPaths, Steps};
 use thiserror::Error;
 pub use walk::Walk;
 
@@ -153,37 +155,11 @@ impl Tree {
         Ok(())
     }
 
-    /// The number of the first entry after this one that doesn't lie in it.
-    fn end_of(&self, place: usize) -> usize
-        requires { place < length self.now.entries }
-        ensures { IsEndOf self.now.entries place result }
-    {
-        let end = self.nodes[place].end;
-        if end == 0 { place + 1 } else { end }
-    }
-
-    /// Whether an entry is a directory.
-    fn is_dir(&self, place: usize) -> bool
-        requires { place < length self.now.entries }
-        ensures { (e : Entry) → slice_get self.now.entries place ≡ Some e → result ≡ e.is_dir }
-    {
-        self.nodes[place].end != 0
-    }
-
     /// How many bytes the longest path has.
     fn longest(&self) -> usize
-        ensures longest { HoldsPaths self.now.entries result }
-        ensures nested { IsNested self.now.entries }
-        ensures bytes { HasBytePaths self.now.entries }
+        ensures { HoldsPaths self.now.entries result }
     {
         self.longest
-    }
-
-    /// How many directories there are.
-    fn directories(&self) -> usize
-        ensures { result ≡ directory_count self.now.entries }
-    {
-        self.directories
     }
 
     /// Makes the path of an entry of a path at or below each directory that it lies in. It takes no memory.
@@ -257,6 +233,27 @@ impl Tree {
         ensures { (e : Entry) → slice_get self.now.entries place ≡ Some e → result ≡ length e.path }
     {
         self.nodes[place].above + name(&self.names, &self.nodes, place).len()
+    }
+}
+
+impl Entries for Tree {
+    ghost list = { λ t. t.entries };
+
+    fn len(&self) -> usize {
+        self.nodes.len()
+    }
+
+    fn directories(&self) -> usize {
+        self.directories
+    }
+
+    fn is_dir(&self, number: usize) -> bool {
+        self.nodes[number].end != 0
+    }
+
+    fn end_of(&self, number: usize) -> usize {
+        let end = self.nodes[number].end;
+        if end == 0 { number + 1 } else { end }
     }
 }
 

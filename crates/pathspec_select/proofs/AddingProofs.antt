@@ -1,33 +1,26 @@
 -- The entries that a record adds to a tree, by one name after the other.
-use Rattle.std.proofs.Common.{◌≡◌, ℕ, ◌+◌, ◌-◌, suc, Bool, true, false, not, ◌||◌, cond, refl, sym, ◌∙◌, ap, subst, inl, inr, List, [], ◌∷◌, ◌++◌, length, take, drop, map, fold, replicate, ◌==◌, arith, append_assoc, Result, Ok, Err}
-use Rattle.std.proofs.lemmas.Bool.{cases_Bool, eqb-true, or_right}
+use Rattle.std.proofs.Common.{◌≡◌, ℕ, ◌+◌, ◌-◌, suc, Bool, true, false, not, ◌||◌, cond, refl, sym, ◌∙◌, ap, subst, inl, inr, List, [], ◌∷◌, ◌++◌, length, drop, map, fold, replicate, ◌==◌, arith, append_assoc, Option, None, Result, Ok, Err}
+use Rattle.std.proofs.lemmas.Bool.{cases_Bool, both_ways, eqb-true, eq-eqb, or_right}
 use Rattle.std.proofs.lemmas.List.{take-append-drop, drop_all}
 use Rattle.std.proofs.lemmas.List.Folds.{list_any-append}
 use Rattle.std.proofs.lemmas.Slice.Eq.{bytes_eq-Decides}
-use Rattle.std.specs.Prelude.{◌≢◌, bytes_eq, OnOk, OnErr}
+use Rattle.std.specs.Prelude.{◌≢◌, bytes_eq}
 use Rattle.std.specs.List.{before_first, after_first}
-use Rattle.pathspec_parts.specs.declared.tree.TreeError.{TreeError}
-use Rattle.pathspec_parts.specs.declared.tree.TreeError.TheVariants.{EmptyName, NotOpen, Memory}
+use Rattle.pathspec_select.specs.declared.listing.entries.RecordError.{RecordError}
+use Rattle.pathspec_select.specs.declared.listing.entries.RecordError.TheVariants.{EmptyName, Memory}
 use Rattle.pathspec_parts.specs.Bytes.{slash, is_empty}
-use Rattle.pathspec_parts.specs.Entries.{OpenDirectory}
 use Rattle.pathspec_parts.specs.Entries.Call.{Open, Close}
 use Rattle.pathspec_parts.specs.Trees.{TreeContents, tree_after}
-use Rattle.pathspec_parts.specs.TreeAnswers.{AnswersName, AnswersClose}
 use Rattle.pathspec_select.specs.Listing.{record_names, parent_names, own_names, shared_depth, implied_names, directory_calls}
 use Rattle.pathspec_select.specs.ListingAnswers.{directory_names, has_empty_name, AnswersNames, RefusesNames}
 use Rattle.pathspec_select.proofs.ListingProofs.{records-first}
 use Rattle.pathspec_select.proofs.SharedProofs.{unshared}
 
--- ---- closing
+is_empty-some : (name : List ℕ) → name ≢ [] → is_empty name ≡ false
+is_empty-some [] h = absurd (h refl)
+is_empty-some (b ∷ bs) h = refl
 
--- a close is the call, even where nothing is open
-pub closed_anyway : (t u : TreeContents) (r : Result (Unit {0}) TreeError) → OnOk r (u ≡ tree_after t Close) → OnErr r (u ≡ t) → AnswersClose t.open_directories r → u ≡ tree_after t Close
-closed_anyway t u (Ok done) ok err h = ok
-closed_anyway t u (Err NotOpen) ok err h =
-    let none : t.open_directories ≡ take (length t.open_directories - 1) t.open_directories = subst (λ (ds : List OpenDirectory). ds ≡ take (length ds - 1) ds) (sym h) refl in
-    err ∙ ap (λ (ds : List OpenDirectory). let g : TreeContents = record { entries = t.entries; open_directories = ds } in g) none
-closed_anyway t u (Err EmptyName) ok err h = absurd h
-closed_anyway t u (Err Memory) ok err h = absurd h
+-- ---- closing
 
 pub close_one : (t t0 u : TreeContents) (path rest first after : List ℕ) → (length rest == 0) ≡ false → first ≡ before_first (λ b. b == slash) rest → after ≡ after_first (λ b. b == slash) rest → u ≡ tree_after t Close
     → fold tree_after t (replicate (length (directory_names rest)) Close) ≡ fold tree_after t0 (replicate (length (directory_names path)) Close)
@@ -36,38 +29,29 @@ close_one t t0 u path rest first after some f a e h =
     let names = records-first slash rest first after some f a in
     ap (λ (x : TreeContents). fold tree_after x (replicate (length (directory_names after)) Close)) e ∙ (sym (ap (λ (ns : List (List ℕ)). fold tree_after t (replicate (length ns) Close)) names) ∙ h)
 
--- ---- opening
+-- a name by the test whether it has bytes
+pub some_name : (name : List ℕ) → (length name == 0) ≡ false → name ≢ []
+some_name name f e = let t : length name ≡ 0 = ap length e in both_ways (length name == 0) f (eq-eqb (length name) 0 t)
 
-pub open_one : (t t0 u : TreeContents) (path rest first after : List ℕ) → (length rest == 0) ≡ false → first ≡ before_first (λ b. b == slash) rest → after ≡ after_first (λ b. b == slash) rest → u ≡ tree_after t (Open first)
-    → fold tree_after t (map Open (directory_names rest)) ≡ fold tree_after t0 (map Open (directory_names path))
-    → fold tree_after u (map Open (directory_names after)) ≡ fold tree_after t0 (map Open (directory_names path))
-open_one t t0 u path rest first after some f a e h =
-    let names = records-first slash rest first after some f a in
-    ap (λ (x : TreeContents). fold tree_after x (map Open (directory_names after))) e ∙ (sym (ap (λ (ns : List (List ℕ)). fold tree_after t (map Open ns)) names) ∙ h)
+pub no_name : (name : List ℕ) → (length name == 0) ≡ true → name ≡ []
+no_name [] h = refl
+no_name (b ∷ bs) h = let e : length (b ∷ bs) ≡ 0 = eqb-true (length (b ∷ bs)) 0 h in absurd (omega (arith, e))
 
-pub start_one : (starts more all : List ℕ) (none : ℕ) (rest first after : List ℕ) → (length rest == 0) ≡ false → first ≡ before_first (λ b. b == slash) rest → after ≡ after_first (λ b. b == slash) rest → more ≡ starts ++ none ∷ []
-    → starts ++ replicate (length (directory_names rest)) none ≡ all → more ++ replicate (length (directory_names after)) none ≡ all
-start_one starts more all none rest first after some f a e h =
-    let names = records-first slash rest first after some f a in
-    let k = length (directory_names after) in
-    ap (λ t. t ++ replicate k none) e ∙ (append_assoc starts (none ∷ []) (replicate k none) ∙ (sym (ap (λ (ns : List (List ℕ)). starts ++ replicate (length ns) none) names) ∙ h))
+-- ---- opening the first of some names
 
-is_empty-some : (name : List ℕ) → name ≢ [] → is_empty name ≡ false
-is_empty-some [] h = absurd (h refl)
-is_empty-some (b ∷ bs) h = refl
+module _ (names : List (List ℕ)) (name : List ℕ) (more : List (List ℕ)) (first : names ≡ name ∷ more) where
+  pub open_one : (t u all : TreeContents) → u ≡ tree_after t (Open name) → fold tree_after t (map Open names) ≡ all → fold tree_after u (map Open more) ≡ all
+  open_one t u all e h = ap (λ (x : TreeContents). fold tree_after x (map Open more)) e ∙ (sym (ap (λ (ns : List (List ℕ)). fold tree_after t (map Open ns)) first) ∙ h)
 
-pub named_one : (rest first after : List ℕ) (b : Bool) → (length rest == 0) ≡ false → first ≡ before_first (λ b. b == slash) rest → after ≡ after_first (λ b. b == slash) rest → first ≢ [] → has_empty_name (directory_names rest) ≡ b → has_empty_name (directory_names after) ≡ b
-named_one rest first after b some f a n h =
-    let names = records-first slash rest first after some f a in
-    sym (ap (λ t. t || has_empty_name (directory_names after)) (is_empty-some first n)) ∙ (sym (ap has_empty_name names) ∙ h)
+  pub mark_one : (marks new all : List (Option (List ℕ))) → new ≡ marks ++ None ∷ [] → marks ++ replicate (length names) None ≡ all → new ++ replicate (length more) None ≡ all
+  mark_one marks new all e h =
+      ap (λ t. t ++ replicate (length more) None) e ∙ (append_assoc marks (None ∷ []) (replicate (length more) None) ∙ (sym (ap (λ (ns : List (List ℕ)). marks ++ replicate (length ns) None) first) ∙ h))
 
-pub refused_one : (path rest first after : List ℕ) (e : TreeError) → (length rest == 0) ≡ false → first ≡ before_first (λ b. b == slash) rest → after ≡ after_first (λ b. b == slash) rest → has_empty_name (directory_names rest) ≡ has_empty_name (directory_names path)
-    → AnswersName first (Err e) → RefusesNames (directory_names path) e
-refused_one path rest first after EmptyName some f a h n =
-    let names = records-first slash rest first after some f a in
-    sym h ∙ (ap has_empty_name names ∙ ap (λ x. is_empty x || has_empty_name (directory_names after)) n)
-refused_one path rest first after NotOpen some f a h n = absurd n
-refused_one path rest first after Memory some f a h n = tt
+  pub named_one : (b : Bool) → name ≢ [] → has_empty_name names ≡ b → has_empty_name more ≡ b
+  named_one b n h = sym (ap (λ t. t || has_empty_name more) (is_empty-some name n)) ∙ (sym (ap has_empty_name first) ∙ h)
+
+  pub refused_one : (b : Bool) → name ≡ [] → has_empty_name names ≡ b → b ≡ true
+  refused_one b n h = sym h ∙ (ap has_empty_name first ∙ ap (λ x. is_empty x || has_empty_name more) n)
 
 -- ---- names that are shared
 
@@ -89,19 +73,15 @@ shared_one left missing name left_after wanted_name missing_after all some more 
     let ys = directory_names missing_after in
     sym (ap (λ (ns : List (List ℕ)). unshared ns (directory_names missing)) names ∙ (ap (unshared (name ∷ xs)) wanted ∙ ap (λ t. cond t (unshared xs ys) (name ∷ xs, wanted_name ∷ ys)) (true_from_not (bytes_eq name wanted_name) same))) ∙ h
 
-none_left : (text : List ℕ) → (length text == 0) ≡ true → text ≡ []
-none_left [] h = refl
-none_left (b ∷ bs) h = let e : length (b ∷ bs) ≡ 0 = eqb-true (length (b ∷ bs)) 0 h in absurd (omega (arith, e))
-
 unshared-none : (names : List (List ℕ)) → unshared names [] ≡ (names, [])
 unshared-none [] = refl
 unshared-none (x ∷ xs) = refl
 
 pub unshared-no_left : (left missing : List ℕ) → (length left == 0) ≡ true → unshared (directory_names left) (directory_names missing) ≡ (directory_names left, directory_names missing)
-unshared-no_left left missing h = let P : List ℕ → Type 0 = λ t. unshared (directory_names t) (directory_names missing) ≡ (directory_names t, directory_names missing) in subst P (sym (none_left left h)) refl
+unshared-no_left left missing h = let P : List ℕ → Type 0 = λ t. unshared (directory_names t) (directory_names missing) ≡ (directory_names t, directory_names missing) in subst P (sym (no_name left h)) refl
 
 pub unshared-no_missing : (left missing : List ℕ) → (length missing == 0) ≡ true → unshared (directory_names left) (directory_names missing) ≡ (directory_names left, directory_names missing)
-unshared-no_missing left missing h = let P : List ℕ → Type 0 = λ t. unshared (directory_names left) (directory_names t) ≡ (directory_names left, directory_names t) in subst P (sym (none_left missing h)) (unshared-none (directory_names left))
+unshared-no_missing left missing h = let P : List ℕ → Type 0 = λ t. unshared (directory_names left) (directory_names t) ≡ (directory_names left, directory_names t) in subst P (sym (no_name missing h)) (unshared-none (directory_names left))
 
 pub unshared-other : (left missing name left_after wanted_name missing_after : List ℕ) → (length left == 0) ≡ false → (length missing == 0) ≡ false
     → name ≡ before_first (λ b. b == slash) left → left_after ≡ after_first (λ b. b == slash) left → wanted_name ≡ before_first (λ b. b == slash) missing → missing_after ≡ after_first (λ b. b == slash) missing
@@ -155,10 +135,9 @@ has_empty_name-implied (x ∷ xs) (y ∷ ys) h = elim (cases_Bool (bytes_eq x y)
     neither true b q = cc
 
 -- names are refused as the missing ones are
-pub answers_all : (names wanted : List (List ℕ)) (missing : List ℕ) (r : Result (Unit {0}) TreeError) → has_empty_name names ≡ false → directory_names missing ≡ implied_names names wanted → AnswersNames (directory_names missing) r → AnswersNames wanted r
+pub answers_all : (names wanted : List (List ℕ)) (missing : List ℕ) (r : Result (Unit {0}) RecordError) → has_empty_name names ≡ false → directory_names missing ≡ implied_names names wanted → AnswersNames (directory_names missing) r → AnswersNames wanted r
 answers_all names wanted missing (Ok done) n m h = sym (has_empty_name-implied names wanted n) ∙ (sym (ap has_empty_name m) ∙ h)
 answers_all names wanted missing (Err EmptyName) n m h = sym (has_empty_name-implied names wanted n) ∙ (sym (ap has_empty_name m) ∙ h)
-answers_all names wanted missing (Err NotOpen) n m h = h
 answers_all names wanted missing (Err Memory) n m h = tt
 
 -- ---- a record
@@ -168,15 +147,12 @@ has_empty_name-parts text path name p o =
     ap has_empty_name (sym (take-append-drop (length (record_names text) - 1) (record_names text)))
     ∙ (list_any-append is_empty (parent_names text) (own_names text) ∙ (ap (λ (ns : List (List ℕ)). has_empty_name ns || has_empty_name (own_names text)) (sym p) ∙ ap (λ (ns : List (List ℕ)). has_empty_name (directory_names path) || has_empty_name ns) o))
 
-pub refused_parents : (text path name : List ℕ) (e : TreeError) → directory_names path ≡ parent_names text → own_names text ≡ name ∷ [] → RefusesNames (directory_names path) e → RefusesNames (record_names text) e
+pub refused_parents : (text path name : List ℕ) (e : RecordError) → directory_names path ≡ parent_names text → own_names text ≡ name ∷ [] → RefusesNames (directory_names path) e → RefusesNames (record_names text) e
 refused_parents text path name EmptyName p o h = has_empty_name-parts text path name p o ∙ ap (λ b. b || (is_empty name || false)) h
-refused_parents text path name NotOpen p o h = h
 refused_parents text path name Memory p o h = tt
 
-pub refused_own : (text path name : List ℕ) (e : TreeError) → directory_names path ≡ parent_names text → own_names text ≡ name ∷ [] → AnswersName name (Err e) → RefusesNames (record_names text) e
-refused_own text path name EmptyName p o h = has_empty_name-parts text path name p o ∙ (ap (λ n. has_empty_name (directory_names path) || (is_empty n || false)) h ∙ or_right (has_empty_name (directory_names path)) true refl)
-refused_own text path name NotOpen p o h = absurd h
-refused_own text path name Memory p o h = tt
+pub refused_own : (text path name : List ℕ) → directory_names path ≡ parent_names text → own_names text ≡ name ∷ [] → name ≡ [] → has_empty_name (record_names text) ≡ true
+refused_own text path name p o h = has_empty_name-parts text path name p o ∙ (ap (λ n. has_empty_name (directory_names path) || (is_empty n || false)) h ∙ or_right (has_empty_name (directory_names path)) true refl)
 
 pub good_names : (text path name : List ℕ) → directory_names path ≡ parent_names text → own_names text ≡ name ∷ [] → has_empty_name (directory_names path) ≡ false → name ≢ [] → has_empty_name (record_names text) ≡ false
 good_names text path name p o h n = has_empty_name-parts text path name p o ∙ (ap (λ b. b || (is_empty name || false)) h ∙ ap (λ b. b || false) (is_empty-some name n))

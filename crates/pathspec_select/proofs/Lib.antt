@@ -20,6 +20,11 @@ pub mod SelectProofs
 pub mod RecordProofs
 pub mod NameProofs
 pub mod SharedProofs
+pub mod SpanProofs
+pub mod SpanGrowProofs
+pub mod SpanCloseProofs
+pub mod OutlineProofs
+pub mod OpenProofs
 pub mod AddingProofs
 pub mod ReadProofs
 mod ListingRows

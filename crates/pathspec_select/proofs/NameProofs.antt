@@ -13,7 +13,7 @@ use Rattle.bstr.specs.Find.{IsLastByte, is_byte}
 use Rattle.pathspec_parts.specs.Bytes.{slash, is_empty, first_is, begins_with}
 use Rattle.pathspec_parts.specs.Paths.{is_slash, pieces, ends_with_slash, without_last_slash}
 use Rattle.pathspec_select.specs.Listing.{without_empty_end, record_path, record_names, parent_names, own_names, is_bad, holds_two_slashes}
-use Rattle.pathspec_select.specs.ListingAnswers.{directory_names, has_empty_name, HasCommonFront, IsAfterName, SharesNames}
+use Rattle.pathspec_select.specs.ListingAnswers.{directory_names, has_empty_name, HasCommonFront, IsAfterName, SharesNames, IsClosed}
 use Rattle.pathspec_select.proofs.ListingProofs.{others, split-first}
 use Rattle.pathspec_select.proofs.RecordProofs.{last_cases}
 
@@ -43,23 +43,27 @@ without_empty_end-append [] x more = refl
 without_empty_end-append (y ∷ []) x more = refl
 without_empty_end-append (y ∷ z ∷ parts) x more = ap (λ t. y ∷ t) (without_empty_end-append (z ∷ parts) x more)
 
--- a path that is empty, or has a slash at its end
-pub data IsClosed : List ℕ → Type 0 where
-  empty : IsClosed []
-  after_slash : (front : List ℕ) → IsClosed (front ++ slash ∷ [])
+-- a path that is empty, or has a slash at its end, by its parts
+pub data ClosedForm : List ℕ → Type 0 where
+  empty : ClosedForm []
+  after_slash : (front : List ℕ) → ClosedForm (front ++ slash ∷ [])
+
+-- the names of a path and a slash
+pub names-closed : (front : List ℕ) → directory_names (front ++ slash ∷ []) ≡ pieces front
+names-closed front = ap without_empty_end (slice_split-seam is_slash front slash [] refl) ∙ without_empty_end-push (pieces front)
 
 -- the parts of such a path and a name
-pieces-closed : (path name : List ℕ) → IsClosed path → All (λ b. is_slash b ≡ false) name → pieces (path ++ name) ≡ directory_names path ++ name ∷ []
+pub pieces-closed : (path name : List ℕ) → ClosedForm path → All (λ b. is_slash b ≡ false) name → pieces (path ++ name) ≡ directory_names path ++ name ∷ []
 pieces-closed _ name empty none = slice_split_none is_slash name none
 pieces-closed _ name (after_slash front) none =
-    let names : directory_names (front ++ slash ∷ []) ≡ pieces front = ap without_empty_end (slice_split-seam is_slash front slash [] refl) ∙ without_empty_end-push (pieces front) in
+    let names : directory_names (front ++ slash ∷ []) ≡ pieces front = names-closed front in
     ap pieces (append_assoc front (slash ∷ []) name) ∙ (slice_split-seam is_slash front slash name refl ∙ (ap (λ t. pieces front ++ t) (slice_split_none is_slash name none) ∙ ap (λ t. t ++ name ∷ []) (sym names)))
 
 -- the names of such a path and another
-directory_names-append : (path more : List ℕ) → IsClosed path → directory_names (path ++ more) ≡ directory_names path ++ directory_names more
+pub directory_names-append : (path more : List ℕ) → ClosedForm path → directory_names (path ++ more) ≡ directory_names path ++ directory_names more
 directory_names-append _ more empty = refl
 directory_names-append _ more (after_slash front) =
-    let names : directory_names (front ++ slash ∷ []) ≡ pieces front = ap without_empty_end (slice_split-seam is_slash front slash [] refl) ∙ without_empty_end-push (pieces front) in
+    let names : directory_names (front ++ slash ∷ []) ≡ pieces front = names-closed front in
     let later = split-first is_slash more in
     ap directory_names (append_assoc front (slash ∷ []) more)
     ∙ (ap without_empty_end (slice_split-seam is_slash front slash more refl ∙ ap (λ t. pieces front ++ t) later)
@@ -68,36 +72,53 @@ directory_names-append _ more (after_slash front) =
 
 -- ---- a last byte
 
-ends_with_slash-push : (front : List ℕ) (b : ℕ) → ends_with_slash (front ++ b ∷ []) ≡ is_slash b
+pub ends_with_slash-push : (front : List ℕ) (b : ℕ) → ends_with_slash (front ++ b ∷ []) ≡ is_slash b
 ends_with_slash-push front b =
     let at : length (front ++ b ∷ []) - 1 ≡ length front = omega (arith, length_push front b) in
     rw (at, drop-append_seam front (b ∷ [])) (grind (arith, nat_tests))
 
-without_last_slash-push : (front : List ℕ) (b : ℕ) → without_last_slash (front ++ b ∷ []) ≡ cond (is_slash b) front (front ++ b ∷ [])
+pub without_last_slash-push : (front : List ℕ) (b : ℕ) → without_last_slash (front ++ b ∷ []) ≡ cond (is_slash b) front (front ++ b ∷ [])
 without_last_slash-push front b =
     let at : length (front ++ b ∷ []) - 1 ≡ length front = omega (arith, length_push front b) in
     ap (λ t. cond t (take (length (front ++ b ∷ []) - 1) (front ++ b ∷ [])) (front ++ b ∷ [])) (ends_with_slash-push front b)
     ∙ ap (λ t. cond (is_slash b) t (front ++ b ∷ [])) (ap (λ n. take n (front ++ b ∷ [])) at ∙ take-append_seam front (b ∷ []))
 
+-- ---- closed paths
+
+pub from_form : (path : List ℕ) → ClosedForm path → IsClosed path
+from_form _ empty = inl refl
+from_form _ (after_slash front) = inr (ends_with_slash-push front slash)
+
+pub to_form : (path : List ℕ) → IsClosed path → ClosedForm path
+to_form path (inl e) = subst ClosedForm (sym e) empty
+to_form [] (inr t) = empty
+to_form (b ∷ bs) (inr t) =
+    let c = last_cases (b ∷ bs) (omega arith) in
+    let end : is_slash c.1 ≡ true = sym (ends_with_slash-push c.0 c.1) ∙ (ap ends_with_slash (sym c.2) ∙ t) in
+    let same : slash ≡ c.1 = sym (eqb-true c.1 slash end) in
+    subst ClosedForm (sym c.2) (subst (λ x. ClosedForm (c.0 ++ x ∷ [])) same (after_slash c.0))
+
 -- ---- a record that is cut
 
 -- its path is that of its directory and its name
 pub record NamesAre (text path name : List ℕ) : Type 0 where
+  pub closed : ClosedForm path
   pub parents : directory_names path ≡ parent_names text
   pub own : own_names text ≡ name ∷ []
 
-names_are : (text path name : List ℕ) → IsClosed path → All (λ b. is_slash b ≡ false) name → record_path text ≡ path ++ name → NamesAre text path name
+names_are : (text path name : List ℕ) → ClosedForm path → All (λ b. is_slash b ≡ false) name → record_path text ≡ path ++ name → NamesAre text path name
 names_are text path name closed none h =
     let names = record_names text in
     let e : names ≡ directory_names path ++ name ∷ [] = ap pieces h ∙ pieces-closed path name closed none in
     let k : length (directory_names path) ≡ length names - 1 = omega (arith, ap length e, length_push (directory_names path) name) in
     record {
+      closed = closed;
       parents = sym (ap (take (length names - 1)) e ∙ take_at (directory_names path) (name ∷ []) (length names - 1) k);
       own = ap (drop (length names - 1)) e ∙ drop_at (directory_names path) (name ∷ []) (length names - 1) k;
     }
 
 -- a record that is cut at its last slash before its last byte
-pub cut_names : (path middle : List ℕ) (b : ℕ) → IsClosed path → All (λ x. is_slash x ≡ false) middle → NamesAre ((path ++ middle) ++ b ∷ []) path (without_last_slash (middle ++ b ∷ []))
+pub cut_names : (path middle : List ℕ) (b : ℕ) → ClosedForm path → All (λ x. is_slash x ≡ false) middle → NamesAre ((path ++ middle) ++ b ∷ []) path (without_last_slash (middle ++ b ∷ []))
 cut_names path middle b closed none =
     let text = (path ++ middle) ++ b ∷ [] in
     let whole = without_last_slash-push (path ++ middle) b in
@@ -195,7 +216,7 @@ cut_some within b i h =
     let there : get_or (drop (i + 1) within) k 0 ≡ get_or within ((i + 1) + k) 0 = get_or-drop (i + 1) within k 0 in
     rw there (false_from_ne_true _ (h.0.after ((i + 1) + k) (omega arith) (omega (arith, low, length-drop (i + 1) within))))) in
     subst (λ t. NamesAre (t ++ b ∷ []) (take (i + 1) within) (without_last_slash (drop (i + 1) within ++ b ∷ []))) (take-append-drop (i + 1) within)
-    (cut_names (take (i + 1) within) (drop (i + 1) within) b (subst IsClosed (sym closed) (after_slash (take i within))) none)
+    (cut_names (take (i + 1) within) (drop (i + 1) within) b (subst ClosedForm (sym closed) (after_slash (take i within))) none)
 
 -- a text is what stands before its last byte, and that byte
 with_last : (text : List ℕ) → text ≢ [] → (b : ℕ) × (take (length text - 1) text ++ b ∷ [] ≡ text)
@@ -233,7 +254,7 @@ directory_names-push : (front : List ℕ) (b : ℕ) → is_slash b ≡ true → 
 directory_names-push front b t =
     let same : slash ≡ b = sym (eqb-true b slash t) in
     let path : record_path (front ++ b ∷ []) ≡ front = without_last_slash-push front b ∙ ap (λ t. cond t front (front ++ b ∷ [])) t in
-    subst (λ x. directory_names (front ++ x ∷ []) ≡ pieces front) same (ap without_empty_end (slice_split-seam is_slash front slash [] refl) ∙ without_empty_end-push (pieces front)) ∙ ap pieces (sym path)
+    subst (λ x. directory_names (front ++ x ∷ []) ≡ pieces front) same (names-closed front) ∙ ap pieces (sym path)
 
 -- It names the directories that are open after it.
 pub directory_names-record : (text : List ℕ) → ends_with_slash text ≡ true → directory_names text ≡ record_names text
@@ -249,7 +270,7 @@ directory_names-record (b ∷ bs) t =
 pub after_slash_at : (path : List ℕ) (i : ℕ) → i < length path → get_or path i 0 ≡ slash → IsAfterName path (i + 1)
 after_slash_at path i inside here =
     let closed : take (i + 1) path ≡ take i path ++ slash ∷ [] = take_more path i 0 inside ∙ ap (λ x. take i path ++ x ∷ []) here in
-    ap directory_names (sym (take-append-drop (i + 1) path)) ∙ directory_names-append (take (i + 1) path) (drop (i + 1) path) (subst IsClosed (sym closed) (after_slash (take i path)))
+    ap directory_names (sym (take-append-drop (i + 1) path)) ∙ directory_names-append (take (i + 1) path) (drop (i + 1) path) (subst ClosedForm (sym closed) (after_slash (take i path)))
 
 -- fewer bytes are the same where more are
 fewer_alike : (left right : List ℕ) (n m : ℕ) → m ≤ n → HasCommonFront left right n → HasCommonFront left right m
@@ -274,14 +295,17 @@ shares_none directory wanted = record {
   front = record { in_left = omega arith; in_right = omega arith; same = refl };
   in_directory = refl;
   in_wanted = refl;
+  closed = inl refl;
 }
 
 pub shares_up_to : (directory wanted : List ℕ) (n i : ℕ) → HasCommonFront directory wanted n → IsLastByte (is_byte slash) (take n directory) (Some i) → SharesNames directory wanted (i + 1)
 shares_up_to directory wanted n i h last =
     let less : i < n = omega (arith, last.0.high, h.in_left, length-take-le n directory h.in_left) in
     let here : get_or (take n directory) i 0 ≡ slash = eqb-true (get_or (take n directory) i 0) slash last.1 in
+    let there : get_or wanted i 0 ≡ slash = sym (get_or-take n wanted i 0 less) ∙ (ap (λ t. get_or t i 0) (sym h.same) ∙ here) in
     record {
       front = fewer_alike directory wanted n (i + 1) (omega (arith, less)) h;
       in_directory = after_slash_at directory i (omega (arith, less, h.in_left)) (sym (get_or-take n directory i 0 less) ∙ here);
-      in_wanted = after_slash_at wanted i (omega (arith, less, h.in_right)) (sym (get_or-take n wanted i 0 less) ∙ (ap (λ t. get_or t i 0) (sym h.same) ∙ here));
+      in_wanted = after_slash_at wanted i (omega (arith, less, h.in_right)) there;
+      closed = inr (ap ends_with_slash (take_more wanted i 0 (omega (arith, less, h.in_right)) ∙ ap (λ x. take i wanted ++ x ∷ []) there) ∙ ends_with_slash-push (take i wanted) slash);
     }

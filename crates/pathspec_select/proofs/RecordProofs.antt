@@ -22,7 +22,7 @@ use Rattle.pathspec_select.proofs.EnteredProofs.{given_is_one}
 -- ---- calls in a row
 
 -- of a list without its last element, and then without k more, what is left
-take-less : {X : Type 0} (k : ℕ) (xs : List X) → take (length (take (length xs - 1) xs) - k) (take (length xs - 1) xs) ≡ take (length xs - suc k) xs
+pub take-less : {X : Type 0} (k : ℕ) (xs : List X) → take (length (take (length xs - 1) xs) - k) (take (length xs - 1) xs) ≡ take (length xs - suc k) xs
 take-less k xs =
     let long : length (take (length xs - 1) xs) ≡ length xs - 1 = length-take (length xs - 1) xs ∙ omega arith in
     let same : length (take (length xs - 1) xs) - k ≡ length xs - suc k = omega (arith, long) in
@@ -72,7 +72,7 @@ names_of-directories_after true directories n name front e = map-append (λ d. d
 names_of-directories_after false directories n name front e = e
 
 -- as far as two lists are the same, they are
-take-common_prefix_len : (xs ys : List (List ℕ)) → take (common_prefix_len bytes_eq xs ys) xs ≡ take (common_prefix_len bytes_eq xs ys) ys
+pub take-common_prefix_len : (xs ys : List (List ℕ)) → take (common_prefix_len bytes_eq xs ys) xs ≡ take (common_prefix_len bytes_eq xs ys) ys
 take-common_prefix_len [] [] = refl
 take-common_prefix_len [] (y ∷ ys) = refl
 take-common_prefix_len (x ∷ xs) [] = refl

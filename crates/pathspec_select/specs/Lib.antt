@@ -28,3 +28,6 @@ pub mod Program
 pub mod Walks
 pub mod SelectAnswers
 pub mod ListingAnswers
+pub mod Spans
+pub mod SpanLayout
+pub mod Outlines

@@ -3,5 +3,7 @@
 mod contents;
 mod entries;
 mod names;
+mod outline;
 
 pub use contents::{Listing, ListingError, read};
+pub use outline::Outline;

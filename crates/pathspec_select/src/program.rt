@@ -16,7 +16,6 @@ use crate::walk::{SelectError, select};
 use crate::{Environment, Job, Refusal, devices, input, output};
 use gix_pathspec::Search;
 use pathspec_parts::attributes::LookUp;
-use pathspec_parts::tree::Cursor;
 use std::alloc::{AllocError, Global};
 use std::io::{Read, Write};
 
@@ -65,9 +64,8 @@ pub fn run<R: Read, W: Write>(
 /// `a/x`, line feed, `b` has the spec `a` and the records `a/x` and `b`. Neither part is copied.
 ///
 /// It looks at each byte of the listing a fixed number of times, and asks the search about each entry at most twice. An
-/// entry takes 24 bytes and its name in the tree, 8 for where its record begins, and 8 more where it is chosen: in all about
-/// twice the listing's bytes where paths stand in byte order, as git lists them. A directory that comes again is a further
-/// entry, so that other listings take more.
+/// entry takes 24 bytes, and 8 more where it is chosen. A directory that comes again is a further entry, so that a listing
+/// which isn't in byte order takes more.
 ///
 /// It doesn't flush the writer, as [`run`] doesn't.
 ///
@@ -128,7 +126,7 @@ fn write_chosen<W: Write, L: LookUp<Fault = AllocError>>(
         Ok(listing) => listing,
         Err(error) => return Err(refused_listing(error)),
     };
-    let mut cursor = Cursor::new(alloc, listing.tree())?;
+    let mut cursor = listing.cursor(alloc)?;
     let given = select(alloc, &mut cursor, search, look_up).map_err(refused_walk)?;
     output::write_records(alloc, writer, &listing, given.as_slice(), separator)
 }

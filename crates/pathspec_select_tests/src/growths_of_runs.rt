@@ -81,7 +81,7 @@ impl Making for ReadListing {
     }
 
     fn make(&self, alloc: Global, _: ()) -> Result<usize, ListingError> {
-        Ok(listing::read(alloc, self.0, b'\n')?.tree().len())
+        Ok(listing::read(alloc, self.0, b'\n')?.len())
     }
 
     fn is_same(&self, value: &usize, other: &usize) -> bool {

@@ -1,10 +1,8 @@
 //! A cursor over a tree, the only way to its entries.
-ghost use Rattle.std.specs.Prelude.{◌≡◌, ◌<◌, ◌≤◌, ◌+◌, ℕ, false, Some, length, IfOk, Contains, vec_capacity};
-ghost use Rattle.std.specs.List.Sorted.{IsStrictlyIncreasing};
-ghost use Rattle.pathspec_parts.specs.Bytes.{is_one_of};
-ghost use Rattle.pathspec_parts.specs.Cursors.{new_cursor, append_once};
+ghost use Rattle.std.specs.Prelude.{◌≡◌, IfOk};
+ghost use Rattle.pathspec_parts.specs.Cursors.{new_cursor};
 
-use super::{Tree, Walk};
+use super::{Steps, Tree, Walk};
 use bstr::BStr;
 use std::alloc::{AllocError, Global};
 use std::fmt;
@@ -12,46 +10,35 @@ use std::marker::Model;
 
 /// A walk over the entries of a tree, which its caller steers: it goes into those directories that are entered.
 ///
-/// It is the only way to the entries, so what it never gave was never looked at: its trail, [`Cursor::entered`], tells
+/// It is the only way to the entries, so what it never gave was never looked at: its trail, [`Walk::entered`], tells
 /// which directories were entered. It can't be copied. What is printed of it is where it stands and its trail.
 #[derive(Drop)]
 pub struct Cursor<'a> {
-    tree: &'a Tree,
-    /// The number of the entry at which it stands.
-    at: Option<usize>,
-    /// The number of the entry that comes next.
-    next: usize,
+    steps: Steps<'a, Tree>,
+    /// The path of the entry at which it stands.
     path: Vec<u8>,
-    entered: Vec<usize>,
-    is_new: bool,
 }
 
 impl fmt::Debug for Cursor<'_> {
     fn fmt<W: fmt::Write>(&self, f: &mut fmt::Formatter<W>) -> fmt::Result {
         f.debug_struct("Cursor")
-            .field("at", &self.at)
+            .field("at", &self.steps.at())
             .field("path", &BStr::new(&self.path))
-            .field("entered", &self.entered)
-            .field("is_new", &self.is_new)
+            .field("entered", &self.steps.entered())
+            .field("is_new", &self.steps.is_new())
             .finish()
     }
 }
 
 impl<'a> Model for Cursor<'a> {
     ghost use Rattle.std.specs.Prelude.{vec_capacity};
-    ghost use Rattle.pathspec_parts.specs.Cursors.{CursorContents, IsCursor};
+    ghost use Rattle.pathspec_parts.specs.Cursors.{CursorContents, KeepsPath};
 
     ghost Value = { CursorContents };
 
-    ghost view = { λ c. record {
-      entries = c.tree.now.entries;
-      at = c.at;
-      entered = c.entered.items;
-      is_new = c.is_new;
-    } };
+    ghost view = { λ c. c.steps };
 
-    ghost invariant = { λ c. IsCursor c.tree.now.entries c.at c.next c.path.items c.entered.items c.is_new
-        (vec_capacity c.path) (vec_capacity c.entered) };
+    ghost invariant = { λ c. KeepsPath c.steps c.path.items (vec_capacity c.path) };
 }
 
 impl<'a> Cursor<'a> {
@@ -64,15 +51,8 @@ impl<'a> Cursor<'a> {
         ensures { IfOk result (λ cursor. cursor ≡ new_cursor tree.now.entries) }
     {
         let path = Vec::with_capacity(alloc, tree.longest())?;
-        let entered = Vec::with_capacity(alloc, tree.directories())?;
-        Ok(Cursor {
-            tree,
-            at: None,
-            next: 0,
-            path,
-            entered,
-            is_new: true,
-        })
+        let steps = Steps::new(alloc, tree)?;
+        Ok(Cursor { steps, path })
     }
 }
 
@@ -85,17 +65,12 @@ impl<'a> Walk for Cursor<'a> {
 
     /// It looks at the bytes of the entry's name, and at no entry that it passes over.
     fn next(&mut self) -> Option<usize> {
-        let number = self.next;
-        let tree = self.tree;
-        self.is_new = false;
-        if number >= tree.len() {
-            self.at = None;
+        let tree = self.steps.entries();
+        let Some(number) = self.steps.next() else {
             self.path.clear();
             return None;
-        }
+        };
         tree.write_path(number, &mut self.path);
-        self.at = Some(number);
-        self.next = tree.end_of(number);
         Some(number)
     }
 
@@ -104,56 +79,18 @@ impl<'a> Walk for Cursor<'a> {
     }
 
     fn is_dir(&self) -> bool {
-        match self.at {
-            Some(number) => self.tree.is_dir(number),
-            None => false,
-        }
+        self.steps.is_dir()
     }
 
     fn enter(&mut self) -> bool {
-        let Some(number) = self.at else {
-            return false;
-        };
-        if !self.tree.is_dir(number) {
-            return false;
-        }
-        push_once(&mut self.entered, number);
-        self.next = number + 1;
-        true
+        self.steps.enter()
     }
 
     fn entered(&self) -> &[usize] {
-        &self.entered
+        self.steps.entered()
     }
 
     fn is_new(&self) -> bool {
-        self.is_new
-    }
-}
-
-/// Puts a number after rising ones, none of which is greater, if it isn't there. It takes no memory.
-fn push_once(numbers: &mut Vec<usize>, number: usize)
-    requires rising { IsStrictlyIncreasing numbers.old.items }
-    requires below { (m : ℕ) → Contains numbers.old.items m → m < number + 1 }
-    requires room { is_one_of numbers.old.items number ≡ false
-        → length numbers.old.items < vec_capacity numbers.old }
-    ensures items { numbers.new.items ≡ append_once numbers.old.items (Some number) }
-    ensures room { vec_capacity numbers.old ≤ vec_capacity numbers.new }
-{
-    if has_last(numbers, number) {
-        return;
-    }
-    let _ = numbers.push(number);
-}
-
-/// Whether rising numbers, none of which is greater, have this one: it is the last then.
-fn has_last(numbers: &[usize], number: usize) -> bool
-    requires rising { IsStrictlyIncreasing numbers.now }
-    requires below { (m : ℕ) → Contains numbers.now m → m < number + 1 }
-    ensures { result ≡ is_one_of numbers.now number }
-{
-    match numbers.last() {
-        Some(last) => *last == number,
-        None => false,
+        self.steps.is_new()
     }
 }

@@ -1,15 +1,17 @@
 //! A listing as a tree.
-ghost use Rattle.std.specs.Prelude.{◌≡◌, ℕ, IfOk};
+ghost use Rattle.std.specs.Prelude.{◌≡◌, ◌↔◌, ℕ, [], length, IsTrue, IfOk};
 ghost use Rattle.std.specs.Option.{option_map};
 ghost use Rattle.bstr.specs.BStr.{bstr_bytes};
+ghost use Rattle.pathspec_parts.specs.Cursors.{new_cursor};
 ghost use Rattle.pathspec_select.specs.Listing.{records, listing_of, mark_at, RecordsAreEntries};
 ghost use Rattle.pathspec_select.specs.ListingAnswers.{AnswersRecords, refusal_of};
 
-use crate::listing::entries::add_record;
+use crate::listing::entries::{RecordError, add_record};
+use crate::listing::outline::Outline;
 use bstr::BStr;
 use pathspec_parts::split;
-use pathspec_parts::tree::{Tree, TreeError};
-use std::alloc::Global;
+use pathspec_parts::tree::{Entries as _, Steps};
+use std::alloc::{AllocError, Global};
 use std::marker::Model;
 use thiserror::Error;
 
@@ -24,49 +26,58 @@ pub enum ListingError {
     Memory,
 }
 
-/// A listing that was read: its tree, and the record of each entry that has one.
+/// A listing that was read: an entry for each record, in their order, and one for each directory that is only implied.
 ///
-/// An entry takes a number for where its record begins, beside what its tree takes.
+/// It is walked where it lies: no name is copied. An entry takes three numbers: where its path begins, how long it is,
+/// and where what lies in it ends.
 #[derive(Debug, Drop)]
 pub struct Listing<'a> {
-    bytes: &'a [u8],
-    separator: u8,
-    tree: Tree,
-    /// For each entry where its record begins, or `NO_RECORD`.
-    starts: Vec<usize>,
+    outline: Outline<'a>,
 }
 
 impl<'a> Model for Listing<'a> {
-    ghost use Rattle.std.specs.Prelude.{map};
     ghost use Rattle.pathspec_select.specs.Listing.{ListingContents};
-    ghost use Rattle.pathspec_select.specs.ListingAnswers.{mark_from};
+    ghost use Rattle.pathspec_select.specs.Outlines.{listing_of_outline};
 
     ghost Value = { ListingContents };
 
-    ghost view = { λ l. record { entries = l.tree.entries; marks = map (mark_from l.separator l.bytes.now) l.starts.items } };
+    ghost view = { λ l. listing_of_outline l.outline };
 }
 
 impl<'a> Listing<'a> {
-    /// The tree: an entry for each record, in their order, and one for each directory that is only implied.
-    pub fn tree(&self) -> &Tree
-        ensures { result.now.entries ≡ self.now.entries }
+    /// How many entries it has.
+    pub fn len(&self) -> usize
+        ensures { result ≡ length self.now.entries }
     {
-        &self.tree
+        self.outline.len()
+    }
+
+    /// Whether it has none.
+    pub fn is_empty(&self) -> bool
+        ensures { IsTrue result ↔ (self.now.entries ≡ []) }
+    {
+        self.outline.len() == 0
+    }
+
+    /// A walk over the entries ([`pathspec_parts::tree::Walk`]), before the first, whose places are their numbers. It reserves a
+    /// number for each directory: no later call of the walk takes memory.
+    ///
+    /// # Errors
+    /// Memory runs out.
+    pub fn cursor(&self, alloc: Global) -> Result<Steps<'_, Outline<'_>>, AllocError>
+        ensures { IfOk result (λ cursor. cursor ≡ new_cursor self.now.entries) }
+    {
+        Steps::new(alloc, &self.outline)
     }
 
     /// The record that an entry is made from, without its separator. A directory that is only implied has none, nor
     /// has a number past the last entry.
     ///
-    /// It looks at each byte of the record.
+    /// It looks at the byte behind the entry's path.
     pub fn record(&self, entry: usize) -> Option<BStr<'_>>
         ensures { option_map bstr_bytes result ≡ mark_at self.now.marks entry }
     {
-        let start = *self.starts.get(entry)?;
-        if start >= self.bytes.len() {
-            return None;
-        }
-        let (record, _) = split::at_first(&self.bytes[start..], self.separator);
-        Some(BStr::new(record))
+        self.outline.record(entry)
     }
 }
 
@@ -86,8 +97,7 @@ pub fn read(alloc: Global, bytes: &[u8], separator: u8) -> Result<Listing<'_>, L
     // The tree has an entry for each record, and else only directories that are implied.
     ensures entries { RecordsAreEntries (records separator bytes.now) }
 {
-    let mut tree = Tree::new(alloc);
-    let mut starts = Vec::new(alloc);
+    let mut outline = Outline::new(alloc, bytes, separator);
     let mut directory: &[u8] = &[];
     let mut rest = bytes;
     let mut number = 0;
@@ -95,26 +105,21 @@ pub fn read(alloc: Global, bytes: &[u8], separator: u8) -> Result<Listing<'_>, L
         number += 1;
         let (text, after) = split::at_first(rest, separator);
         let start = bytes.len() - rest.len();
-        match add_record(&mut tree, &mut starts, directory, text, start) {
+        match add_record(&mut outline, directory, text, start) {
             Ok(open) => directory = open,
             Err(error) => return Err(refusal(error, number)),
         }
         rest = after;
     }
-    Ok(Listing {
-        bytes,
-        separator,
-        tree,
-        starts,
-    })
+    Ok(Listing { outline })
 }
 
-/// What is told of a record that a tree refuses.
-fn refusal(error: TreeError, number: usize) -> ListingError
+/// What is told of a record that is refused.
+fn refusal(error: RecordError, number: usize) -> ListingError
     ensures { result ≡ refusal_of error number }
 {
     match error {
-        TreeError::EmptyName => ListingError::BadLine(number),
-        TreeError::NotOpen | TreeError::Memory => ListingError::Memory,
+        RecordError::EmptyName => ListingError::BadLine(number),
+        RecordError::Memory => ListingError::Memory,
     }
 }

@@ -1,8 +1,8 @@
 //! The names in a record, and the directories that two paths share.
-ghost use Rattle.std.specs.Prelude.{◌≡◌, ◌≢◌, [], ◌∷◌, drop, IsTrue};
+ghost use Rattle.std.specs.Prelude.{◌≡◌, ◌≢◌, [], ◌∷◌, ◌++◌, drop, IsTrue};
 ghost use Rattle.pathspec_parts.specs.Paths.{ends_with_slash, without_last_slash};
 ghost use Rattle.pathspec_select.specs.Listing.{record_is_dir, parent_names, own_names, shared_depth, implied_names};
-ghost use Rattle.pathspec_select.specs.ListingAnswers.{directory_names, HasCommonFront, SharesNames};
+ghost use Rattle.pathspec_select.specs.ListingAnswers.{directory_names, HasCommonFront, SharesNames, IsClosed, IsRestOf};
 
 use bstr::ByteSlice;
 use pathspec_parts::split;
@@ -16,6 +16,9 @@ pub(super) fn split_name(text: &[u8]) -> (&[u8], &[u8])
     ensures parents { directory_names result.0.now ≡ parent_names text.now }
     ensures name { own_names text.now ≡ without_last_slash result.1.now ∷ [] }
     ensures kind { ends_with_slash result.1.now ≡ record_is_dir text.now }
+    ensures whole { text.now ≡ result.0.now ++ result.1.now }
+    ensures some { result.1.now ≢ [] }
+    ensures closed { IsClosed result.0.now }
 {
     let before_last = &text[..text.len() - 1];
     let length = match before_last.rfind_byte(b'/') {
@@ -29,10 +32,12 @@ pub(super) fn split_name(text: &[u8]) -> (&[u8], &[u8])
 ///
 /// It looks at each byte of those names, and of one more.
 pub(super) fn after_shared<'a>(directory: &'a [u8], wanted: &'a [u8]) -> (&'a [u8], &'a [u8])
+    requires { IsClosed wanted.now }
     ensures left { let names = directory_names directory.now in directory_names result.0.now
         ≡ drop (shared_depth names (directory_names wanted.now)) names }
     ensures missing { directory_names result.1.now
         ≡ implied_names (directory_names directory.now) (directory_names wanted.now) }
+    ensures rest { IsRestOf wanted.now result.1.now }
 {
     let shared = shared_front(directory, wanted);
     let mut left = &directory[shared..];

@@ -22,7 +22,7 @@ returns-clause-ends g c =
     let given = c.in_ok-given.given.items in
     let walked = mapped_ok Refusal c.select.result c.in_ok-given.given c.in_ok-given.ensures.cases in
     let walk = subst (λ (numbers : List ℕ). IsWalk table (specs_of ns) c.in_ok-cursor.cursor.entries numbers c.select.new.cursor.entered) (map-id given) (rw walked at c.select.ensures.walk) in
-    let es = ap (λ (l : CursorContents). l.entries) c.in_ok-cursor.ensures ∙ (c.tree.ensures ∙ ap (λ (l : ListingContents). l.entries) c.in-Ok.ensures.contents) in
+    let es = ap (λ (l : CursorContents). l.entries) c.in_ok-cursor.ensures ∙ ap (λ (l : ListingContents). l.entries) c.in-Ok.ensures.contents in
     let marks = ap (λ (l : ListingContents). l.marks) c.in-Ok.ensures.contents in
     let written = ap (written_entries separator listing.marks) c.as_slice.ensures.value ∙ output-is table ns separator bytes listing.marks _ given _ marks es walk in
     ends-output table ns separator (g.W.Write.contents c.args.writer.now) (g.W.Write.contents c.write_records.new.writer) bytes _ c.in-Ok.ensures.answers written c.write_records.result c.write_records.ensures

@@ -1,12 +1,16 @@
-use Rattle.std.proofs.Common.{◌≡◌, ℕ, cond, sym, ◌∙◌, ap, inl, inr, List}
-use Rattle.std.proofs.lemmas.Bool.{cases_Bool}
+use Rattle.std.proofs.Common.{◌≡◌, ◌≢◌, ℕ, ◌+◌, ◌≤◌, Bool, true, false, cond, refl, sym, ◌∙◌, ap, subst, List, [], ◌∷◌, ◌++◌, length, arith, append_assoc, replicate, Some, None, ◌==◌}
 use Rattle.std.proofs.lemmas.Result.{err_from_is_err_and}
 use Rattle.pathspec_parts.specs.Paths.{ends_with_slash, without_last_slash}
-use Rattle.pathspec_select.specs.Listing.{record_names, parent_names, open_after}
+use Rattle.pathspec_parts.specs.Entries.{own_call}
+use Rattle.pathspec_parts.specs.Trees.{TreeContents, tree_after}
+use Rattle.pathspec_select.specs.Listing.{record_names, parent_names, own_names, record_is_dir, implied_names}
 use Rattle.pathspec_select.specs.ListingAnswers.{directory_names}
+use Rattle.pathspec_select.specs.Outlines.{OutlineContents, part, last_name, mark_of, record_length, outline_after, LiesOpen, HasOpen, KeepsListing, IsRecordAt}
 use Rattle.pathspec_select.proofs.NameProofs.{directory_names-record}
-use Rattle.pathspec_select.proofs.AddingProofs.{refused_parents, refused_own, good_names}
+use Rattle.pathspec_select.proofs.AddingProofs.{some_name, no_name, refused_parents, refused_own, good_names}
+use Rattle.pathspec_select.proofs.OpenProofs.{part_of_record, record-kept, own_mark, path_front, record_is, last_own, lies_own, has_open-own, tree_own}
 use Rattle.pathspec_select.proofs.listing.entries.add_record.Goals as goal
+use Rattle.pathspec_select.proofs.listing.entries.add_record.Goals.{Joined-is_dir, then-is_dir, else-is_dir}
 
 pub returns-in_err-go_to-clause-answers : goal.returns-in_err-go_to-clause-answers
 returns-in_err-go_to-clause-answers c =
@@ -14,23 +18,117 @@ returns-in_err-go_to-clause-answers c =
     let n = c.split_name.ensures in
     rw (p.1, p.2) (refused_parents c.args.text.now c.split_name.result.0.now (without_last_slash c.split_name.result.1.now) _ n.parents n.name c.in_err-go_to.ensures.answers)
 
-pub returns-in_err-add_own-clause-answers : goal.returns-in_err-add_own-clause-answers
-returns-in_err-add_own-clause-answers c =
-    let p = err_from_is_err_and c.from_residual-in_err-add_own.result c.from_residual-in_err-add_own.ensures.1 in
+pub returns-then-is_empty-2-clause-answers : goal.returns-then-is_empty-2-clause-answers
+returns-then-is_empty-2-clause-answers c =
     let n = c.split_name.ensures in
-    rw (p.1, p.2) (refused_own c.args.text.now c.split_name.result.0.now (without_last_slash c.split_name.result.1.now) _ n.parents n.name c.in_err-add_own.ensures.answers)
+    let own = without_last_slash c.split_name.result.1.now in
+    refused_own c.args.text.now c.split_name.result.0.now own n.parents n.name (no_name own (ap (λ (x : List ℕ). length x == 0) (sym c.strip_last_slash-is_dir.ensures.path) ∙ (sym c.is_empty-2.ensures ∙ c.if-is_empty-2.true)))
 
--- the directory that is open after a record
-opened : (text name parents after : List ℕ) → directory_names parents ≡ parent_names text → ends_with_slash name ≡ ends_with_slash text → after ≡ cond (ends_with_slash name) text parents → directory_names after ≡ open_after text
-opened text name parents after p k e = elim (cases_Bool (ends_with_slash text)) [
-  | inl t ↦ ap directory_names (e ∙ ap (λ b. cond b text parents) (k ∙ t)) ∙ (directory_names-record text t ∙ sym (ap (λ b. cond b (record_names text) (parent_names text)) t))
-  | inr f ↦ ap directory_names (e ∙ ap (λ b. cond b text parents) (k ∙ f)) ∙ (p ∙ sym (ap (λ b. cond b (record_names text) (parent_names text)) f))
-]
+-- the path of the record, by its parts
+own_path : (o u : OutlineContents) (start : ℕ) (text parents name own : List ℕ) → KeepsListing o u → IsRecordAt o start text → text ≡ parents ++ name → name ≢ [] → ends_with_slash name ≡ record_is_dir text → own ≡ without_last_slash name
+    → part u.bytes start (length parents + length own) ≡ parents ++ without_last_slash name
+own_path o u start text parents name own k r w some kind e =
+    let rec = record_is text parents name w some kind in
+    let le : length parents + length (without_last_slash name) ≤ length text = at_most (record_is_dir text) rec in
+    ap (λ (x : List ℕ). part u.bytes start (length parents + length x)) e ∙ (part_of_record u start text (length parents + length (without_last_slash name)) (record-kept o u start text k r) le ∙ path_front text parents name w some kind)
+  where
+    at_most : (b : Bool) → length text ≡ record_length (length parents + length (without_last_slash name)) b → length parents + length (without_last_slash name) ≤ length text
+    at_most true q = omega (arith, q)
+    at_most false q = omega (arith, q)
 
-pub returns-clause-open : goal.returns-clause-open
-returns-clause-open c = opened c.args.text.now c.split_name.result.1.now c.split_name.result.0.now _ c.split_name.ensures.parents c.split_name.ensures.kind c.if_directory.ensures
+pub add-requires-clause-lies : goal.add-requires-clause-lies
+add-requires-clause-lies c =
+    let n = c.split_name.ensures in
+    let text = c.args.text.now in
+    let parents = c.split_name.result.0.now in
+    let name = c.split_name.result.1.now in
+    let o = c.go_to.new.outline in
+    let g = c.in_ok-go_to.ensures in
+    let path = own_path c.args.outline.now o c.args.start text parents name c.strip_last_slash-is_dir.result.0.now g.kept c.requires.record n.whole n.some n.kind c.strip_last_slash-is_dir.ensures.path in
+    let some = some_name (without_last_slash name) (ap (λ (x : List ℕ). length x == 0) (sym c.strip_last_slash-is_dir.ensures.path) ∙ (sym c.is_empty-2.ensures ∙ c.if-is_empty-2.false)) in
+    subst (LiesOpen o.tree) (sym path) (lies_own text parents name n.whole n.some n.kind n.parents n.name o.tree g.there some)
+
+-- the tree after the record, and its mark
+record After (o : OutlineContents) (start : ℕ) (text parents name : List ℕ) (count : ℕ) (is_dir : Bool) : Type 0 where
+  tree : (outline_after o start count is_dir).tree ≡ tree_after o.tree (own_call (record_is_dir text) (without_last_slash name))
+  mark : mark_of o.separator o.bytes start count is_dir ≡ Some text
+
+after_own : (o u : OutlineContents) (start : ℕ) (text parents name own : List ℕ) (is_dir : Bool) → KeepsListing o u → IsRecordAt o start text → text ≡ parents ++ name → name ≢ [] → ends_with_slash name ≡ record_is_dir text → directory_names parents ≡ parent_names text → own_names text ≡ without_last_slash name ∷ []
+    → own ≡ without_last_slash name → is_dir ≡ ends_with_slash name → After u start text parents name (length parents + length own) is_dir
+after_own o u start text parents name own is_dir k r w some kind above names e d =
+    let b = d ∙ kind in
+    let path = own_path o u start text parents name own k r w some kind e in
+    let last : last_name (part u.bytes start (length parents + length own)) ≡ without_last_slash name = ap last_name path ∙ last_own text parents name w some kind above names in
+    record {
+      tree = ap (λ x. tree_after u.tree (own_call is_dir x)) last ∙ ap (λ x. tree_after u.tree (own_call x (without_last_slash name))) b;
+      mark =
+          own_mark u start text (length parents + length own) is_dir (record-kept o u start text k r)
+          (record_is text parents name w some kind ∙ (ap (λ (x : List ℕ). record_length (length parents + length x) (record_is_dir text)) (sym e) ∙ ap (record_length (length parents + length own)) (sym b)));
+    }
+
+pub returns-clause-tree : goal.returns-clause-tree
+returns-clause-tree c =
+    let n = c.split_name.ensures in
+    let text = c.args.text.now in
+    let parents = c.split_name.result.0.now in
+    let name = c.split_name.result.1.now in
+    let o = c.go_to.new.outline in
+    let g = c.in_ok-go_to.ensures in
+    let s = c.strip_last_slash-is_dir in
+    let a = after_own c.args.outline.now o c.args.start text parents name s.result.0.now s.result.1 g.kept c.requires.record n.whole n.some n.kind n.parents n.name s.ensures.path s.ensures.slash in
+    ap (λ (x : OutlineContents). x.tree) c.in_ok-add.ensures.ok ∙ (a.tree ∙ tree_own text parents name n.whole n.some n.kind n.parents n.name o.tree g.there c.args.outline.now.tree (directory_names c.args.directory.now) g.tree)
+
+pub returns-clause-marks : goal.returns-clause-marks
+returns-clause-marks c =
+    let n = c.split_name.ensures in
+    let text = c.args.text.now in
+    let parents = c.split_name.result.0.now in
+    let name = c.split_name.result.1.now in
+    let o = c.go_to.new.outline in
+    let g = c.in_ok-go_to.ensures in
+    let s = c.strip_last_slash-is_dir in
+    let a = after_own c.args.outline.now o c.args.start text parents name s.result.0.now s.result.1 g.kept c.requires.record n.whole n.some n.kind n.parents n.name s.ensures.path s.ensures.slash in
+    let names = directory_names c.args.directory.now in
+    ap (λ (x : OutlineContents). x.marks) c.in_ok-add.ensures.ok
+    ∙ (ap (λ m. o.marks ++ m ∷ []) a.mark
+    ∙ (ap (λ ms. ms ++ Some text ∷ []) (g.marks ∙ ap (λ (ns : List (List ℕ)). c.args.outline.now.marks ++ replicate (length (implied_names names ns)) None) n.parents)
+    ∙ append_assoc c.args.outline.now.marks (replicate (length (implied_names names (parent_names text))) None) (Some text ∷ [])))
+
+-- the names of the directory that is open after a record
+opened : (text parents : List ℕ) → directory_names parents ≡ parent_names text → (b : Bool) → record_is_dir text ≡ b → directory_names (cond b text parents) ≡ cond b (record_names text) (parent_names text)
+opened text parents p true t = directory_names-record text t
+opened text parents p false f = p
+
+-- which of the two paths it is
+path_is : (c : Joined-is_dir) → c.if-is_dir.result.now ≡ cond (record_is_dir c.args.text.now) c.args.text.now c.split_name.result.0.now
+path_is c =
+    let text = c.args.text.now in
+    let parents = c.split_name.result.0.now in
+    let d : c.strip_last_slash-is_dir.result.1 ≡ record_is_dir text = c.strip_last_slash-is_dir.ensures.slash ∙ c.split_name.ensures.kind in
+    elim c.if-is_dir.branch [
+      | then-is_dir w ↦ ap (λ x. x.now) w.result-is ∙ sym (ap (λ b. cond b text parents) (sym d ∙ w.if-is_dir.true))
+      | else-is_dir w ↦ ap (λ x. x.now) w.result-is ∙ sym (ap (λ b. cond b text parents) (sym d ∙ w.if-is_dir.false))
+    ]
+
+pub returns-clause-there : goal.returns-clause-there
+returns-clause-there c =
+    let n = c.split_name.ensures in
+    let text = c.args.text.now in
+    let parents = c.split_name.result.0.now in
+    let name = c.split_name.result.1.now in
+    let o = c.go_to.new.outline in
+    let g = c.in_ok-go_to.ensures in
+    let s = c.strip_last_slash-is_dir in
+    let a = after_own c.args.outline.now o c.args.start text parents name s.result.0.now s.result.1 g.kept c.requires.record n.whole n.some n.kind n.parents n.name s.ensures.path s.ensures.slash in
+    subst (λ (t : TreeContents). HasOpen t c.if-is_dir.result.now) (sym (ap (λ (x : OutlineContents). x.tree) c.in_ok-add.ensures.ok ∙ a.tree))
+    (subst (HasOpen (tree_after o.tree (own_call (record_is_dir text) (without_last_slash name)))) (sym (path_is c)) (has_open-own text parents name n.whole n.some n.kind n.parents n.name o.tree g.there (record_is_dir text) refl))
+
+pub returns-clause-names : goal.returns-clause-names
+returns-clause-names c = ap directory_names (path_is c) ∙ opened c.args.text.now c.split_name.result.0.now c.split_name.ensures.parents (record_is_dir c.args.text.now) refl
 
 pub returns-clause-answers : goal.returns-clause-answers
 returns-clause-answers c =
     let n = c.split_name.ensures in
-    good_names c.args.text.now c.split_name.result.0.now (without_last_slash c.split_name.result.1.now) n.parents n.name c.in_ok-go_to.ensures.answers c.in_ok-add_own.ensures.answers
+    let own = without_last_slash c.split_name.result.1.now in
+    let some = some_name own (ap (λ (x : List ℕ). length x == 0) (sym c.strip_last_slash-is_dir.ensures.path) ∙ (sym c.is_empty-2.ensures ∙ c.if-is_empty-2.false)) in
+    good_names c.args.text.now c.split_name.result.0.now own n.parents n.name c.in_ok-go_to.ensures.answers some

@@ -1,0 +1,120 @@
+-- A tree that lies over the bytes of a listing.
+use Rattle.std.specs.Prelude.{◌≡◌, ◌≢◌, ℕ, ◌+◌, ◌≤◌, ◌<◌, Bool, slice_get, true, false, List, [], ◌∷◌, ◌++◌, length, map, take, drop, Option, Some, None, ◌==◌, if◌then◌else◌}
+use Rattle.std.specs.List.{before_first}
+use Rattle.pathspec_parts.specs.Paths.{pieces}
+use Rattle.pathspec_parts.specs.Entries.{Call, OpenDirectory, own_call, names_of}
+use Rattle.pathspec_parts.specs.Entries.Call.{Close}
+use Rattle.pathspec_parts.specs.Trees.{TreeContents, empty_tree, tree_after, tree_of_calls, IsTreeName, AreNamed}
+use Rattle.pathspec_parts.specs.TreeLayout.{path_above}
+use Rattle.pathspec_select.specs.Listing.{ListingContents}
+use Rattle.pathspec_select.specs.ListingAnswers.{directory_names, IsClosed}
+use Rattle.pathspec_select.specs.SpanLayout.{path_at_span, contents_of_spans, AreSpans}
+use Rattle.pathspec_select.specs.declared.listing.outline.Span.{Span}
+
+-- a listing, its separator, the tree of what was read of it so far, and the record of each entry that has one
+pub record OutlineContents : Type 0 where
+  pub bytes : List ℕ
+  pub separator : ℕ
+  pub tree : TreeContents
+  pub marks : List (Option (List ℕ))
+
+-- so many bytes of a listing from a place on
+abbrev pub part : List ℕ → ℕ → ℕ → List ℕ
+part bytes start count = take count (drop start bytes)
+
+-- the record that begins at a place
+abbrev pub record_from : ℕ → List ℕ → ℕ → List ℕ
+record_from separator bytes start = before_first (λ b. b == separator) (drop start bytes)
+
+-- the last of these names
+abbrev pub last_of : List (List ℕ) → List ℕ
+last_of [] = []
+last_of (x ∷ []) = x
+last_of (x ∷ y ∷ xs) = last_of (y ∷ xs)
+
+-- what a path has after its last slash
+abbrev pub last_name : List ℕ → List ℕ
+last_name path = last_of (pieces path)
+
+-- how long the record of an entry is whose path has so many bytes
+abbrev pub record_length : ℕ → Bool → ℕ
+record_length count is_dir = if is_dir then count + 1 else count
+
+-- the record of an entry whose path begins at a place and has so many bytes: the record from there, where that is so long
+abbrev pub mark_of : ℕ → List ℕ → ℕ → ℕ → Bool → Option (List ℕ)
+mark_of separator bytes start count is_dir = if length (record_from separator bytes start) == record_length count is_dir then Some (record_from separator bytes start) else None
+
+-- nothing was read
+abbrev pub empty_outline : List ℕ → ℕ → OutlineContents
+empty_outline bytes separator = record { bytes = bytes; separator = separator; tree = empty_tree; marks = [] }
+
+-- one more entry, whose path is a part of the listing
+abbrev pub outline_after : OutlineContents → ℕ → ℕ → Bool → OutlineContents
+outline_after o start count is_dir = record o { tree = tree_after o.tree (own_call is_dir (last_name (part o.bytes start count))); marks = o.marks ++ mark_of o.separator o.bytes start count is_dir ∷ [] }
+
+-- the open directory closed
+abbrev pub outline_closed : OutlineContents → OutlineContents
+outline_closed o = record o { tree = tree_after o.tree Close }
+
+-- the path of the open directory, a slash and a name
+pub record LiesOpen (t : TreeContents) (path : List ℕ) : Type 0 where
+  pub path_is : path ≡ path_above t.open_directories ++ last_name path
+  pub name_some : last_name path ≢ []
+
+-- this is the record that begins at a place
+abbrev pub IsRecordAt : OutlineContents → ℕ → List ℕ → Type 0
+IsRecordAt o start text = text ≡ record_from o.separator o.bytes start
+
+-- the path of a directory begins the record from a place, and isn't all of it
+pub record BeginsRecord (o : OutlineContents) (start : ℕ) (path : List ℕ) : Type 0 where
+  pub closed : IsClosed path
+  pub front : take (length path) (record_from o.separator o.bytes start) ≡ path
+  pub shorter : length path < length (record_from o.separator o.bytes start)
+
+-- the listing is the same
+pub record KeepsListing (old new : OutlineContents) : Type 0 where
+  pub bytes : new.bytes ≡ old.bytes
+  pub separator : new.separator ≡ old.separator
+
+-- the directories that are open, by a path with a slash after each name
+pub record HasOpen (t : TreeContents) (directory : List ℕ) : Type 0 where
+  pub names : names_of t.open_directories ≡ directory_names directory
+  pub path : path_above t.open_directories ≡ directory
+
+-- ---- by its numbers
+
+-- a tree that calls made
+abbrev pub IsMade : TreeContents → Type 0
+IsMade t = (calls : List Call) × AreNamed IsTreeName calls × (t ≡ tree_of_calls calls)
+
+-- an open directory
+abbrev pub open_of_span : List ℕ → List Span → ℕ → OpenDirectory
+open_of_span bytes spans i = record { number = i; name = last_name (path_at_span bytes spans i) }
+
+unfoldable pub tree_of_spans : List ℕ → List Span → TreeContents
+tree_of_spans bytes spans = record { entries = (contents_of_spans bytes spans).entries; open_directories = map (open_of_span bytes spans) (contents_of_spans bytes spans).open_numbers }
+
+-- whether the entry is a directory
+abbrev pub is_dir_span : Span → Bool
+is_dir_span s = if s.end == 0 then false else true
+
+-- the record of an entry
+abbrev pub mark_of_span : ℕ → List ℕ → Span → Option (List ℕ)
+mark_of_span separator bytes s = mark_of separator bytes s.start s.length (is_dir_span s)
+
+abbrev pub outline_of_spans : List ℕ → ℕ → List Span → OutlineContents
+outline_of_spans bytes separator spans = record { bytes = bytes; separator = separator; tree = tree_of_spans bytes spans; marks = map (mark_of_span separator bytes) spans }
+
+-- the path of an entry, with the slash of a directory, lies in one record
+abbrev pub LieInRecords : ℕ → List ℕ → List Span → Type 0
+LieInRecords separator bytes spans = (i : ℕ) (s : Span) → slice_get spans i ≡ Some s → record_length s.length (is_dir_span s) ≤ length (record_from separator bytes s.start)
+
+-- the numbers of an outline
+pub record IsOutline (bytes : List ℕ) (separator : ℕ) (spans : List Span) (stack : List ℕ) (directories : ℕ) : Type 0 where
+  pub spans_are : AreSpans bytes spans stack directories
+  pub made : IsMade (tree_of_spans bytes spans)
+  pub records : LieInRecords separator bytes spans
+
+-- the entries of an outline and their records
+abbrev pub listing_of_outline : OutlineContents → ListingContents
+listing_of_outline o = record { entries = o.tree.entries; marks = o.marks }

@@ -1,0 +1,204 @@
+//! A tree that lies over the bytes of a listing: no name is copied.
+ghost use Rattle.std.specs.Prelude.{◌≡◌, ◌≤◌, ◌<◌, ◌+◌, ◌&&◌, ◌==◌, ◌∷◌, ◌++◌, [], length, is_ok, nat_lt, if◌then◌else◌, Some, None, OnOk, OnErr};
+ghost use Rattle.std.specs.List.{before_first};
+ghost use Rattle.std.specs.Option.{option_map};
+ghost use Rattle.bstr.specs.BStr.{bstr_bytes};
+ghost use Rattle.pathspec_parts.specs.TreeLayout.{open_end};
+ghost use Rattle.pathspec_select.specs.Listing.{mark_at};
+ghost use Rattle.pathspec_select.specs.Outlines.{part, record_from, record_length, empty_outline, outline_after, outline_closed, LiesOpen};
+
+use bstr::BStr;
+use pathspec_parts::tree::{Entries, EntryPaths};
+use std::alloc::{AllocError, Global};
+use std::marker::Model;
+
+/// An entry in numbers.
+#[derive(Clone, Copy, Debug)]
+struct Span {
+    /// Where its path begins in the listing.
+    start: usize,
+    /// How many bytes its path has.
+    length: usize,
+    /// The number of the first entry after a directory that doesn't lie in it, as great as can be while it is open;
+    /// of a file 0.
+    end: usize,
+}
+
+/// The entries of a listing, whose paths are parts of it: what a walk over a [`super::Listing`] is over.
+///
+/// An entry takes three numbers.
+#[derive(Debug, Drop)]
+pub struct Outline<'a> {
+    bytes: &'a [u8],
+    separator: u8,
+    spans: Vec<Span>,
+    /// The numbers of the open directories, the outermost first.
+    stack: Vec<usize>,
+    /// How many directories there are.
+    directories: usize,
+}
+
+impl<'a> Model for Outline<'a> {
+    ghost use Rattle.pathspec_select.specs.Outlines.{OutlineContents, outline_of_spans, IsOutline};
+
+    ghost Value = { OutlineContents };
+
+    ghost view = { λ o. outline_of_spans o.bytes.now o.separator o.spans.items };
+
+    ghost invariant = { λ o. IsOutline o.bytes.now o.separator o.spans.items o.stack.items o.directories };
+}
+
+impl<'a> Outline<'a> {
+    /// No entries over a listing whose records end with the separator. It takes no memory.
+    pub(super) fn new(alloc: Global, bytes: &'a [u8], separator: u8) -> Outline<'a>
+        ensures { result ≡ empty_outline bytes.now separator }
+    {
+        Outline {
+            bytes,
+            separator,
+            spans: Vec::new(alloc),
+            stack: Vec::new(alloc),
+            directories: 0,
+        }
+    }
+
+    /// Adds an entry in the open directory, whose path is so many bytes of the listing. A directory is open then.
+    ///
+    /// # Errors
+    /// Memory runs out. The outline is then as it was.
+    pub(super) fn add(&mut self, start: usize, count: usize, is_dir: bool) -> Result<(), AllocError>
+        // The path, with the slash of a directory, lies in one record.
+        requires fits { record_length count is_dir
+            ≤ length (record_from self.old.separator self.old.bytes start) }
+        requires lies { LiesOpen self.old.tree (part self.old.bytes start count) }
+        ensures ok { OnOk result (self.new ≡ outline_after self.old start count is_dir) }
+        ensures err { OnErr result (self.new ≡ self.old) }
+    {
+        let end = first_end(is_dir);
+        let span = Span {
+            start,
+            length: count,
+            end,
+        };
+        append(&mut self.spans, &mut self.stack, span)?;
+        self.directories += one_if(is_dir);
+        Ok(())
+    }
+
+    /// Closes the directory that was opened last; nothing changes where none is open.
+    pub(super) fn close(&mut self)
+        ensures { self.new ≡ outline_closed self.old }
+    {
+        let Some(number) = self.stack.pop() else {
+            return;
+        };
+        self.spans[number].end = self.spans.len();
+    }
+
+    /// The record of an entry, if it has one: it has none where its record goes on behind its path.
+    pub(super) fn record(&self, number: usize) -> Option<BStr<'_>>
+        ensures { option_map bstr_bytes result ≡ mark_at self.now.marks number }
+    {
+        let span = self.spans.get(number)?;
+        let count = span.length + one_if(span.end != 0);
+        let record = record_of(self.bytes, self.separator, span.start, count)?;
+        Some(BStr::new(record))
+    }
+}
+
+impl<'a> Entries for Outline<'a> {
+    ghost list = { λ o. o.tree.entries };
+
+    fn len(&self) -> usize {
+        self.spans.len()
+    }
+
+    fn directories(&self) -> usize {
+        self.directories
+    }
+
+    fn is_dir(&self, number: usize) -> bool {
+        self.spans[number].end != 0
+    }
+
+    fn end_of(&self, number: usize) -> usize {
+        let end = self.spans[number].end;
+        if end == 0 { number + 1 } else { end }
+    }
+}
+
+impl<'a> EntryPaths for Outline<'a> {
+    fn path(&self, number: usize) -> &[u8] {
+        let span = self.spans[number];
+        piece(self.bytes, span.start, span.length)
+    }
+}
+
+/// So many bytes from a place on.
+fn piece(bytes: &[u8], start: usize, count: usize) -> &[u8]
+    requires { start + count ≤ length bytes.now }
+    ensures { result.now ≡ part bytes.now start count }
+{
+    let rest = &bytes[start..];
+    &rest[..count]
+}
+
+/// The record from a place on, where it has so many bytes.
+fn record_of(bytes: &[u8], separator: u8, start: usize, count: usize) -> Option<&[u8]>
+    requires start { start ≤ length bytes.now }
+    requires count { count ≤ length (record_from separator bytes.now start) }
+    ensures { option_map (λ r. r.now) result
+        ≡ (if length (record_from separator bytes.now start) == count
+        then Some (record_from separator bytes.now start) else None) }
+{
+    let rest = &bytes[start..];
+    if ends_after(rest, separator, count) {
+        Some(&rest[..count])
+    } else {
+        None
+    }
+}
+
+/// Whether the first record ends after so many bytes of it.
+fn ends_after(bytes: &[u8], separator: u8, count: usize) -> bool
+    requires { count ≤ length (before_first (λ b. b == separator) bytes.now) }
+    ensures { result ≡ (length (before_first (λ b. b == separator) bytes.now) == count) }
+{
+    match bytes.get(count) {
+        Some(byte) => *byte == separator,
+        None => true,
+    }
+}
+
+/// The end of a new entry.
+fn first_end(is_dir: bool) -> usize
+    ensures { result ≡ (if is_dir then open_end else 0) }
+{
+    if is_dir { usize::MAX } else { 0 }
+}
+
+/// 1 for a directory, 0 for a file.
+fn one_if(is_dir: bool) -> usize
+    ensures { result ≡ (if is_dir then 1 else 0) }
+{
+    usize::from(is_dir)
+}
+
+/// Puts a span after the others, and its number on the stack if it is a directory's.
+///
+/// # Errors
+/// Memory runs out. All is then as it was.
+fn append(spans: &mut Vec<Span>, stack: &mut Vec<usize>, span: Span) -> Result<(), AllocError>
+    ensures spans { spans.new.items
+        ≡ (if is_ok result then spans.old.items ++ span ∷ [] else spans.old.items) }
+    ensures stack { stack.new.items ≡ (if is_ok result && nat_lt 0 span.end
+        then stack.old.items ++ length spans.old.items ∷ [] else stack.old.items) }
+{
+    spans.reserve(1)?;
+    stack.reserve(1)?;
+    if span.end > 0 {
+        stack.push(spans.len())?;
+    }
+    spans.push(span)?;
+    Ok(())
+}
