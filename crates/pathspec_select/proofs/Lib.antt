@@ -22,5 +22,14 @@ pub mod NameProofs
 pub mod SharedProofs
 pub mod AddingProofs
 pub mod ReadProofs
+pub mod FrontProofs
+pub mod AddedProofs
+pub mod IndexEntryProofs
+pub mod AboveProofs
+pub mod RunProofs
+pub mod PlaceProofs
+pub mod IndexWalkProofs
+pub mod IndexNameProofs
+pub mod IndexCheckProofs
 mod ListingRows
 mod WalkRows

@@ -28,3 +28,4 @@ pub mod Program
 pub mod Walks
 pub mod SelectAnswers
 pub mod ListingAnswers
+pub mod Index
