@@ -17,7 +17,7 @@ use Rattle.pathspec_parts.proofs.EntryProofs.{numbers_from}
 use Rattle.pathspec_parts.proofs.TreeProofs.{tree_has_entries, get-append}
 use Rattle.pathspec_select.specs.declared.index.paths.IndexPlace.{IndexPlace}
 use Rattle.pathspec_select.specs.Listing.{open_after, record_calls, calls_from, listing_entries, record_names, parent_names, shared_depth}
-use Rattle.pathspec_select.specs.Index.{path_at, path_before, common_length, slashes_in, file_numbers, file_number, path_of_number, number_of, IsPlace, path_of_place, is_front, entries_before}
+use Rattle.pathspec_select.specs.Index.{path_at, path_before, common_length, slashes_in, file_numbers, path_of_number, IsPlace, path_of_place, is_front, entries_before}
 use Rattle.pathspec_select.proofs.FrontProofs.{dirs, parents-are, shared-dirs, slashes-parts, slashes-longer, front-names, front-with}
 use Rattle.pathspec_select.proofs.AddedProofs.{tree_of, adds, added, added-at, added-count, added-directories, added-files, parents, parents-names, is_file, files-append}
 
@@ -202,6 +202,13 @@ module _ (ps : List (List ℕ)) (plain : (k : ℕ) → k < length ps → ends_wi
       ap (λ j. numbers_from is_file 0 (listing_entries (take j ps))) one ∙ (ap (numbers_from is_file 0) a.entries_are ∙ (files-append 0 (listing_entries (take k ps)) a.new ∙ ap (λ t. numbers_from is_file 0 (listing_entries (take k ps)) ++ t) (a.files n))) in
       ap length e ∙ (length_push (numbers_from is_file 0 (listing_entries (take k ps))) (n + implies ps k) ∙ (ap (λ j. j + 1) (files-count k (omega (arith, le))) ∙ sym one))
 
+  files-within : (k : ℕ) → k < length ps → k < length (numbers_from is_file 0 es)
+  files-within k l =
+      let f = front-of (k + 1) in
+      let c = files-count (k + 1) (omega (arith, l)) in
+      let e = ap length (ap (numbers_from is_file 0) f.1 ∙ files-append 0 (listing_entries (take (k + 1) ps)) f.0) ∙ length-append (numbers_from is_file 0 (listing_entries (take (k + 1) ps))) (numbers_from is_file (0 + length (listing_entries (take (k + 1) ps))) f.0) in
+      omega (arith, c, e)
+
   files-at : (k : ℕ) → k < length ps → get_or (numbers_from is_file 0 es) k 0 ≡ base k + implies ps k
   files-at k l =
       let a = adds-at k l in
@@ -218,15 +225,20 @@ module _ (ps : List (List ℕ)) (plain : (k : ℕ) → k < length ps → ends_wi
       let y : x ≡ base k + implies ps k = omega arith in
       ap (λ t. get_or t k 0) e ∙ (get_or_append_left (xs ++ x ∷ []) rest 0 k (omega (arith, long, count)) ∙ (get_or_push xs x 0 k count ∙ y))
 
-  file-number : (k : ℕ) → k < length ps → file_number es k ≡ base k + implies ps k
+  pub file-number : (k : ℕ) → k < length ps → slice_get (file_numbers es) k ≡ Some (base k + implies ps k)
   unfolding entries_where
-  file-number k l = files-at k l
+  file-number k l = slice_get-get_or (numbers_from is_file 0 es) k 0 (files-within k l) ∙ ap Some (files-at k l)
+
+  -- there are as many files as paths
+  pub file-count : length (file_numbers es) ≡ length ps
+  unfolding entries_where
+  file-count = ap (λ t. length (numbers_from is_file 0 (listing_entries t))) (sym (take_all (length ps) ps (omega arith))) ∙ files-count (length ps) (omega arith)
 
   -- what a path shares with the one before it is a part of it
   pub shares-le : (k : ℕ) → shares ps k ≤ slashes_in (path_at ps k)
   shares-le k = let s = slashes-parts (common_length ps k) (path_at ps k) in omega (arith, s)
 
-  file-path : (k : ℕ) → k < length ps → path_of_number es (base k + implies ps k) ≡ path_at ps k
+  pub file-path : (k : ℕ) → k < length ps → path_of_number es (base k + implies ps k) ≡ path_at ps k
   file-path k l =
       let p = path_at ps k in
       let r = entry-at k (implies ps k) l (omega arith) in
@@ -242,21 +254,12 @@ module _ (ps : List (List ℕ)) (plain : (k : ℕ) → k < length ps → ends_wi
   fresh-shares place h = slashes-longer (common_length ps place.path) place.length (path_at ps place.path) h.fresh
 
   -- the number of a place
-  pub number-is : (place : IndexPlace) → IsPlace ps place → number_of es place ≡ base place.path + (slashes_in (take place.length (path_at ps place.path)) - shares ps place.path)
-  unfolding number_of
-  number-is place h =
-      let k = place.path in
-      let p = path_at ps k in
-      let n = file-number k h.within in
-      let q : path_of_number es (file_number es k) ≡ p = ap (path_of_number es) n ∙ file-path k h.within in
-      let parts = slashes-parts place.length p in
-      let s = fresh-shares place h in
-      let d = ap (λ t. slashes_in (drop place.length t)) q in
-      omega (arith, n, d, parts, s)
+  abbrev pub number_at : IndexPlace → ℕ
+  number_at place = base place.path + (slashes_in (take place.length (path_at ps place.path)) - shares ps place.path)
 
   -- the entry of a place
   pub record IsEntryOfPlace (place : IndexPlace) (e : Entry) : Type 0 where
-    pub stands : slice_get es (number_of es place) ≡ Some e
+    pub stands : slice_get es (number_at place) ≡ Some e
     pub path : e.path ≡ take place.length (path_at ps place.path)
     pub kind : ((place.length < length (path_at ps place.path)) × (e.is_dir ≡ true)) ⊎ ((place.length ≡ length (path_at ps place.path)) × (e.is_dir ≡ false))
 
@@ -271,7 +274,7 @@ module _ (ps : List (List ℕ)) (plain : (k : ℕ) → k < length ps → ends_wi
       let at : (shares ps k + c) + 1 ≡ slashes_in (take place.length p) + 1 = omega (arith, s) in
       let all : length p ≤ place.length → slashes_in (take place.length p) ≡ slashes_in p = λ le. ap slashes_in (take_all place.length p le) in
       (r.0, record {
-        stands = ap (slice_get es) (number-is place h) ∙ r.1;
+        stands = r.1;
         path = r.2 ∙ (ap (λ n. join_names (take n (pieces p))) at ∙ front-names p place.length h.fits h.cut);
         kind = elim r.3 [
           | inl q ↦ elim (cases_lt place.length (length p)) [
@@ -311,7 +314,7 @@ module _ (ps : List (List ℕ)) (plain : (k : ℕ) → k < length ps → ends_wi
       ]
 
   -- the place of a number
-  pub place-of : (m : ℕ) → m < length es → (place : IndexPlace) × IsPlace ps place × (number_of es place ≡ m) × (base place.path ≤ m) × (m < base (place.path + 1))
+  pub place-of : (m : ℕ) → m < length es → (place : IndexPlace) × IsPlace ps place × (number_at place ≡ m) × (base place.path ≤ m) × (m < base (place.path + 1))
   place-of m l =
       let r = path-of (length ps) m (omega arith) (omega (arith, l, base-all)) in
       let k = r.0 in
@@ -327,7 +330,6 @@ module _ (ps : List (List ℕ)) (plain : (k : ℕ) → k < length ps → ends_wi
         | inl lt ↦ absurd (too_short k f.0 c f.1 f.2 f.3 lt)
       ] in
       let h : IsPlace ps place = record { within = r.1; fits = f.1; cut = f.2; fresh = fresh } in
-      let n = number-is place h in
       let s = f.3 in
       let a = r.2 in
-      (place, h, omega (arith, n, s, a), r.2, r.3)
+      (place, h, omega (arith, s, a), r.2, r.3)

@@ -15,7 +15,7 @@ use Rattle.pathspec_select.proofs.NameProofs.{has_empty_name-record}
 use Rattle.pathspec_select.proofs.FrontProofs.{dirs, last_name, record-names}
 use Rattle.pathspec_select.proofs.AboveProofs.{AreNames, ArePlain, names-bytes, named-calls}
 use Rattle.pathspec_select.proofs.RunProofs.{file-parts, plain}
-use Rattle.pathspec_select.proofs.IndexWalkProofs.{all-from}
+use Rattle.pathspec_select.proofs.NumberProofs.{all-from}
 
 neither : (a b : Bool) → (a || b) ≡ false → (a ≡ false) × (b ≡ false)
 neither false false h = (refl, refl)

@@ -5,9 +5,7 @@ use Rattle.std.proofs.lemmas.List.{map-append}
 use Rattle.std.proofs.lemmas.List.Elements.{Contains-push}
 use Rattle.std.proofs.lemmas.Option.{same_Some, slice_get_within}
 use Rattle.std.specs.Prelude.{◌⊎◌, slice_get, Contains, unwrap_or, option_map, option_and_then, MatchOption, IfSome, IfNone}
-use Rattle.std.specs.List.{AllByRecursion}
 use Rattle.pathspec_glob.specs.Bytes.{is_one_of}
-use Rattle.pathspec_parts.specs.Paths.{ends_with_slash}
 use Rattle.pathspec_parts.specs.Entries.{Entry, is_seen}
 use Rattle.pathspec_parts.specs.Trees.{IsNested, HasBytePaths}
 use Rattle.pathspec_parts.specs.Cursors.{CursorContents, number_after_place, next_seen, append_if, append_once, directory_count, IsDirectoryIn, IsEndOf, HoldsPaths, IsCursor, path_at as path_of_contents, is_dir_at, entry_at, after_enter, next_number}
@@ -16,20 +14,8 @@ use Rattle.pathspec_parts.proofs.CursorProofs.{starts, goes, goes_next, ends_as,
 use Rattle.pathspec_select.specs.declared.index.paths.IndexPlace.{IndexPlace}
 use Rattle.pathspec_select.specs.Listing.{listing_entries}
 use Rattle.pathspec_select.specs.Index.{path_at, number_of, path_of_place, IsIndex, IsPlace, is_front, entries_before, path_after, number_onward, IsIndexWalk}
-use Rattle.pathspec_select.proofs.AboveProofs.{NoSlash, AreNames, ArePlain, no_slashes}
-use Rattle.pathspec_select.proofs.IndexEntryProofs.{IsEntryOfPlace, entry-of, base-all}
-use Rattle.pathspec_select.proofs.RunProofs.{plain, place-ends}
+use Rattle.pathspec_select.proofs.NumberProofs.{IsEntryAt, entry-at-place, place-ends-at}
 use Rattle.pathspec_select.proofs.PlaceProofs.{entries_before-is, entries_before-all}
-
--- ---- paths and their entries
-
--- what holds of each path by its number holds of all
-pub all-from : (P : List ℕ → Type 0) (ps : List (List ℕ)) → ((k : ℕ) → k < length ps → P (get_or ps k [])) → AllByRecursion P ps
-all-from P [] h = tt
-all-from P (p ∷ ps) h = (h 0 (omega arith), all-from P ps (λ k l. h (suc k) (omega (arith, l))))
-
-pub plain-paths : (ps : List (List ℕ)) → IsIndex ps → ArePlain NoSlash ps
-plain-paths ps h = all-from (λ p. (ends_with_slash p ≡ false) × AreNames NoSlash p) ps (λ k l. (plain ps h k l, no_slashes (get_or ps k [])))
 
 -- some number is no less than the length of any path
 pub longest-of : (es : List Entry) → (room : ℕ) × HoldsPaths es room
@@ -97,8 +83,8 @@ module _ (ps : List (List ℕ)) (at : Option IndexPlace) (entered : List IndexPl
   unfolding path_of_place
   path-is place = refl
 
-  pub entry-at-place : (place : IndexPlace) → at ≡ Some place → (e : Entry) × IsEntryOfPlace ps (plain ps w.index) place e
-  entry-at-place place a = entry-of ps (plain ps w.index) place (w.place place a)
+  pub entry-there : (place : IndexPlace) → at ≡ Some place → (e : Entry) × IsEntryAt ps w.index w.cursor.nested place e
+  entry-there place a = entry-at-place ps w.index w.cursor.nested place (w.place place a)
 
   -- it goes on
 
@@ -113,9 +99,9 @@ module _ (ps : List (List ℕ)) (at : Option IndexPlace) (entered : List IndexPl
 
   pub goes-on : (place : IndexPlace) → IsPlace ps place → number place ≡ next → IsIndexWalk ps (Some place) entered false false room
   goes-on place p e =
-      let x = entry-of ps (plain ps w.index) place p in
+      let x = entry-at-place ps w.index w.cursor.nested place p in
       let end = entries_before ps (path_after ps place) in
-      let ends : IsEndOf es (number place) end = subst (IsEndOf es (number place)) (sym (entries_before-is ps (path_after ps place))) (place-ends ps w.index w.cursor.nested (plain-paths ps w.index) place p) in
+      let ends : IsEndOf es (number place) end = place-ends-at ps w.index w.cursor.nested place p in
       let c = goes es (option_map number at) next here trail is_new w.longest room w.cursor x.0 (ap (slice_get es) (sym e) ∙ x.1.stands) (path_of_place ps place) (path-is place ∙ sym x.1.path) end (subst (λ n. IsEndOf es n end) e ends) w.longest (omega arith) in
       record {
         index = w.index;
@@ -129,7 +115,7 @@ module _ (ps : List (List ℕ)) (at : Option IndexPlace) (entered : List IndexPl
 
   pub goes-next : (place : IndexPlace) → IsPlace ps place → number place ≡ next → Some (number place) ≡ next_seen trail (number_after_place es (option_map number at) is_new) es
   goes-next place p e =
-      let x = entry-of ps (plain ps w.index) place p in
+      let x = entry-at-place ps w.index w.cursor.nested place p in
       ap Some e ∙ sym (goes_next es (option_map number at) next here trail is_new w.longest room w.cursor x.0 (ap (slice_get es) (sym e) ∙ x.1.stands))
 
   -- it ends
@@ -156,7 +142,7 @@ module _ (ps : List (List ℕ)) (at : Option IndexPlace) (entered : List IndexPl
 
     is_directory : IsDirectoryIn es (number place)
     is_directory =
-        let x = entry-at-place place a in
+        let x = entry-there place a in
         (x.0, x.1.stands, elim x.1.kind [
           | inl q ↦ q.1
           | inr q ↦ let e = q.0 in absurd (omega (arith, e, dir))
@@ -200,7 +186,7 @@ module _ (ps : List (List ℕ)) (at : Option IndexPlace) (entered : List IndexPl
   -- what was entered is a directory
   pub entered-less : (place : IndexPlace) → at ≡ Some place → is_entered ≡ true → place.length < length (path_at ps place.path)
   entered-less place a t =
-      let x = entry-at-place place a in
+      let x = entry-there place a in
       let d = w.cursor.directories (number place) (from-one_of trail (number place) (sym (w.is_on_trail place a) ∙ t)) in
       let same : d.0 ≡ x.0 = same_Some d.0 x.0 (sym d.1 ∙ x.1.stands) in
       elim x.1.kind [
@@ -213,15 +199,15 @@ module _ (ps : List (List ℕ)) (at : Option IndexPlace) (entered : List IndexPl
   abbrev contents : CursorContents
   contents = record { entries = es; at = option_map number at; entered = trail; is_new = is_new }
 
-  entry-is : (place : IndexPlace) (a : at ≡ Some place) → entry_at contents ≡ Some (entry-at-place place a).0
-  entry-is place a = ap (λ o. option_and_then (slice_get es) (option_map number o)) a ∙ (entry-at-place place a).1.stands
+  entry-is : (place : IndexPlace) (a : at ≡ Some place) → entry_at contents ≡ Some (entry-there place a).0
+  entry-is place a = ap (λ o. option_and_then (slice_get es) (option_map number o)) a ∙ (entry-there place a).1.stands
 
   pub contents-path : (place : IndexPlace) → at ≡ Some place → path_of_contents contents ≡ take place.length (path_at ps place.path)
-  contents-path place a = ap (λ o. unwrap_or (option_map (λ (e : Entry). e.path) o) []) (entry-is place a) ∙ (entry-at-place place a).1.path
+  contents-path place a = ap (λ o. unwrap_or (option_map (λ (e : Entry). e.path) o) []) (entry-is place a) ∙ (entry-there place a).1.path
 
   pub contents-kind : (place : IndexPlace) → at ≡ Some place → (b : Bool) → b ≡ (length (path_at ps place.path) == place.length) → not b ≡ is_dir_at contents
   contents-kind place a b e =
-      let x = entry-at-place place a in
+      let x = entry-there place a in
       let dir : is_dir_at contents ≡ x.0.is_dir = ap (λ o. unwrap_or (option_map (λ (y : Entry). y.is_dir) o) false) (entry-is place a) in
       elim x.1.kind [
         | inl q ↦

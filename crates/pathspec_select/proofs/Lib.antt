@@ -33,3 +33,4 @@ pub mod IndexNameProofs
 pub mod IndexCheckProofs
 mod ListingRows
 mod WalkRows
+mod IndexRows

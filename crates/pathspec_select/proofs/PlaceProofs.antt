@@ -10,9 +10,9 @@ use Rattle.pathspec_parts.specs.Paths.{is_slash}
 use Rattle.pathspec_parts.specs.Entries.{Entry}
 use Rattle.pathspec_select.specs.declared.index.paths.IndexPlace.{IndexPlace}
 use Rattle.pathspec_select.specs.Listing.{listing_entries}
-use Rattle.pathspec_select.specs.Index.{path_at, path_before, common_length, slashes_in, number_of, IsIndex, IsPlace, is_front, entries_before}
+use Rattle.pathspec_select.specs.Index.{path_at, path_before, common_length, slashes_in, IsIndex, IsPlace, is_front, entries_before}
 use Rattle.pathspec_select.proofs.FrontProofs.{next-slash, slashes-parts}
-use Rattle.pathspec_select.proofs.IndexEntryProofs.{base, number-is, fresh-shares}
+use Rattle.pathspec_select.proofs.IndexEntryProofs.{base, number_at, fresh-shares}
 use Rattle.pathspec_select.proofs.RunProofs.{plain}
 
 pub entries_before-is : (ps : List (List ℕ)) (n : ℕ) → entries_before ps n ≡ length (listing_entries (take n ps))
@@ -54,8 +54,8 @@ module _ (p : List ℕ) (start : ℕ) (le : start ≤ length p) where
 
 module _ (ps : List (List ℕ)) (h : IsIndex ps) where
   -- the first place of a path
-  pub first-place : (n l : ℕ) → n < length ps → l ≡ slash_from (path_at ps n) (common_length ps n) → IsPlace ps (record { path = n; length = l }) × (number_of (listing_entries ps) (record { path = n; length = l }) ≡ entries_before ps n)
-  first-place n l lt e =
+  pub first-place-at : (n l : ℕ) → n < length ps → l ≡ slash_from (path_at ps n) (common_length ps n) → IsPlace ps (record { path = n; length = l }) × (number_at ps (plain ps h) (record { path = n; length = l }) ≡ entries_before ps n)
+  first-place-at n l lt e =
       let p = path_at ps n in
       let c = common_length ps n in
       let le = common-le ps n in
@@ -69,15 +69,14 @@ module _ (ps : List (List ℕ)) (h : IsIndex ps) where
         ];
         fresh = omega (arith, e);
       } in
-      let n_is = number-is ps (plain ps h) place is in
       let s = ap (λ k. slashes_in (take k p)) e ∙ slash-count p c le in
       let b = entries_before-is ps n in
-      (is, omega (arith, n_is, s, b))
+      (is, omega (arith, s, b))
 
   -- the first place in a directory
-  pub inner-place : (place : IndexPlace) (l : ℕ) → IsPlace ps place → place.length < length (path_at ps place.path) → l ≡ slash_from (path_at ps place.path) (place.length + 1)
-      → IsPlace ps (record { path = place.path; length = l }) × (number_of (listing_entries ps) (record { path = place.path; length = l }) ≡ number_of (listing_entries ps) place + 1)
-  inner-place place l is lt e =
+  pub inner-place-at : (place : IndexPlace) (l : ℕ) → IsPlace ps place → place.length < length (path_at ps place.path) → l ≡ slash_from (path_at ps place.path) (place.length + 1)
+      → IsPlace ps (record { path = place.path; length = l }) × (number_at ps (plain ps h) (record { path = place.path; length = l }) ≡ number_at ps (plain ps h) place + 1)
+  inner-place-at place l is lt e =
       let p = path_at ps place.path in
       let c = place.length + 1 in
       let le : c ≤ length p = omega (arith, lt) in
@@ -98,10 +97,8 @@ module _ (ps : List (List ℕ)) (h : IsIndex ps) where
       ] in
       let more = count_by_more_yes is_slash p place.length 0 lt (ap is_slash here) in
       let s = ap (λ k. slashes_in (take k p)) e ∙ slash-count p c le in
-      let a = number-is ps (plain ps h) place is in
-      let b = number-is ps (plain ps h) inner inner_is in
       let sh = fresh-shares ps (plain ps h) place is in
-      (inner_is, omega (arith, a, b, s, more, sh))
+      (inner_is, omega (arith, s, more, sh))
 
 pub front-less : (ps : List (List ℕ)) (place : IndexPlace) → is_front ps place ≡ true → place.length < length (path_at ps place.path)
 unfolding is_front

@@ -21,10 +21,10 @@ use Rattle.pathspec_parts.specs.Trees.{IsNested}
 use Rattle.pathspec_parts.specs.Cursors.{IsEndOf}
 use Rattle.pathspec_select.specs.declared.index.paths.IndexPlace.{IndexPlace}
 use Rattle.pathspec_select.specs.Listing.{is_bad, listing_entries}
-use Rattle.pathspec_select.specs.Index.{is_file_path, path_at, path_before, common_length, slashes_in, number_of, IsIndex, IsPlace, IsAround, is_front, run_end, path_after}
+use Rattle.pathspec_select.specs.Index.{is_file_path, path_at, path_before, common_length, slashes_in, IsIndex, IsPlace, IsAround, is_front, run_end, path_after}
 use Rattle.pathspec_select.proofs.FrontProofs.{slashes-longer, slashes-parts}
 use Rattle.pathspec_select.proofs.AboveProofs.{NoSlash, ArePlain, fronts_above}
-use Rattle.pathspec_select.proofs.IndexEntryProofs.{base, base-step, base-le, shares, implies, shares-le, fresh-shares, number-is, IsEntryOfPlace, entry-of, place-of}
+use Rattle.pathspec_select.proofs.IndexEntryProofs.{base, base-step, base-le, shares, implies, shares-le, fresh-shares, number_at, IsEntryOfPlace, entry-of, place-of}
 
 -- ---- fronts
 
@@ -152,7 +152,7 @@ module _ (ps : List (List ℕ)) (h : IsIndex ps) where
       omega (arith, s, c, fresh, front-length place lt)
 
   -- A directory has one place.
-  one-place : (p q : IndexPlace) → IsPlace ps p → IsPlace ps q → p.length < length (path_at ps p.path) → q.length < length (path_at ps q.path) → take p.length (path_at ps p.path) ≡ take q.length (path_at ps q.path) → p ≡ q
+  pub one-place : (p q : IndexPlace) → IsPlace ps p → IsPlace ps q → p.length < length (path_at ps p.path) → q.length < length (path_at ps q.path) → take p.length (path_at ps p.path) ≡ take q.length (path_at ps q.path) → p ≡ q
   one-place p q a b lt ls e =
       let long : p.length ≡ q.length = sym (length-take-le p.length (path_at ps p.path) (omega (arith, lt))) ∙ (ap length e ∙ length-take-le q.length (path_at ps q.path) (omega (arith, ls))) in
       let same : take (p.length + 1) (path_at ps p.path) ≡ take (q.length + 1) (path_at ps q.path) = front-slash p a lt ∙ (ap (λ t. t ++ slash ∷ []) e ∙ sym (front-slash q b ls)) in
@@ -224,30 +224,31 @@ module _ (ps : List (List ℕ)) (h : IsIndex ps) where
   abbrev first : ℕ → ℕ
   first k = base ps plain k
 
-  number-range : (place : IndexPlace) → IsPlace ps place → (first place.path ≤ number_of es place) × (number_of es place < first (place.path + 1))
+  abbrev number : IndexPlace → ℕ
+  number place = number_at ps plain place
+
+  number-range : (place : IndexPlace) → IsPlace ps place → (first place.path ≤ number place) × (number place < first (place.path + 1))
   number-range place p =
-      let n = number-is ps plain place p in
       let s = base-step ps plain place.path p.within in
       let parts = slashes-parts place.length (path_at ps place.path) in
-      (omega (arith, n), omega (arith, n, s, parts))
+      (omega arith, omega (arith, s, parts))
 
   module _ (nested : IsNested es) (no_slash : ArePlain NoSlash ps) where
-    file-ends : (place : IndexPlace) → IsPlace ps place → place.length ≡ length (path_at ps place.path) → IsEndOf es (number_of es place) (first (place.path + 1))
+    file-ends : (place : IndexPlace) → IsPlace ps place → place.length ≡ length (path_at ps place.path) → IsEndOf es (number place) (first (place.path + 1))
     file-ends place p e =
-        let n = number-is ps plain place p in
         let s = base-step ps plain place.path p.within in
         let whole = ap slashes_in (take_all place.length (path_at ps place.path) (omega (arith, e))) in
         let le = shares-le ps plain place.path in
         let x = entry-of ps plain place p in
-        (omega (arith, n, s, whole, le), λ j f lt there. (
+        (omega (arith, s, whole, le), λ j f lt there. (
           λ c.
-              let a = nested.above j (number_of es place) f there c in
+              let a = nested.above j (number place) f there c in
               let same : a.directory ≡ x.0 = same_Some a.directory x.0 (sym a.stands ∙ x.1.stands) in
               elim x.1.kind [
                 | inl q ↦ let v = q.0 in absurd (omega (arith, v, e))
                 | inr q ↦ absurd (both_ways x.0.is_dir q.1 (ap (λ (y : Entry). y.is_dir) (sym same) ∙ a.is_dir))
               ],
-          λ b. absurd (omega (arith, n, s, whole, le, lt, b)),
+          λ b. absurd (omega (arith, s, whole, le, lt, b)),
         ))
 
     module _ (place : IndexPlace) (p : IsPlace ps place) (lt : place.length < length (path_at ps place.path)) where
@@ -261,9 +262,9 @@ module _ (ps : List (List ℕ)) (h : IsIndex ps) where
       ended = run-ends place.path front p.within
 
       -- what lies in the directory comes before the end
-      inside-before : (m : ℕ) (f : Entry) → slice_get es m ≡ Some f → number_of es place < m → Contains f.above (number_of es place) → m < first end
+      inside-before : (m : ℕ) (f : Entry) → slice_get es m ≡ Some f → number place < m → Contains f.above (number place) → m < first end
       inside-before m f there after c =
-          let a = nested.above m (number_of es place) f there c in
+          let a = nested.above m (number place) f there c in
           let x = entry-of ps plain place p in
           let same : a.directory ≡ x.0 = same_Some a.directory x.0 (sym a.stands ∙ x.1.stands) in
           let d_path : a.directory.path ≡ take place.length (path_at ps place.path) = ap (λ (y : Entry). y.path) same ∙ x.1.path in
@@ -297,7 +298,7 @@ module _ (ps : List (List ℕ)) (h : IsIndex ps) where
       ]
 
       -- and so does the path of a place in it
-      long-enough : (q : IndexPlace) → IsPlace ps q → number_of es place < number_of es q → place.path ≤ q.path → q.path < end → place.length + 1 ≤ q.length
+      long-enough : (q : IndexPlace) → IsPlace ps q → number place < number q → place.path ≤ q.path → q.path < end → place.length + 1 ≤ q.length
       long-enough q s after a b = elim (cases_lt place.path q.path) [
         | inl l ↦
             let e : suc (q.path - 1) ≡ q.path = omega (arith, l) in
@@ -312,17 +313,15 @@ module _ (ps : List (List ℕ)) (h : IsIndex ps) where
             elim (cases_lt place.length q.length) [
               | inl l ↦ omega (arith, l)
               | inr le ↦
-                  let n = number-is ps plain place p in
-                  let m = number-is ps plain q s in
                   let longer = slashes-longer q.length place.length (path_at ps place.path) le in
                   let at = ap (λ j. slashes_in (take q.length (path_at ps j))) e in
                   let sh = ap (shares ps) e in
                   let bs = ap first e in
-                  absurd (omega (arith, n, m, longer, at, sh, bs, after))
+                  absurd (omega (arith, longer, at, sh, bs, after))
             ]
       ]
 
-      before-inside : (m : ℕ) (f : Entry) → slice_get es m ≡ Some f → number_of es place < m → m < first end → Contains f.above (number_of es place)
+      before-inside : (m : ℕ) (f : Entry) → slice_get es m ≡ Some f → number place < m → m < first end → Contains f.above (number place)
       before-inside m f there after b =
           let q = place-of ps plain m (slice_get_within es m f there) in
           let y = entry-of ps plain q.0 q.1 in
@@ -363,10 +362,10 @@ module _ (ps : List (List ℕ)) (h : IsIndex ps) where
             | inl g ↦
                 let alike : take o.0.length (path_at ps o.0.path) ≡ take place.length (path_at ps place.path) = sym z.1.path ∙ (ap (λ (v : Entry). v.path) (sym d_is) ∙ above.2.2) in
                 let one : o.0 ≡ place = one-place o.0 place o.1 p g.0 lt alike in
-                subst (Contains f.above) (sym o.2 ∙ ap (number_of es) one) above.1
+                subst (Contains f.above) (sym o.2 ∙ ap (number) one) above.1
           ]
 
-      directory-ends : IsEndOf es (number_of es place) (first end)
+      directory-ends : IsEndOf es (number place) (first end)
       directory-ends =
           let r = number-range place p in
           let le = base-le ps plain (place.path + 1) end (let b = ended.behind in omega (arith, b)) ended.within in
@@ -374,14 +373,14 @@ module _ (ps : List (List ℕ)) (h : IsIndex ps) where
           (omega (arith, r1, le), λ j f after there. (inside-before j f there after, before-inside j f there after))
 
     -- The entries of a place end where those of the next path begin.
-    pub place-ends : (place : IndexPlace) → IsPlace ps place → IsEndOf es (number_of es place) (first (path_after ps place))
+    pub place-ends : (place : IndexPlace) → IsPlace ps place → IsEndOf es (number place) (first (path_after ps place))
     unfolding path_after is_front
     place-ends place p = elim (cases_lt place.length (length (path_at ps place.path))) [
       | inl lt ↦
           let t = lt-ltb place.length (length (path_at ps place.path)) lt in
-          subst (λ b. IsEndOf es (number_of es place) (first (cond b (run_end ps place.path (take (place.length + 1) (path_at ps place.path))) (place.path + 1)))) (sym t) (directory-ends place p lt)
+          subst (λ b. IsEndOf es (number place) (first (cond b (run_end ps place.path (take (place.length + 1) (path_at ps place.path))) (place.path + 1)))) (sym t) (directory-ends place p lt)
       | inr ge ↦
           let f = le-ltb place.length (length (path_at ps place.path)) ge in
           let fits = p.fits in
-          subst (λ b. IsEndOf es (number_of es place) (first (cond b (run_end ps place.path (take (place.length + 1) (path_at ps place.path))) (place.path + 1)))) (sym f) (file-ends place p (omega (arith, ge, fits)))
+          subst (λ b. IsEndOf es (number place) (first (cond b (run_end ps place.path (take (place.length + 1) (path_at ps place.path))) (place.path + 1)))) (sym f) (file-ends place p (omega (arith, ge, fits)))
     ]

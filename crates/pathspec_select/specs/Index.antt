@@ -1,9 +1,9 @@
 -- Paths in byte order, as a git index has them, and where a walk over them stands.
-use Rattle.std.specs.Prelude.{◌≡◌, ◌≢◌, ◌⊎◌, ℕ, ◌+◌, ◌-◌, ◌<◌, ◌≤◌, ◌^◌, Bool, true, false, not, ◌||◌, List, [], ◌∷◌, length, take, drop, map, min, nat_eq, nat_lt, count_by, slice_get, slice_index_or, if◌then◌else◌, Option, Some, None, option_map, unwrap_or, All}
+use Rattle.std.specs.Prelude.{◌≡◌, ◌≢◌, ◌⊎◌, ℕ, ◌+◌, ◌-◌, ◌<◌, ◌≤◌, ◌^◌, Bool, true, false, not, ◌||◌, List, [], ◌∷◌, ◌++◌, ◌==◌, length, take, drop, map, min, nat_eq, nat_lt, count_by, slice_get, slice_index_or, if◌then◌else◌, Option, Some, None, option_map, option_and_then, unwrap_or, All}
 use Rattle.std.specs.Ordering.{nat_cmp}
 use Rattle.std.specs.Cmp.Lexicographic.{slice_cmp}
 use Rattle.std.specs.declared.cmp.Ordering.TheVariants.{Less}
-use Rattle.std.specs.List.{common_prefix_len, position_or_len}
+use Rattle.std.specs.List.{common_prefix_len, position_or_len, find}
 use Rattle.pathspec_parts.specs.Bytes.{slash, begins_with, is_one_of}
 use Rattle.pathspec_parts.specs.Paths.{IsBytes, is_slash, ends_with_slash}
 use Rattle.pathspec_parts.specs.Entries.{Entry, entries_where}
@@ -46,17 +46,17 @@ slashes_in text = count_by is_slash text
 abbrev pub file_numbers : List Entry → List ℕ
 file_numbers es = entries_where (λ path is_dir. not is_dir) es
 
--- the number of the file that is made from the path with this number
-abbrev pub file_number : List Entry → ℕ → ℕ
-file_number es n = slice_index_or (file_numbers es) n 0
-
 -- the path of the entry with a number, empty where there is none
 abbrev pub path_of_number : List Entry → ℕ → List ℕ
 path_of_number es n = unwrap_or (option_map (λ (e : Entry). e.path) (slice_get es n)) []
 
--- The number of a place: that of the path's file, less one for each directory between.
+-- the numbers of the directories above an entry, and its own
+abbrev pub numbers_to : List Entry → ℕ → List ℕ
+numbers_to es n = unwrap_or (option_map (λ (e : Entry). e.above) (slice_get es n)) [] ++ n ∷ []
+
+-- The number of a place: of the path's file and the directories above it, that of the one whose path has the length. Where there is none, as many as there are entries.
 unfoldable pub number_of : List Entry → IndexPlace → ℕ
-number_of es place = let n = file_number es place.path in n - slashes_in (drop place.length (path_of_number es n))
+number_of es place = unwrap_or (option_and_then (λ n. find (λ m. length (path_of_number es m) == place.length) (numbers_to es n)) (slice_get (file_numbers es) place.path)) (length es)
 
 -- how many first bytes a path has in common with the one before it
 unfoldable pub common_length : List (List ℕ) → ℕ → ℕ

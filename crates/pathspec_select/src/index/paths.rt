@@ -124,6 +124,7 @@ impl<'a> SortedPaths<'a> {
         requires { number < length self.now }
         ensures path { result.now ≡ path_at self.now number }
         ensures index { IsIndex self.now }
+        ensures bytes { (n : ℕ) → n < length self.now → IsBytes (path_at self.now n) }
         ensures few { length self.now < 2 ^ 64 }
     {
         let paths = self.paths;
