@@ -5,7 +5,7 @@ use Rattle.std.proofs.lemmas.List.{map-append}
 use Rattle.std.proofs.lemmas.List.Elements.{Contains-push}
 use Rattle.std.proofs.lemmas.Option.{same_Some, slice_get_within}
 use Rattle.std.specs.Prelude.{◌⊎◌, slice_get, Contains, unwrap_or, option_map, option_and_then, MatchOption, IfSome, IfNone}
-use Rattle.pathspec_glob.specs.Bytes.{is_one_of}
+use Rattle.pathspec_parts.specs.Bytes.{is_one_of}
 use Rattle.pathspec_parts.specs.Entries.{Entry, is_seen}
 use Rattle.pathspec_parts.specs.Trees.{IsNested, HasBytePaths}
 use Rattle.pathspec_parts.specs.Cursors.{CursorContents, number_after_place, next_seen, append_if, append_once, directory_count, IsDirectoryIn, IsEndOf, HoldsPaths, IsCursor, path_at as path_of_contents, is_dir_at, entry_at, after_enter, next_number}

@@ -28,6 +28,7 @@ pub mod IndexEntryProofs
 pub mod AboveProofs
 pub mod RunProofs
 pub mod PlaceProofs
+pub mod NumberProofs
 pub mod IndexWalkProofs
 pub mod IndexNameProofs
 pub mod IndexCheckProofs
