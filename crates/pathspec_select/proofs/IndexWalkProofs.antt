@@ -1,6 +1,6 @@
 -- A walk over sorted paths knows its place: at the start, when it goes on, at the end, and when it enters a directory.
-use Rattle.std.proofs.Common.{◌≡◌, ℕ, zero, suc, ◌+◌, ◌-◌, ◌<◌, ◌≤◌, Bool, true, false, cond, not, refl, sym, ◌∙◌, ap, subst, List, [], ◌∷◌, ◌++◌, length, get_or, take, map, ◌==◌, arith, inl, inr, Option, Some, None}
-use Rattle.std.proofs.lemmas.Bool.{cases_Bool, cases_lt, both_ways, ne_eqb, eq-eqb}
+use Rattle.std.proofs.Common.{◌≡◌, ℕ, zero, suc, ◌+◌, ◌-◌, ◌<◌, ◌≤◌, Bool, true, false, ◌&&◌, cond, not, refl, sym, ◌∙◌, ap, subst, List, [], ◌∷◌, ◌++◌, length, get_or, take, map, ◌==◌, arith, inl, inr, Option, Some, None}
+use Rattle.std.proofs.lemmas.Bool.{cases_Bool, cases_lt, both_ways, lt-ltb, ne_eqb, eq-eqb}
 use Rattle.std.proofs.lemmas.List.{map-append}
 use Rattle.std.proofs.lemmas.List.Elements.{Contains-push}
 use Rattle.std.proofs.lemmas.Option.{same_Some, slice_get_within}
@@ -13,7 +13,7 @@ use Rattle.pathspec_parts.proofs.SeenProofs.{from-one_of, one_of-from}
 use Rattle.pathspec_parts.proofs.CursorProofs.{starts, goes, goes_next, ends_as, ends_none, enters_as, room_for}
 use Rattle.pathspec_select.specs.declared.index.paths.IndexPlace.{IndexPlace}
 use Rattle.pathspec_select.specs.Listing.{listing_entries}
-use Rattle.pathspec_select.specs.Index.{path_at, number_of, path_of_place, IsIndex, IsPlace, is_front, entries_before, path_after, number_onward, IsIndexWalk}
+use Rattle.pathspec_select.specs.Index.{path_at, number_of, path_of_place, IsIndex, IsPlace, is_whole, is_front, entries_before, path_after, number_onward, IsIndexWalk}
 use Rattle.pathspec_select.proofs.NumberProofs.{IsEntryAt, entry-at-place, place-ends-at}
 use Rattle.pathspec_select.proofs.PlaceProofs.{entries_before-is, entries_before-all}
 
@@ -205,8 +205,12 @@ module _ (ps : List (List ℕ)) (at : Option IndexPlace) (entered : List IndexPl
   pub contents-path : (place : IndexPlace) → at ≡ Some place → path_of_contents contents ≡ take place.length (path_at ps place.path)
   contents-path place a = ap (λ o. unwrap_or (option_map (λ (e : Entry). e.path) o) []) (entry-is place a) ∙ (entry-there place a).1.path
 
-  pub contents-kind : (place : IndexPlace) → at ≡ Some place → (b : Bool) → b ≡ (length (path_at ps place.path) == place.length) → not b ≡ is_dir_at contents
-  contents-kind place a b e =
+  whole-is : (place : IndexPlace) → at ≡ Some place → is_whole ps place ≡ (length (path_at ps place.path) == place.length)
+  whole-is place a = ap (λ t. t && (length (path_at ps place.path) == place.length)) (lt-ltb place.path (length ps) (w.place place a).within)
+
+  pub contents-kind : (place : IndexPlace) → at ≡ Some place → (b : Bool) → b ≡ is_whole ps place → not b ≡ is_dir_at contents
+  contents-kind place a b whole =
+      let e : b ≡ (length (path_at ps place.path) == place.length) = whole ∙ whole-is place a in
       let x = entry-there place a in
       let dir : is_dir_at contents ≡ x.0.is_dir = ap (λ o. unwrap_or (option_map (λ (y : Entry). y.is_dir) o) false) (entry-is place a) in
       elim x.1.kind [
@@ -217,8 +221,9 @@ module _ (ps : List (List ℕ)) (at : Option IndexPlace) (entered : List IndexPl
         | inr q ↦ ap not (e ∙ eq-eqb (length (path_at ps place.path)) place.length (sym q.0)) ∙ sym (dir ∙ q.1)
       ]
 
-  pub not-file : (place : IndexPlace) → at ≡ Some place → (length (path_at ps place.path) == place.length) ≡ false → place.length < length (path_at ps place.path)
-  not-file place a f =
+  pub not-file : (place : IndexPlace) → at ≡ Some place → is_whole ps place ≡ false → place.length < length (path_at ps place.path)
+  not-file place a whole =
+      let f : (length (path_at ps place.path) == place.length) ≡ false = sym (whole-is place a) ∙ whole in
       let fits = (w.place place a).fits in
       elim (cases_lt place.length (length (path_at ps place.path))) [
         | inl lt ↦ lt

@@ -32,6 +32,7 @@ pub mod NumberProofs
 pub mod IndexWalkProofs
 pub mod IndexNameProofs
 pub mod IndexCheckProofs
+pub mod ChosenPathProofs
 mod ListingRows
 mod WalkRows
 mod IndexRows

@@ -59,10 +59,10 @@ module _ (ps : List (List ℕ)) (h : IsIndex ps) (nested : IsNested (listing_ent
   no_slash = all-from (λ p. (ends_with_slash p ≡ false) × AreNames NoSlash p) ps (λ k l. (plain ps h k l, no_slashes (get_or ps k [])))
 
   -- the number of the file of a path
-  abbrev file : ℕ → ℕ
+  abbrev pub file : ℕ → ℕ
   file k = base ps (plain ps h) k + implies ps k
 
-  file-entry : (k : ℕ) → k < length ps → (e : Entry) × (slice_get es (file k) ≡ Some e) × (e.path ≡ path_at ps k)
+  pub file-entry : (k : ℕ) → k < length ps → (e : Entry) × (slice_get es (file k) ≡ Some e) × (e.path ≡ path_at ps k)
   file-entry k l =
       let r = entry-at ps (plain ps h) k (implies ps k) l (omega arith) in
       (r.0, r.1, sym (ap (λ (o : Option Entry). unwrap_or (option_map (λ (e : Entry). e.path) o) []) r.1) ∙ file-path ps (plain ps h) k l)

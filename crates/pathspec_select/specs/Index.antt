@@ -1,9 +1,10 @@
 -- Paths in byte order, as a git index has them, and where a walk over them stands.
-use Rattle.std.specs.Prelude.{◌≡◌, ◌≢◌, ◌⊎◌, ℕ, ◌+◌, ◌-◌, ◌<◌, ◌≤◌, ◌^◌, Bool, true, false, not, ◌||◌, List, [], ◌∷◌, ◌++◌, ◌==◌, length, take, drop, map, min, nat_eq, nat_lt, count_by, slice_get, slice_index_or, if◌then◌else◌, Option, Some, None, option_map, option_and_then, unwrap_or, All}
+use Rattle.std.specs.Prelude.{◌≡◌, ◌≢◌, ◌⊎◌, ◌↔◌, ℕ, ◌+◌, ◌-◌, ◌<◌, ◌≤◌, ◌^◌, Bool, true, false, not, ◌&&◌, ◌||◌, List, [], ◌∷◌, ◌++◌, ◌==◌, length, take, drop, map, min, nat_eq, nat_lt, count_by, slice_get, slice_index_or, if◌then◌else◌, Option, Some, None, option_map, option_and_then, unwrap_or, Contains}
 use Rattle.std.specs.Ordering.{nat_cmp}
 use Rattle.std.specs.Cmp.Lexicographic.{slice_cmp}
 use Rattle.std.specs.declared.cmp.Ordering.TheVariants.{Less}
 use Rattle.std.specs.List.{common_prefix_len, position_or_len, find}
+use Rattle.std.specs.List.Sorted.{IsStrictlyIncreasing}
 use Rattle.pathspec_parts.specs.Bytes.{slash, begins_with, is_one_of}
 use Rattle.pathspec_parts.specs.Paths.{IsBytes, is_slash, ends_with_slash}
 use Rattle.pathspec_parts.specs.Entries.{Entry, entries_where}
@@ -76,6 +77,15 @@ path_of_place paths place = take place.length (path_at paths place.path)
 -- whether it is less than the whole path
 unfoldable pub is_front : List (List ℕ) → IndexPlace → Bool
 is_front paths place = nat_lt place.length (length (path_at paths place.path))
+
+-- whether a place is that of a whole path
+abbrev pub is_whole : List (List ℕ) → IndexPlace → Bool
+is_whole paths place = nat_lt place.path (length paths) && length (path_at paths place.path) == place.length
+
+-- The numbers of the paths that pass, each once, in order.
+pub record AreNumbersOf (passes : List ℕ → Bool) (paths : List (List ℕ)) (numbers : List ℕ) : Type 0 where
+  pub rising : IsStrictlyIncreasing numbers
+  pub are : (n : ℕ) → Contains numbers n ↔ ((n < length paths) × (passes (path_at paths n) ≡ true))
 
 -- how many entries the paths before this number make
 unfoldable pub entries_before : List (List ℕ) → ℕ → ℕ

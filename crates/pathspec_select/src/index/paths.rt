@@ -52,7 +52,7 @@ impl<'a> Model for SortedPaths<'a> {
 }
 
 impl<'a> SortedPaths<'a> {
-    ghost use Rattle.pathspec_select.specs.Index.{IsIndex, RefusesPaths, path_at, path_before, IsPlace, IsAround, number_of, entries_before, path_after};
+    ghost use Rattle.pathspec_select.specs.Index.{IsIndex, RefusesPaths, path_at, path_before, IsPlace, IsAround, is_whole, number_of, entries_before, path_after};
 
     /// Checks paths. Each has to be a file's, and greater in byte order than the one before it. A path may lie below
     /// another one, as `a/b` below `a`: that is then a file beside a directory of the same name. `dir/`, as a sparse
@@ -101,11 +101,9 @@ impl<'a> SortedPaths<'a> {
         self.paths.is_empty()
     }
 
-    /// Whether a place is that of a file: its length is that of the whole path. A number past the last path has no
-    /// file.
+    /// Whether a place is that of a file, a whole path; it isn't where there is no path with its number.
     pub fn is_file(&self, place: IndexPlace) -> bool
-        ensures { place.path < length self.now
-            → result ≡ (length (path_at self.now place.path) == place.length) }
+        ensures { result ≡ is_whole self.now place }
     {
         place.path < self.len() && self.path(place.path).len() == place.length
     }
