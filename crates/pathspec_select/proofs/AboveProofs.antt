@@ -1,6 +1,6 @@
 -- What lies above an entry whose names have no slashes: a directory for each front of its path.
-use Rattle.std.proofs.Common.{◌≡◌, ℕ, zero, suc, ◌+◌, ◌-◌, ◌<◌, ◌≤◌, Bool, true, false, cond, refl, sym, ◌∙◌, ap, subst, List, [], ◌∷◌, ◌++◌, length, take, drop, map, replicate, arith, inl, inr, append_assoc, Some}
-use Rattle.std.proofs.lemmas.Bool.{cases_Bool, eqb-true, eq-eqb, both_ways}
+use Rattle.std.proofs.Common.{◌≡◌, ℕ, zero, suc, ◌-◌, ◌<◌, true, false, cond, refl, sym, ◌∙◌, ap, subst, List, [], ◌∷◌, ◌++◌, length, drop, map, replicate, inl, inr, Some}
+use Rattle.std.proofs.lemmas.Bool.{cases_Bool, eq-eqb, both_ways}
 use Rattle.std.proofs.lemmas.List.{map-append}
 use Rattle.std.specs.Prelude.{◌⊎◌, slice_get, Contains}
 use Rattle.std.specs.List.{AllByRecursion}
@@ -8,10 +8,10 @@ use Rattle.pathspec_parts.specs.Bytes.{slash, is_empty}
 use Rattle.pathspec_parts.specs.Paths.{is_slash, join_names, IsBelow, ends_with_slash}
 use Rattle.pathspec_parts.specs.Entries.{Call, OpenDirectory, Entry, own_call, names_of, numbers_of, entry_in}
 use Rattle.pathspec_parts.specs.Entries.Call.{Open, File, Close}
-use Rattle.pathspec_parts.specs.Trees.{TreeContents, empty_tree, tree_after, tree_of_calls, AreNamed}
+use Rattle.pathspec_parts.specs.Trees.{empty_tree, tree_of_calls, AreNamed}
 use Rattle.pathspec_parts.proofs.EntryProofs.{Contains-here, Contains-later}
-use Rattle.pathspec_parts.proofs.TreeProofs.{AreOpen, LiesIn, IsBuilt, calls-built, empty-built, get-append, tree_has_entries}
-use Rattle.pathspec_select.specs.Listing.{open_after, record_is_dir, record_calls, calls_from, listing_entries, parent_names, own_names, shared_depth, implied_names}
+use Rattle.pathspec_parts.proofs.TreeProofs.{AreOpen, calls-built, empty-built, get-append, tree_has_entries}
+use Rattle.pathspec_select.specs.Listing.{open_after, record_is_dir, record_calls, calls_from, listing_entries, parent_names, own_names, shared_depth}
 use Rattle.pathspec_select.proofs.FrontProofs.{dirs, last_name, onto_front, parents-are, own-are}
 
 -- ---- names
@@ -133,10 +133,10 @@ open_at es front [] name D rest h n e = absurd (no_front name D rest n e)
 open_at es front (d ∷ directories) name D rest h n e =
     elim (first_name d.name D rest (join_names (names_of directories ++ name ∷ [])) h.1 (sym (join-cons d.name (names_of directories) name) ∙ e)) [
       | inl q ↦ (
-          d.number,
-          Contains-here d.number (numbers_of directories),
-          (entry_in front d.name true, h.0, ap (λ x. join_names (names_of front ++ x ∷ [])) (sym q)),
-        )
+        d.number,
+        Contains-here d.number (numbers_of directories),
+        (entry_in front d.name true, h.0, ap (λ x. join_names (names_of front ++ x ∷ [])) (sym q)),
+      )
       | inr q ↦
           let r = open_at es (front ++ d ∷ []) directories name q.0 rest h.2 n q.2 in
           let names : names_of (front ++ d ∷ []) ≡ names_of front ++ d.name ∷ [] = map-append (λ (o : OpenDirectory). o.name) front (d ∷ []) in (

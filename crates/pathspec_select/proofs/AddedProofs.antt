@@ -1,5 +1,5 @@
 -- What one more path adds to the entries of a listing.
-use Rattle.std.proofs.Common.{◌≡◌, ℕ, zero, suc, ◌+◌, ◌-◌, ◌<◌, ◌≤◌, Bool, true, false, not, cond, refl, sym, ◌∙◌, ap, subst, List, [], ◌∷◌, ◌++◌, length, take, drop, map, fold, replicate, count_by, arith, inl, inr, append_assoc, Some}
+use Rattle.std.proofs.Common.{◌≡◌, ℕ, zero, suc, ◌+◌, ◌-◌, ◌<◌, ◌≤◌, Bool, true, false, not, cond, refl, sym, ◌∙◌, ap, List, [], ◌∷◌, ◌++◌, length, take, drop, map, fold, replicate, arith, inl, inr, append_assoc, Some}
 use Rattle.std.proofs.lemmas.Bool.{cases_Bool}
 use Rattle.std.proofs.lemmas.List.{append-nil, map-append, length-map, length-take, length-drop, take-take, take_all, take-map, take-append-drop, take-append-le, length_push}
 use Rattle.std.proofs.lemmas.List.Sums.{common_prefix_len-le, sum_by-append, fold-append}
@@ -11,13 +11,13 @@ use Rattle.std.specs.Prelude.{◌⊎◌, slice_get, bytes_eq}
 use Rattle.std.specs.List.{common_prefix_len}
 use Rattle.pathspec_parts.specs.Bytes.{slash}
 use Rattle.pathspec_parts.specs.Paths.{pieces, join_names, ends_with_slash}
-use Rattle.pathspec_parts.specs.Entries.{Call, OpenDirectory, Entry, own_call, names_of, entry_in, entries_where}
+use Rattle.pathspec_parts.specs.Entries.{OpenDirectory, Entry, own_call, names_of, entry_in}
 use Rattle.pathspec_parts.specs.Entries.Call.{Open, File, Close}
 use Rattle.pathspec_parts.specs.Trees.{TreeContents, tree_after}
 use Rattle.pathspec_parts.specs.Cursors.{directory_count}
 use Rattle.pathspec_parts.proofs.EntryProofs.{numbers_from, numbers_from-yes, numbers_from-no}
 use Rattle.pathspec_parts.proofs.TreeProofs.{get-cases}
-use Rattle.pathspec_select.specs.Listing.{record_is_dir, parent_names, own_names, shared_depth, implied_names, record_calls}
+use Rattle.pathspec_select.specs.Listing.{record_is_dir, own_names, shared_depth, record_calls}
 use Rattle.pathspec_select.specs.Index.{slashes_in}
 use Rattle.pathspec_select.proofs.FrontProofs.{dirs, last_name, pieces-dirs, length-dirs, parents-are, own-are}
 

@@ -1,8 +1,8 @@
 -- The whole paths among the places that a walk gives are the chosen ones.
-use Rattle.std.proofs.Common.{◌≡◌, ℕ, zero, suc, ◌+◌, ◌<◌, ◌≤◌, Bool, true, false, ◌&&◌, refl, sym, ◌∙◌, ap, subst, List, [], ◌∷◌, length, get_or, map, ◌==◌, arith, inl, inr, Some}
+use Rattle.std.proofs.Common.{◌≡◌, ℕ, zero, suc, ◌+◌, ◌<◌, Bool, true, false, refl, sym, ◌∙◌, ap, subst, List, [], ◌∷◌, length, get_or, map, ◌==◌, arith, inl, inr, Some}
 use Rattle.std.proofs.lemmas.Bool.{cases_Bool, cases_lt, both_ways, and_parts, and_from, lt-ltb, eqb-true, eq-eqb}
 use Rattle.std.proofs.lemmas.Option.{same_Some, slice_get_within}
-use Rattle.std.specs.Prelude.{◌⊎◌, ◌↔◌, slice_get, filter, Contains, nat_lt}
+use Rattle.std.specs.Prelude.{slice_get, filter, Contains, nat_lt}
 use Rattle.std.specs.List.{AllByRecursion}
 use Rattle.std.specs.List.Sorted.{IsStrictlyIncreasing}
 use Rattle.pathspec_parts.specs.Entries.{Entry, entries_where}
@@ -11,9 +11,9 @@ use Rattle.pathspec_parts.proofs.EntryProofs.{Contains-here, Contains-later, Con
 use Rattle.pathspec_select.specs.declared.index.paths.IndexPlace.{IndexPlace}
 use Rattle.pathspec_select.specs.Listing.{listing_entries}
 use Rattle.pathspec_select.specs.Index.{path_at, number_of, is_whole, IsIndex, AreNumbersOf}
-use Rattle.pathspec_select.proofs.IndexEntryProofs.{base, implies, base-step, base-le, entry-at, file-path}
+use Rattle.pathspec_select.proofs.IndexEntryProofs.{implies, base-step, base-le, entry-at}
 use Rattle.pathspec_select.proofs.RunProofs.{plain}
-use Rattle.pathspec_select.proofs.NumberProofs.{file, file-entry, IsFrontOf, named-by}
+use Rattle.pathspec_select.proofs.NumberProofs.{file, file-entry, named-by}
 
 -- ---- rising numbers
 
@@ -118,10 +118,10 @@ module _ (ps : List (List ℕ)) (h : IsIndex ps) (nested : IsNested (listing_ent
         let w = whole-taken x a.0 y in
         elim (Contains-cases x.path k (wholes xs) (rw y at c)) [
           | inl e ↦ (
-              subst (λ j. j < length ps) e w.0,
-              subst (Contains (map (number_of es) (x ∷ xs))) (w.1 ∙ ap file_of e) (Contains-here (number_of es x) (map (number_of es) xs)),
-              subst (λ j. takes (path_at ps j) false ≡ true) e w.2,
-            )
+            subst (λ j. j < length ps) e w.0,
+            subst (Contains (map (number_of es) (x ∷ xs))) (w.1 ∙ ap file_of e) (Contains-here (number_of es x) (map (number_of es) xs)),
+            subst (λ j. takes (path_at ps j) false ≡ true) e w.2,
+          )
           | inr d ↦ let r = from-wholes xs a.1 k d in (r.0, Contains-later (number_of es x) (file_of k) (map (number_of es) xs) r.1, r.2)
         ]
     | inr f ↦ let r = from-wholes xs a.1 k (rw f at c) in (r.0, Contains-later (number_of es x) (file_of k) (map (number_of es) xs) r.1, r.2)
@@ -142,9 +142,9 @@ module _ (ps : List (List ℕ)) (h : IsIndex ps) (nested : IsNested (listing_ent
             ] in
             absurd (both_ways n.1.entry.is_dir (ap (λ (x : Entry). x.is_dir) same ∙ kind_is) q.1)
         | inr q ↦ (
-            and_from (nat_lt place.path (length ps)) (length (path_at ps place.path) == place.length) (lt-ltb place.path (length ps) n.0) (eq-eqb (length (path_at ps place.path)) place.length (sym q.0)),
-            file-same place.path k n.0 l (sym q.1 ∙ e),
-          )
+          and_from (nat_lt place.path (length ps)) (length (path_at ps place.path) == place.length) (lt-ltb place.path (length ps) n.0) (eq-eqb (length (path_at ps place.path)) place.length (sym q.0)),
+          file-same place.path k n.0 l (sym q.1 ∙ e),
+        )
       ]
 
   to-wholes : (xs : List IndexPlace) → AllByRecursion IsTaken xs → (k : ℕ) → k < length ps → Contains (map (number_of es) xs) (file_of k) → Contains (wholes xs) k
@@ -172,10 +172,10 @@ module _ (ps : List (List ℕ)) (h : IsIndex ps) (nested : IsNested (listing_ent
         | inl y ↦
             let w = whole-taken x a.0 y in
             rw y (rising_cons x.path (wholes xs) (λ m c.
-                let q = from-wholes xs a.1 m c in
-                let less = rising_first (number_of es x) (map (number_of es) xs) r (file_of m) q.1 in
-                let n = w.1 in
-                file-less x.path m w.0 q.0 (omega (arith, less, n))) rest)
+            let q = from-wholes xs a.1 m c in
+            let less = rising_first (number_of es x) (map (number_of es) xs) r (file_of m) q.1 in
+            let n = w.1 in
+            file-less x.path m w.0 q.0 (omega (arith, less, n))) rest)
       ]
 
   -- What is given is just what is taken: then its whole paths are just those that are taken as files.

@@ -1,15 +1,14 @@
 -- Fronts of paths: the names before their slashes, and what two paths share.
-use Rattle.std.proofs.Common.{◌≡◌, ℕ, zero, suc, ◌+◌, ◌-◌, ◌<◌, ◌≤◌, Bool, true, false, not, ◌&&◌, cond, refl, sym, ◌∙◌, ap, subst, List, [], ◌∷◌, ◌++◌, length, get_or, take, drop, nat_eq, count_by, arith, inl, inr}
+use Rattle.std.proofs.Common.{◌≡◌, ℕ, zero, suc, ◌+◌, ◌-◌, ◌≤◌, true, false, cond, refl, sym, ◌∙◌, ap, subst, List, [], ◌∷◌, ◌++◌, length, get_or, take, drop, nat_eq, arith, inl, inr}
 use Rattle.std.proofs.lemmas.Bool.{cases_Bool, eqb-true, eq-eqb, both_ways}
 use Rattle.std.proofs.lemmas.List.{take_at, drop_at, length_push, take-append-drop}
-use Rattle.std.proofs.lemmas.List.Sums.{sum_by-append, common_prefix_len-le}
+use Rattle.std.proofs.lemmas.List.Sums.{sum_by-append}
 use Rattle.std.proofs.lemmas.List.Splits.{length-slice_split}
-use Rattle.std.proofs.Math.Numerals.{one-add, add-one}
 use Rattle.std.proofs.Math.Seq.{take-add}
 use Rattle.std.specs.Prelude.{◌⊎◌, bytes_eq}
-use Rattle.std.specs.List.{slice_split, onto_first, common_prefix_len, position_or_len}
+use Rattle.std.specs.List.{onto_first, common_prefix_len, position_or_len}
 use Rattle.pathspec_parts.specs.Bytes.{slash, is_empty}
-use Rattle.pathspec_parts.specs.Paths.{is_slash, pieces, join_names, ends_with_slash, without_last_slash}
+use Rattle.pathspec_parts.specs.Paths.{is_slash, pieces, join_names, ends_with_slash}
 use Rattle.pathspec_select.specs.Listing.{record_path, record_names, parent_names, own_names, shared_depth}
 use Rattle.pathspec_select.specs.Index.{slashes_in}
 

@@ -1,21 +1,19 @@
 -- One more path that is checked.
-use Rattle.std.proofs.Common.{◌≡◌, ℕ, zero, suc, ◌+◌, ◌-◌, ◌<◌, ◌≤◌, ◌^◌, Bool, true, false, min, nat_eq, refl, sym, ◌∙◌, ap, subst, List, [], ◌∷◌, ◌++◌, length, get_or, take, drop, map, arith, inl, inr}
+use Rattle.std.proofs.Common.{◌≡◌, ℕ, zero, suc, ◌+◌, ◌-◌, ◌<◌, true, false, nat_eq, refl, sym, ◌∙◌, ap, List, [], length, take, drop, arith, inl, inr}
 use Rattle.std.proofs.lemmas.Bool.{cases_lt}
-use Rattle.std.proofs.lemmas.List.{length-take-le, take-take, take_all, length-append}
+use Rattle.std.proofs.lemmas.List.{length-take-le, take-take, take_all}
 use Rattle.std.proofs.Math.Seq.{get_or-take}
 use Rattle.std.specs.Ordering.{nat_cmp, is_lt}
 use Rattle.std.specs.Cmp.Lexicographic.{slice_cmp}
 use Rattle.std.specs.declared.cmp.Ordering.{Ordering}
 use Rattle.std.specs.declared.cmp.Ordering.TheVariants.{Less, Equal, Greater}
 use Rattle.std.specs.List.{common_prefix_len}
-use Rattle.pathspec_parts.specs.Entries.{Entry}
-use Rattle.pathspec_parts.specs.Paths.{ends_with_slash}
 use Rattle.pathspec_parts.specs.Cursors.{directory_count}
 use Rattle.pathspec_select.specs.Listing.{listing_entries}
 use Rattle.pathspec_select.specs.Index.{is_file_path, path_at, path_before, common_length, slashes_in, IsIndex}
 use Rattle.pathspec_select.proofs.FrontProofs.{slashes-parts}
 use Rattle.pathspec_select.proofs.AddedProofs.{directories-append}
-use Rattle.pathspec_select.proofs.IndexEntryProofs.{implies, Adds, adds-at}
+use Rattle.pathspec_select.proofs.IndexEntryProofs.{implies, adds-at}
 use Rattle.pathspec_select.proofs.RunProofs.{plain}
 
 pub less-from : (o : Ordering) → is_lt o ≡ true → o ≡ Less

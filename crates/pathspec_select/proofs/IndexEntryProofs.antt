@@ -1,15 +1,14 @@
 -- The entries of paths without a slash at their ends: which path makes which of them, and their numbers.
-use Rattle.std.proofs.Common.{◌≡◌, ℕ, zero, suc, ◌+◌, ◌-◌, ◌<◌, ◌≤◌, Bool, true, false, not, cond, refl, sym, ◌∙◌, ap, subst, List, [], ◌∷◌, ◌++◌, length, get_or, take, drop, map, fold, nat_lt, nat_eq, arith, inl, inr, append_assoc, Some}
-use Rattle.std.proofs.lemmas.Bool.{cases_Bool, cases_lt, lt-ltb, le-ltb}
-use Rattle.std.proofs.lemmas.List.{append-nil, length-append, length_push, take-append-drop, take_all, take_more, get_or_push, get_or_append_left, length-take-le}
+use Rattle.std.proofs.Common.{◌≡◌, ℕ, zero, suc, ◌+◌, ◌-◌, ◌<◌, ◌≤◌, true, false, cond, refl, sym, ◌∙◌, ap, subst, List, [], ◌∷◌, ◌++◌, length, get_or, take, drop, fold, nat_eq, arith, inl, inr, append_assoc, Some}
+use Rattle.std.proofs.lemmas.Bool.{cases_lt}
+use Rattle.std.proofs.lemmas.List.{append-nil, length-append, length_push, take-append-drop, take_all, get_or_push, get_or_append_left}
 use Rattle.std.proofs.lemmas.List.Sums.{common_prefix_len-le, fold-append, count_by_more_yes}
-use Rattle.std.proofs.lemmas.Option.{same_Some, slice_get_within, slice_get-get_or}
+use Rattle.std.proofs.lemmas.Option.{slice_get-get_or}
 use Rattle.std.proofs.Math.Seq.{take-suc}
-use Rattle.std.specs.Prelude.{◌⊎◌, slice_get, slice_index_or, unwrap_or, option_map}
-use Rattle.std.specs.List.{common_prefix_len}
+use Rattle.std.specs.Prelude.{◌⊎◌, slice_get, unwrap_or, option_map}
 use Rattle.pathspec_parts.specs.Bytes.{slash}
 use Rattle.pathspec_parts.specs.Paths.{is_slash, pieces, join_names, ends_with_slash}
-use Rattle.pathspec_parts.specs.Entries.{Call, OpenDirectory, Entry, names_of, entry_in, entries_where}
+use Rattle.pathspec_parts.specs.Entries.{Call, Entry, names_of, entry_in, entries_where}
 use Rattle.pathspec_parts.specs.Entries.Call.{Open, File, Close}
 use Rattle.pathspec_parts.specs.Trees.{TreeContents, empty_tree, tree_after, tree_of_calls}
 use Rattle.pathspec_parts.specs.Cursors.{directory_count}
@@ -17,7 +16,7 @@ use Rattle.pathspec_parts.proofs.EntryProofs.{numbers_from}
 use Rattle.pathspec_parts.proofs.TreeProofs.{tree_has_entries, get-append}
 use Rattle.pathspec_select.specs.declared.index.paths.IndexPlace.{IndexPlace}
 use Rattle.pathspec_select.specs.Listing.{open_after, record_calls, calls_from, listing_entries, record_names, parent_names, shared_depth}
-use Rattle.pathspec_select.specs.Index.{path_at, path_before, common_length, slashes_in, file_numbers, path_of_number, IsPlace, path_of_place, is_front, entries_before}
+use Rattle.pathspec_select.specs.Index.{path_at, path_before, common_length, slashes_in, file_numbers, path_of_number, IsPlace}
 use Rattle.pathspec_select.proofs.FrontProofs.{dirs, parents-are, shared-dirs, slashes-parts, slashes-longer, front-names, front-with}
 use Rattle.pathspec_select.proofs.AddedProofs.{tree_of, adds, added, added-at, added-count, added-directories, added-files, parents, parents-names, is_file, files-append}
 
@@ -160,9 +159,11 @@ module _ (ps : List (List ℕ)) (plain : (k : ℕ) → k < length ps → ends_wi
   front-of k =
       let calls : calls_from [] ps ≡ calls_from [] (take k ps) ++ calls_from (names_after [] (take k ps)) (drop k ps) = ap (calls_from []) (sym (take-append-drop k ps)) ∙ calls_from-append [] (take k ps) (drop k ps) in
       let later = calls_from (names_after [] (take k ps)) (drop k ps) in
-      let x = fold-extends later (tree k) in
-      (x.0, sym (tree_has_entries (calls_from [] ps)) ∙ (ap (λ (t : TreeContents). t.entries) (ap tree_of_calls calls ∙ fold-append tree_after empty_tree (calls_from [] (take k ps)) later)
-      ∙ (x.1 ∙ ap (λ t. t ++ x.0) (tree_has_entries (calls_from [] (take k ps))))))
+      let x = fold-extends later (tree k) in (
+        x.0,
+        sym (tree_has_entries (calls_from [] ps)) ∙ (ap (λ (t : TreeContents). t.entries) (ap tree_of_calls calls ∙ fold-append tree_after empty_tree (calls_from [] (take k ps)) later)
+            ∙ (x.1 ∙ ap (λ t. t ++ x.0) (tree_has_entries (calls_from [] (take k ps))))),
+      )
 
   pub base-within : (k : ℕ) → base k ≤ length es
   base-within k = let f = front-of k in let s = ap length f.1 ∙ length-append (listing_entries (take k ps)) f.0 in omega (arith, s)
@@ -272,28 +273,30 @@ module _ (ps : List (List ℕ)) (plain : (k : ℕ) → k < length ps → ends_wi
       let c = slashes_in (take place.length p) - shares ps k in
       let r = entry-at k c h.within (omega (arith, parts)) in
       let at : (shares ps k + c) + 1 ≡ slashes_in (take place.length p) + 1 = omega (arith, s) in
-      let all : length p ≤ place.length → slashes_in (take place.length p) ≡ slashes_in p = λ le. ap slashes_in (take_all place.length p le) in
-      (r.0, record {
-        stands = r.1;
-        path = r.2 ∙ (ap (λ n. join_names (take n (pieces p))) at ∙ front-names p place.length h.fits h.cut);
-        kind = elim r.3 [
-          | inl q ↦ elim (cases_lt place.length (length p)) [
-            | inl lt ↦ inl (lt, q.1)
-            | inr ge ↦ let w = all ge in let v = q.0 in absurd (omega (arith, w, v))
-          ]
-          | inr q ↦ elim (cases_lt place.length (length p)) [
-            | inl lt ↦ elim h.cut [
-              | inl e ↦ absurd (omega (arith, e, lt))
-              | inr e ↦
-                  let more = count_by_more_yes is_slash p place.length 0 lt (is-slash (get_or p place.length 0) e) in
-                  let longer = slashes-parts (place.length + 1) p in
-                  let v = q.0 in
-                  absurd (omega (arith, more, longer, v, s))
+      let all : length p ≤ place.length → slashes_in (take place.length p) ≡ slashes_in p = λ le. ap slashes_in (take_all place.length p le) in (
+        r.0,
+        record {
+          stands = r.1;
+          path = r.2 ∙ (ap (λ n. join_names (take n (pieces p))) at ∙ front-names p place.length h.fits h.cut);
+          kind = elim r.3 [
+            | inl q ↦ elim (cases_lt place.length (length p)) [
+              | inl lt ↦ inl (lt, q.1)
+              | inr ge ↦ let w = all ge in let v = q.0 in absurd (omega (arith, w, v))
             ]
-            | inr ge ↦ inr (let f = h.fits in omega (arith, f, ge), q.1)
-          ]
-        ];
-      })
+            | inr q ↦ elim (cases_lt place.length (length p)) [
+              | inl lt ↦ elim h.cut [
+                | inl e ↦ absurd (omega (arith, e, lt))
+                | inr e ↦
+                    let more = count_by_more_yes is_slash p place.length 0 lt (is-slash (get_or p place.length 0) e) in
+                    let longer = slashes-parts (place.length + 1) p in
+                    let v = q.0 in
+                    absurd (omega (arith, more, longer, v, s))
+              ]
+              | inr ge ↦ inr (let f = h.fits in omega (arith, f, ge), q.1)
+            ]
+          ];
+        },
+      )
     where
       is-slash : (b : ℕ) → b ≡ slash → is_slash b ≡ true
       is-slash b e = ap is_slash e

@@ -1,19 +1,19 @@
 -- A walk over sorted paths knows its place: at the start, when it goes on, at the end, and when it enters a directory.
-use Rattle.std.proofs.Common.{◌≡◌, ℕ, zero, suc, ◌+◌, ◌-◌, ◌<◌, ◌≤◌, Bool, true, false, ◌&&◌, cond, not, refl, sym, ◌∙◌, ap, subst, List, [], ◌∷◌, ◌++◌, length, get_or, take, map, ◌==◌, arith, inl, inr, Option, Some, None}
+use Rattle.std.proofs.Common.{◌≡◌, ℕ, zero, suc, ◌+◌, ◌<◌, ◌≤◌, Bool, true, false, ◌&&◌, cond, not, refl, sym, ◌∙◌, ap, subst, List, [], ◌∷◌, ◌++◌, length, take, map, ◌==◌, arith, inl, inr, Option, Some, None}
 use Rattle.std.proofs.lemmas.Bool.{cases_Bool, cases_lt, both_ways, lt-ltb, ne_eqb, eq-eqb}
 use Rattle.std.proofs.lemmas.List.{map-append}
 use Rattle.std.proofs.lemmas.List.Elements.{Contains-push}
-use Rattle.std.proofs.lemmas.Option.{same_Some, slice_get_within}
-use Rattle.std.specs.Prelude.{◌⊎◌, slice_get, Contains, unwrap_or, option_map, option_and_then, MatchOption, IfSome, IfNone}
+use Rattle.std.proofs.lemmas.Option.{same_Some}
+use Rattle.std.specs.Prelude.{slice_get, Contains, unwrap_or, option_map, option_and_then, MatchOption, IfSome, IfNone}
 use Rattle.pathspec_parts.specs.Bytes.{is_one_of}
-use Rattle.pathspec_parts.specs.Entries.{Entry, is_seen}
+use Rattle.pathspec_parts.specs.Entries.{Entry}
 use Rattle.pathspec_parts.specs.Trees.{IsNested, HasBytePaths}
 use Rattle.pathspec_parts.specs.Cursors.{CursorContents, number_after_place, next_seen, append_if, append_once, directory_count, IsDirectoryIn, IsEndOf, HoldsPaths, IsCursor, path_at as path_of_contents, is_dir_at, entry_at, after_enter, next_number}
 use Rattle.pathspec_parts.proofs.SeenProofs.{from-one_of, one_of-from}
 use Rattle.pathspec_parts.proofs.CursorProofs.{starts, goes, goes_next, ends_as, ends_none, enters_as, room_for}
 use Rattle.pathspec_select.specs.declared.index.paths.IndexPlace.{IndexPlace}
 use Rattle.pathspec_select.specs.Listing.{listing_entries}
-use Rattle.pathspec_select.specs.Index.{path_at, number_of, path_of_place, IsIndex, IsPlace, is_whole, is_front, entries_before, path_after, number_onward, IsIndexWalk}
+use Rattle.pathspec_select.specs.Index.{path_at, number_of, path_of_place, IsIndex, IsPlace, is_whole, entries_before, path_after, number_onward, IsIndexWalk}
 use Rattle.pathspec_select.proofs.NumberProofs.{IsEntryAt, entry-at-place, place-ends-at}
 use Rattle.pathspec_select.proofs.PlaceProofs.{entries_before-is, entries_before-all}
 
@@ -142,11 +142,14 @@ module _ (ps : List (List ℕ)) (at : Option IndexPlace) (entered : List IndexPl
 
     is_directory : IsDirectoryIn es (number place)
     is_directory =
-        let x = entry-there place a in
-        (x.0, x.1.stands, elim x.1.kind [
-          | inl q ↦ q.1
-          | inr q ↦ let e = q.0 in absurd (omega (arith, e, dir))
-        ])
+        let x = entry-there place a in (
+          x.0,
+          x.1.stands,
+          elim x.1.kind [
+            | inl q ↦ q.1
+            | inr q ↦ let e = q.0 in absurd (omega (arith, e, dir))
+          ],
+        )
 
     pub has-room : is_entered ≡ false → length entered < room
     has-room f =

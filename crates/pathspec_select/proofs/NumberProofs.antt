@@ -1,6 +1,6 @@
 -- The number of a place, as it is defined, is that of the place's entry.
-use Rattle.std.proofs.Common.{◌≡◌, ℕ, zero, suc, ◌+◌, ◌-◌, ◌<◌, ◌≤◌, Bool, true, false, refl, sym, ◌∙◌, ap, subst, List, [], ◌∷◌, ◌++◌, length, get_or, take, drop, ◌==◌, arith, append_assoc, inl, inr, Option, Some, None}
-use Rattle.std.proofs.lemmas.Bool.{cases_Bool, cases_lt, both_ways, eqb-true, eq-eqb}
+use Rattle.std.proofs.Common.{◌≡◌, ℕ, zero, suc, ◌+◌, ◌<◌, ◌≤◌, Bool, true, false, refl, sym, ◌∙◌, ap, subst, List, [], ◌∷◌, ◌++◌, length, get_or, take, drop, ◌==◌, arith, append_assoc, inl, inr, Option, Some, None, not, ◌&&◌}
+use Rattle.std.proofs.lemmas.Bool.{cases_Bool, both_ways, eqb-true, eq-eqb, ne_eqb, lt-ltb}
 use Rattle.std.proofs.lemmas.List.{take_all, take_at, take-append-drop, length-append, length-take-le}
 use Rattle.std.proofs.lemmas.List.Elements.{Contains-append_left, Contains-push, Contains-push_cases}
 use Rattle.std.proofs.lemmas.Option.{same_Some, slice_get_within}
@@ -14,9 +14,9 @@ use Rattle.pathspec_parts.specs.Cursors.{IsEndOf}
 use Rattle.pathspec_parts.proofs.EntryProofs.{Contains-here, Contains-later}
 use Rattle.pathspec_select.specs.declared.index.paths.IndexPlace.{IndexPlace}
 use Rattle.pathspec_select.specs.Listing.{listing_entries}
-use Rattle.pathspec_select.specs.Index.{path_at, common_length, slashes_in, file_numbers, path_of_number, numbers_to, number_of, IsIndex, IsPlace, entries_before, path_after}
+use Rattle.pathspec_select.specs.Index.{path_at, common_length, slashes_in, file_numbers, path_of_number, numbers_to, number_of, IsIndex, IsPlace, entries_before, path_after, is_whole}
 use Rattle.pathspec_select.proofs.AboveProofs.{NoSlash, AreNames, ArePlain, no_slashes, fronts_above}
-use Rattle.pathspec_select.proofs.IndexEntryProofs.{base, implies, shares-le, file-number, file-count, file-path, number_at, entry-of, entry-at, place-of}
+use Rattle.pathspec_select.proofs.IndexEntryProofs.{base, implies, file-number, file-count, file-path, number_at, entry-of, entry-at, place-of}
 use Rattle.pathspec_select.proofs.RunProofs.{plain, front-slash, one-place, place-ends}
 use Rattle.pathspec_select.proofs.PlaceProofs.{slash_from, first-place-at, inner-place-at, entries_before-is}
 
@@ -162,21 +162,23 @@ module _ (ps : List (List ℕ)) (h : IsIndex ps) (nested : IsNested (listing_ent
   there-is place p =
       let y = entry-of ps (plain ps h) place p in
       let long : length (path_of_number es (at place)) ≡ place.length = ap length (path-is (at place) y.0 y.1.stands ∙ y.1.path) ∙ length-take-le place.length (path_at ps place.path) p.fits in
-      let x = file-entry place.path p.within in
-      (subst (λ t. Contains t (at place)) (sym (numbers-are place.path x.0 x.1)) (elim y.1.kind [
-        | inr q ↦
-            let whole = ap slashes_in (take_all place.length (path_at ps place.path) (let e = q.0 in omega (arith, e))) in
-            let same : file place.path ≡ at place = omega (arith, whole) in
-            subst (Contains (x.0.above ++ file place.path ∷ [])) same (Contains-push x.0.above (file place.path))
-        | inl q ↦
-            let lt = q.0 in
-            let below : IsBelow x.0.path (take place.length (path_at ps place.path)) = (drop (place.length + 1) (path_at ps place.path), x.2 ∙ cut place p lt) in
-            let a = fronts_above ps no_slash (file place.path) x.0 (take place.length (path_at ps place.path)) x.1 below in
-            let c : Contains (x.0.above ++ file place.path ∷ []) a.0 = Contains-append_left x.0.above (file place.path ∷ []) a.0 a.1 in
-            let al : length (path_of_number es a.0) ≡ place.length = ap length (path-is a.0 a.2.0 a.2.1 ∙ a.2.2) ∙ length-take-le place.length (path_at ps place.path) p.fits in
-            let k = only-one place p a.0 (subst (λ t. Contains t a.0) (sym (numbers-are place.path x.0 x.1)) c) al in
-            subst (Contains (x.0.above ++ file place.path ∷ [])) k c
-      ]), long)
+      let x = file-entry place.path p.within in (
+        subst (λ t. Contains t (at place)) (sym (numbers-are place.path x.0 x.1)) (elim y.1.kind [
+          | inr q ↦
+              let whole = ap slashes_in (take_all place.length (path_at ps place.path) (let e = q.0 in omega (arith, e))) in
+              let same : file place.path ≡ at place = omega (arith, whole) in
+              subst (Contains (x.0.above ++ file place.path ∷ [])) same (Contains-push x.0.above (file place.path))
+          | inl q ↦
+              let lt = q.0 in
+              let below : IsBelow x.0.path (take place.length (path_at ps place.path)) = (drop (place.length + 1) (path_at ps place.path), x.2 ∙ cut place p lt) in
+              let a = fronts_above ps no_slash (file place.path) x.0 (take place.length (path_at ps place.path)) x.1 below in
+              let c : Contains (x.0.above ++ file place.path ∷ []) a.0 = Contains-append_left x.0.above (file place.path ∷ []) a.0 a.1 in
+              let al : length (path_of_number es a.0) ≡ place.length = ap length (path-is a.0 a.2.0 a.2.1 ∙ a.2.2) ∙ length-take-le place.length (path_at ps place.path) p.fits in
+              let k = only-one place p a.0 (subst (λ t. Contains t a.0) (sym (numbers-are place.path x.0 x.1)) c) al in
+              subst (Contains (x.0.above ++ file place.path ∷ [])) k c
+        ]),
+        long,
+      )
     where
       cut : (q : IndexPlace) → IsPlace ps q → q.length < length (path_at ps q.path) → path_at ps q.path ≡ take q.length (path_at ps q.path) ++ slash ∷ drop (q.length + 1) (path_at ps q.path)
       cut q g lt =
@@ -219,3 +221,31 @@ module _ (ps : List (List ℕ)) (h : IsIndex ps) (nested : IsNested (listing_ent
   inner-place place l p lt e =
       let r = inner-place-at ps h place l p lt e in
       (r.0, number-is (record { path = place.path; length = l }) r.0 ∙ (r.1 ∙ ap (λ n. n + 1) (sym (number-is place p))))
+
+  -- ---- what a number tells of its place
+
+  -- the entry with the number of a place is a front of its path
+  pub place-path : (place : IndexPlace) (e : Entry) → slice_get es (number_of es place) ≡ Some e → (place.path < length ps) × (place.length ≤ length (path_at ps place.path)) × (take place.length (path_at ps place.path) ≡ e.path)
+  place-path place e s =
+      let n = named-by place (number_of es place) refl (slice_get_within es (number_of es place) e s) in
+      (n.0, n.1.fits, sym n.1.path ∙ ap (λ (x : Entry). x.path) (same_Some n.1.entry e (sym n.1.stands ∙ s)))
+
+  -- and a file just where that is whole
+  pub place-kind : (place : IndexPlace) (e : Entry) → slice_get es (number_of es place) ≡ Some e → is_whole ps place ≡ not e.is_dir
+  place-kind place e s =
+      let n = named-by place (number_of es place) refl (slice_get_within es (number_of es place) e s) in
+      let same : n.1.entry ≡ e = same_Some n.1.entry e (sym n.1.stands ∙ s) in
+      let test : is_whole ps place ≡ (length (path_at ps place.path) == place.length) = ap (λ t. t && (length (path_at ps place.path) == place.length)) (lt-ltb place.path (length ps) n.0) in
+      elim n.1.kind [
+        | inl q ↦
+            let less = q.0 in
+            test ∙ (ne_eqb (length (path_at ps place.path)) place.length (λ z. omega (arith, z, less)) ∙ sym (ap not (sym (ap (λ (x : Entry). x.is_dir) same) ∙ q.1)))
+        | inr q ↦
+            let r = entry-at ps (plain ps h) place.path (implies ps place.path) n.0 (omega arith) in
+            let file_is : e ≡ r.0 = same_Some e r.0 (sym s ∙ (ap (slice_get es) q.1 ∙ r.1)) in
+            let kind_is : r.0.is_dir ≡ false = elim r.3 [
+              | inl z ↦ let off = z.0 in absurd (omega (arith, off))
+              | inr z ↦ z.1
+            ] in
+            test ∙ (eq-eqb (length (path_at ps place.path)) place.length (sym q.0) ∙ sym (ap not (ap (λ (x : Entry). x.is_dir) file_is ∙ kind_is)))
+      ]

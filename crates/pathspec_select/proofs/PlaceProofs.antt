@@ -1,18 +1,17 @@
 -- The place that comes next: the first of a path, and the first in a directory.
-use Rattle.std.proofs.Common.{◌≡◌, ℕ, ◌+◌, ◌-◌, ◌<◌, ◌≤◌, true, false, refl, sym, ◌∙◌, ap, subst, List, [], ◌∷◌, length, get_or, take, drop, nat_eq, arith, inl, inr, Some, None}
+use Rattle.std.proofs.Common.{◌≡◌, ℕ, ◌+◌, ◌<◌, ◌≤◌, true, refl, sym, ◌∙◌, ap, List, length, get_or, take, drop, nat_eq, arith, inl, inr}
 use Rattle.std.proofs.lemmas.Bool.{ltb-true}
 use Rattle.std.proofs.lemmas.List.{length-drop, drop-drop, get_or-drop, take_all}
 use Rattle.std.proofs.lemmas.List.Sums.{common_prefix_len-le, count_by_more_yes}
 use Rattle.std.specs.Prelude.{◌⊎◌}
-use Rattle.std.specs.List.{common_prefix_len, position_or_len}
+use Rattle.std.specs.List.{position_or_len}
 use Rattle.pathspec_parts.specs.Bytes.{slash}
 use Rattle.pathspec_parts.specs.Paths.{is_slash}
-use Rattle.pathspec_parts.specs.Entries.{Entry}
 use Rattle.pathspec_select.specs.declared.index.paths.IndexPlace.{IndexPlace}
 use Rattle.pathspec_select.specs.Listing.{listing_entries}
 use Rattle.pathspec_select.specs.Index.{path_at, path_before, common_length, slashes_in, IsIndex, IsPlace, is_front, entries_before}
 use Rattle.pathspec_select.proofs.FrontProofs.{next-slash, slashes-parts}
-use Rattle.pathspec_select.proofs.IndexEntryProofs.{base, number_at, fresh-shares}
+use Rattle.pathspec_select.proofs.IndexEntryProofs.{number_at, fresh-shares}
 use Rattle.pathspec_select.proofs.RunProofs.{plain}
 
 pub entries_before-is : (ps : List (List ℕ)) (n : ℕ) → entries_before ps n ≡ length (listing_entries (take n ps))

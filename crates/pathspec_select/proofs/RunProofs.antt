@@ -1,30 +1,29 @@
 -- In byte order the paths below a directory are one run, so the entries of a directory end where that run ends.
 use Rattle.std.proofs.Common.{◌≡◌, ℕ, zero, suc, ◌+◌, ◌-◌, ◌<◌, ◌≤◌, Bool, true, false, not, ◌||◌, cond, refl, sym, ◌∙◌, ap, subst, List, [], ◌∷◌, ◌++◌, length, get_or, take, drop, nat_eq, arith, inl, inr, append_assoc, Some}
-use Rattle.std.proofs.lemmas.Bool.{cases_Bool, cases_lt, lt-ltb, le-ltb, eq-eqb, both_ways}
-use Rattle.std.proofs.lemmas.List.{take-append-drop, take_more, take_all, length-append, length-take-le, length-drop, get_or-drop}
+use Rattle.std.proofs.lemmas.Bool.{cases_lt, lt-ltb, le-ltb, eq-eqb, both_ways}
+use Rattle.std.proofs.lemmas.List.{take-append-drop, take_more, take_all, length-take-le, length-drop, get_or-drop}
 use Rattle.std.proofs.lemmas.List.Sums.{fails_before_first, passes_at_first, position_or_len_is, prefix_len-le-length}
 use Rattle.std.proofs.lemmas.Slice.Eq.{bytes_eq-Decides}
 use Rattle.std.proofs.lemmas.Cmp.{nat_list_cmp_total}
 use Rattle.std.proofs.lemmas.Option.{same_Some, slice_get_within}
 use Rattle.std.proofs.Math.Seq.{take-append_seam, take-append-add}
-use Rattle.std.specs.Prelude.{◌⊎◌, ◌↔◌, slice_get, Contains}
+use Rattle.std.specs.Prelude.{slice_get, Contains}
 use Rattle.std.specs.Ordering.{nat_cmp}
 use Rattle.std.specs.Cmp.{nat_cmp_is}
 use Rattle.std.specs.Cmp.Lexicographic.{slice_cmp}
-use Rattle.std.specs.declared.cmp.Ordering.{Ordering}
 use Rattle.std.specs.declared.cmp.Ordering.TheVariants.{Less, Equal, Greater}
 use Rattle.std.specs.List.{common_prefix_len, position_or_len}
 use Rattle.pathspec_parts.specs.Bytes.{slash, begins_with}
-use Rattle.pathspec_parts.specs.Paths.{IsBelow, ends_with_slash}
+use Rattle.pathspec_parts.specs.Paths.{ends_with_slash}
 use Rattle.pathspec_parts.specs.Entries.{Entry}
 use Rattle.pathspec_parts.specs.Trees.{IsNested}
 use Rattle.pathspec_parts.specs.Cursors.{IsEndOf}
 use Rattle.pathspec_select.specs.declared.index.paths.IndexPlace.{IndexPlace}
 use Rattle.pathspec_select.specs.Listing.{is_bad, listing_entries}
-use Rattle.pathspec_select.specs.Index.{is_file_path, path_at, path_before, common_length, slashes_in, IsIndex, IsPlace, IsAround, is_front, run_end, path_after}
+use Rattle.pathspec_select.specs.Index.{is_file_path, path_at, common_length, slashes_in, IsIndex, IsPlace, IsAround, is_front, run_end, path_after}
 use Rattle.pathspec_select.proofs.FrontProofs.{slashes-longer, slashes-parts}
 use Rattle.pathspec_select.proofs.AboveProofs.{NoSlash, ArePlain, fronts_above}
-use Rattle.pathspec_select.proofs.IndexEntryProofs.{base, base-step, base-le, shares, implies, shares-le, fresh-shares, number_at, IsEntryOfPlace, entry-of, place-of}
+use Rattle.pathspec_select.proofs.IndexEntryProofs.{base, base-step, base-le, shares, shares-le, number_at, entry-of, place-of}
 
 -- ---- fronts
 
@@ -239,17 +238,19 @@ module _ (ps : List (List ℕ)) (h : IsIndex ps) where
         let s = base-step ps plain place.path p.within in
         let whole = ap slashes_in (take_all place.length (path_at ps place.path) (omega (arith, e))) in
         let le = shares-le ps plain place.path in
-        let x = entry-of ps plain place p in
-        (omega (arith, s, whole, le), λ j f lt there. (
-          λ c.
-              let a = nested.above j (number place) f there c in
-              let same : a.directory ≡ x.0 = same_Some a.directory x.0 (sym a.stands ∙ x.1.stands) in
-              elim x.1.kind [
-                | inl q ↦ let v = q.0 in absurd (omega (arith, v, e))
-                | inr q ↦ absurd (both_ways x.0.is_dir q.1 (ap (λ (y : Entry). y.is_dir) (sym same) ∙ a.is_dir))
-              ],
-          λ b. absurd (omega (arith, s, whole, le, lt, b)),
-        ))
+        let x = entry-of ps plain place p in (
+          omega (arith, s, whole, le),
+          λ j f lt there. (
+            λ c.
+                let a = nested.above j (number place) f there c in
+                let same : a.directory ≡ x.0 = same_Some a.directory x.0 (sym a.stands ∙ x.1.stands) in
+                elim x.1.kind [
+                  | inl q ↦ let v = q.0 in absurd (omega (arith, v, e))
+                  | inr q ↦ absurd (both_ways x.0.is_dir q.1 (ap (λ (y : Entry). y.is_dir) (sym same) ∙ a.is_dir))
+                ],
+            λ b. absurd (omega (arith, s, whole, le, lt, b)),
+          ),
+        )
 
     module _ (place : IndexPlace) (p : IsPlace ps place) (lt : place.length < length (path_at ps place.path)) where
       abbrev front : List ℕ

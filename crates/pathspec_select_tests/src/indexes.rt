@@ -1,7 +1,8 @@
 //! Walks over sorted paths, as a git index has them, beside a cursor over the tree of the same paths.
+use bstr::BStr;
 use gix_pathspec::Search;
 use pathspec_parts::tree::{Cursor, Walk as _};
-use pathspec_select::index::{IndexError, IndexPlace, IndexWalk, SortedPaths};
+use pathspec_select::index::{IndexError, IndexPlace, IndexWalk, SortedPaths, chosen_paths};
 use pathspec_select::listing::read;
 use pathspec_select::select;
 use pathspec_test_support::look_ups::Marks;
@@ -10,7 +11,7 @@ use std::alloc::{AllocError, Global};
 use std::test::Fail;
 
 /// The bytes of texts.
-fn bytes_of<'t>(alloc: Global, texts: &'t [&'t str]) -> Result<Vec<&'t [u8]>, AllocError> {
+pub fn bytes_of<'t>(alloc: Global, texts: &'t [&'t str]) -> Result<Vec<&'t [u8]>, AllocError> {
     let mut all = Vec::new(alloc);
     for text in texts {
         all.push(text.as_bytes())?;
@@ -53,6 +54,11 @@ impl Row for Entries {
     }
 }
 
+/// Whether a walk stands at this path.
+fn is_at(walk: &IndexWalk<'_>, path: &str) -> bool {
+    walk.path().as_bytes() == path.as_bytes()
+}
+
 /// Whether this is the next entry of both walks, which is entered.
 fn is_next(walk: &mut IndexWalk<'_>, cursor: &mut Cursor<'_>, entry: &Entry) -> bool {
     let (path, is_dir, number, length) = entry;
@@ -63,8 +69,7 @@ fn is_next(walk: &mut IndexWalk<'_>, cursor: &mut Cursor<'_>, entry: &Entry) -> 
         return false;
     }
     let is_there = place.path == *number && place.length == *length;
-    let is_path = walk.path().as_bytes() == path.as_bytes()
-        && cursor.path().as_bytes() == path.as_bytes();
+    let is_path = is_at(walk, path) && cursor.path().as_bytes() == path.as_bytes();
     let is_kind = walk.is_dir() == *is_dir && cursor.is_dir() == *is_dir;
     is_there && is_path && is_kind && walk.enter() == *is_dir && cursor.enter() == *is_dir
 }
@@ -94,14 +99,16 @@ fn paths_make_entries_and_imply_directories(rt: HostRuntime) -> Result<(), Fail>
     assert_each(rt.alloc(), ROWS)
 }
 
-/// Texts, the directory that they are given in, paths, the numbers of the entries that a cursor gives and enters, and
-/// the places, a path's number and a length each, that a walk over the paths gives and enters.
+/// Texts, the directory that they are given in, paths, the numbers of the entries that a cursor gives and enters, the
+/// places, a path's number and a length each, that a walk over the paths gives and enters, and the numbers of the paths
+/// that are chosen.
 struct Choice(
     &'static [&'static str],
     &'static str,
     &'static [&'static str],
     (&'static [usize], &'static [usize]),
     (&'static [(usize, usize)], &'static [(usize, usize)]),
+    &'static [usize],
 );
 
 impl Row for Choice {
@@ -112,7 +119,12 @@ impl Row for Choice {
             return Ok(false);
         };
         let lines = lines_of(alloc, self.2)?;
-        Ok(is_by_tree(alloc, &lines, &search, self.3)? && is_by_paths(alloc, &sorted, &search, self.4)?)
+        let chosen = chosen_paths(alloc, &sorted, &search, &mut Marks::new())?;
+        Ok(
+            are_same(&chosen, self.5)
+                && is_by_tree(alloc, &lines, &search, self.3)?
+                && is_by_paths(alloc, &sorted, &search, self.4)?,
+        )
     }
 }
 
@@ -159,15 +171,15 @@ fn are_places(places: &[IndexPlace], wanted: &[(usize, usize)]) -> bool {
 fn a_walk_over_paths_gives_what_a_cursor_gives(rt: HostRuntime) -> Result<(), Fail> {
     const SOURCES: &[&str] = &["README.md", "doc/a.md", "src/gen/x.rs", "src/lib.rs", "src/lib/y.rs", "src/main.c"];
     const ROWS: &[Choice] = &[
-        Choice(&["src/*.rs", ":!src/gen"], "", SOURCES, (&[6, 8], &[3, 7]), (&[(3, 10), (4, 12)], &[(2, 3), (4, 7)])),
-        Choice(&["*.md"], "", SOURCES, (&[0, 2], &[1, 3, 4, 7]), (&[(0, 9), (1, 8)], &[(1, 3), (2, 3), (2, 7), (4, 7)])),
-        Choice(&["doc"], "", SOURCES, (&[1, 2], &[1]), (&[(1, 3), (1, 8)], &[(1, 3)])),
-        Choice(&["src/lib"], "", SOURCES, (&[7, 8], &[3, 7]), (&[(4, 7), (4, 12)], &[(2, 3), (4, 7)])),
-        Choice(&["none"], "", SOURCES, (&[], &[]), (&[], &[])),
-        Choice(&["lib.rs"], "src", SOURCES, (&[6], &[3]), (&[(3, 10)], &[(2, 3)])),
-        Choice(&["a"], "", &["a", "a-b", "a/b"], (&[0, 2, 3], &[2]), (&[(0, 1), (2, 1), (2, 3)], &[(2, 1)])),
-        Choice(&["a/b"], "", &["a", "a-b", "a/b", "ab"], (&[3], &[2]), (&[(2, 3)], &[(2, 1)])),
-        Choice(&["a"], "", &[], (&[], &[]), (&[], &[])),
+        Choice(&["src/*.rs", ":!src/gen"], "", SOURCES, (&[6, 8], &[3, 7]), (&[(3, 10), (4, 12)], &[(2, 3), (4, 7)]), &[3, 4]),
+        Choice(&["*.md"], "", SOURCES, (&[0, 2], &[1, 3, 4, 7]), (&[(0, 9), (1, 8)], &[(1, 3), (2, 3), (2, 7), (4, 7)]), &[0, 1]),
+        Choice(&["doc"], "", SOURCES, (&[1, 2], &[1]), (&[(1, 3), (1, 8)], &[(1, 3)]), &[1]),
+        Choice(&["src/lib"], "", SOURCES, (&[7, 8], &[3, 7]), (&[(4, 7), (4, 12)], &[(2, 3), (4, 7)]), &[4]),
+        Choice(&["none"], "", SOURCES, (&[], &[]), (&[], &[]), &[]),
+        Choice(&["lib.rs"], "src", SOURCES, (&[6], &[3]), (&[(3, 10)], &[(2, 3)]), &[3]),
+        Choice(&["a"], "", &["a", "a-b", "a/b"], (&[0, 2, 3], &[2]), (&[(0, 1), (2, 1), (2, 3)], &[(2, 1)]), &[0, 2]),
+        Choice(&["a/b"], "", &["a", "a-b", "a/b", "ab"], (&[3], &[2]), (&[(2, 3)], &[(2, 1)]), &[2]),
+        Choice(&["a"], "", &[], (&[], &[]), (&[], &[]), &[]),
     ];
     assert_each(rt.alloc(), ROWS)
 }
@@ -210,12 +222,12 @@ fn a_walk_stands_nowhere_before_its_first_entry_and_after_its_last(
     let sorted = SortedPaths::new(&paths)?;
     assert_eq!(rt; sorted.len(), 3);
     let mut walk = IndexWalk::new(rt.alloc(), &sorted)?;
-    assert!(rt; walk.is_new() && walk.path().as_bytes().is_empty());
+    assert!(rt; walk.is_new() && is_at(&walk, ""));
     assert!(rt; !walk.is_dir() && !walk.enter());
-    assert!(rt; walk.next().is_some() && walk.path().as_bytes() == b"a" && !walk.is_new());
-    assert!(rt; walk.next().is_some() && walk.path().as_bytes() == b"d");
+    assert!(rt; walk.next().is_some() && is_at(&walk, "a") && !walk.is_new());
+    assert!(rt; walk.next().is_some() && is_at(&walk, "d"));
     assert!(rt; !walk.enter() && walk.entered().is_empty());
-    assert!(rt; walk.next().is_none() && walk.path().as_bytes().is_empty() && !walk.enter());
+    assert!(rt; walk.next().is_none() && is_at(&walk, "") && !walk.enter());
     assert!(rt; walk.next().is_none() && !walk.is_new());
     Ok(())
 }
@@ -227,9 +239,62 @@ fn a_directory_is_entered_once(rt: HostRuntime) -> Result<(), Fail> {
     let mut walk = IndexWalk::new(rt.alloc(), &sorted)?;
     assert!(rt; walk.next().is_some() && walk.enter() && walk.enter());
     assert!(rt; are_places(walk.entered(), &[(0, 1)]));
-    assert!(rt; walk.next().is_some() && walk.path().as_bytes() == b"a/b" && !walk.enter());
-    assert!(rt; walk.next().is_some() && walk.path().as_bytes() == b"a/c" && walk.is_dir());
-    assert!(rt; walk.next().is_some() && walk.path().as_bytes() == b"e");
+    assert!(rt; walk.next().is_some() && is_at(&walk, "a/b") && !walk.enter());
+    assert!(rt; walk.next().is_some() && is_at(&walk, "a/c") && walk.is_dir());
+    assert!(rt; walk.next().is_some() && is_at(&walk, "e"));
     assert!(rt; are_places(walk.entered(), &[(0, 1)]));
+    Ok(())
+}
+
+/// How many entries a walk comes to that doesn't enter the directory with this path.
+fn count_without(walk: &mut IndexWalk<'_>, path: &str) -> usize {
+    let mut count = 0usize;
+    for _ in 0..100 {
+        if walk.next().is_none() {
+            break;
+        }
+        count = count.saturating_add(1);
+        if !is_at(walk, path) {
+            walk.enter();
+        }
+    }
+    count
+}
+
+/// Whether a path is there and is this.
+fn is_path(found: Option<BStr<'_>>, path: &str) -> bool {
+    match found {
+        Some(found) => found.as_bytes() == path.as_bytes(),
+        None => false,
+    }
+}
+
+#[test]
+fn the_example_for_callers_does_what_it_says(rt: HostRuntime) -> Result<(), Fail> {
+    let alloc = rt.alloc();
+    let search = search_of(alloc, &["src/*.rs", ":!src/gen"], "")?;
+    let texts = ["README.md", "doc/a.md", "src/gen/x.rs", "src/lib.rs"];
+    let names = bytes_of(alloc, &texts)?;
+    let paths = SortedPaths::new(&names)?;
+    let numbers = chosen_paths(alloc, &paths, &search, &mut Marks::new())?;
+    assert!(rt; are_same(&numbers, &[3]));
+    let mut walk = IndexWalk::new(alloc, &paths)?;
+    let places = select(alloc, &mut walk, &search, &mut Marks::new())?;
+    assert!(rt; are_places(&places, &[(3, 10)]) && are_places(walk.entered(), &[(2, 3)]));
+    for place in &places {
+        assert!(rt; paths.is_file(*place));
+    }
+    let directory = IndexPlace { path: 2, length: 3 };
+    let nowhere = IndexPlace { path: 4, length: 0 };
+    let past_the_path = IndexPlace {
+        path: 3,
+        length: 11,
+    };
+    assert!(rt; !paths.is_file(directory) && is_path(paths.entry_path(directory), "src"));
+    assert!(rt; !paths.is_file(nowhere) && paths.entry_path(nowhere).is_none());
+    assert!(rt; !paths.is_file(past_the_path) && paths.entry_path(past_the_path).is_none());
+    let mut walk = IndexWalk::new(alloc, &paths)?;
+    assert_eq!(rt; count_without(&mut walk, "doc"), 6);
+    assert!(rt; are_places(walk.entered(), &[(2, 3), (2, 7)]));
     Ok(())
 }

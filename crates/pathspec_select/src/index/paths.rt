@@ -1,11 +1,16 @@
 //! Paths in byte order, checked once.
-ghost use Rattle.std.specs.Prelude.{◌≡◌, ℕ, ◌+◌, ◌<◌, ◌≤◌, ◌-◌, ◌^◌, ◌==◌, true, map, min, length, take, MatchOption, IfOk, IfErr};
+ghost use Rattle.std.specs.Prelude.{◌≡◌, ℕ, ◌+◌, ◌<◌, ◌≤◌, ◌-◌, ◌^◌, ◌==◌, true, map, min, length, take, MatchOption, IfOk, IfErr, Some, not, slice_get};
+ghost use Rattle.std.specs.Option.{option_map};
+ghost use Rattle.bstr.specs.BStr.{bstr_bytes};
 ghost use Rattle.pathspec_parts.specs.Bytes.{begins_with};
 ghost use Rattle.pathspec_parts.specs.Paths.{IsBytes};
+ghost use Rattle.pathspec_parts.specs.Entries.{Entry};
 ghost use Rattle.pathspec_parts.specs.Cursors.{directory_count};
 ghost use Rattle.pathspec_select.specs.Listing.{listing_entries};
 
 use crate::index::texts::{common_length, implied, is_before, is_file_path, slash_from};
+use bstr::BStr;
+use std::fmt;
 use std::marker::Model;
 use thiserror::Error;
 
@@ -33,11 +38,21 @@ pub struct IndexPlace {
 /// Paths of files in byte order, as a git index has them (gitformat-index), which someone else owns.
 ///
 /// It has a reference to the paths and one number. A directory has no path of its own: it is implied by those below it.
-#[derive(Debug, Drop)]
+/// What is printed of it is counts.
+#[derive(Drop)]
 pub struct SortedPaths<'a> {
     paths: &'a [&'a [u8]],
     /// How many directories are implied, as far as a `usize` can say so.
     directories: usize,
+}
+
+impl fmt::Debug for SortedPaths<'_> {
+    fn fmt<W: fmt::Write>(&self, f: &mut fmt::Formatter<W>) -> fmt::Result {
+        f.debug_struct("SortedPaths")
+            .field("len", &self.len())
+            .field("directories", &self.directories)
+            .finish()
+    }
 }
 
 impl<'a> Model for SortedPaths<'a> {
@@ -103,9 +118,27 @@ impl<'a> SortedPaths<'a> {
 
     /// Whether a place is that of a file, a whole path; it isn't where there is no path with its number.
     pub fn is_file(&self, place: IndexPlace) -> bool
-        ensures { result ≡ is_whole self.now place }
+        ensures test { result ≡ is_whole self.now place }
+        // At the number of an entry, it tells the entry's kind.
+        ensures kind { let es = listing_entries self.now in
+            (e : Entry) → slice_get es (number_of es place) ≡ Some e → result ≡ not e.is_dir }
     {
         place.path < self.len() && self.path(place.path).len() == place.length
+    }
+
+    /// The path of the entry of a place; nothing where there is no such path, or it has fewer bytes.
+    pub fn entry_path(&self, place: IndexPlace) -> Option<BStr<'a>>
+        ensures { let es = listing_entries self.now in (e : Entry)
+            → slice_get es (number_of es place) ≡ Some e → option_map bstr_bytes result ≡ Some e.path }
+    {
+        if place.path >= self.len() {
+            return None;
+        }
+        let path = self.path(place.path);
+        if place.length > path.len() {
+            return None;
+        }
+        Some(BStr::new(&path[..place.length]))
     }
 
     /// How many directories are implied, as far as a `usize` can say so.

@@ -1,5 +1,5 @@
 -- The whole paths among the given places are the chosen ones.
-use Rattle.std.proofs.Common.{◌≡◌, ◌∙◌, List, ℕ, ap, map, sym, subst, false}
+use Rattle.std.proofs.Common.{◌≡◌, ◌∙◌, List, ap, map, sym, subst, false}
 use Rattle.std.specs.Prelude.{filter}
 use Rattle.pathspec_parts.specs.Entries.{Entry}
 use Rattle.pathspec_parts.specs.Cursors.{CursorContents}

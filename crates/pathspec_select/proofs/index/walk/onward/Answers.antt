@@ -1,6 +1,6 @@
-use Rattle.std.proofs.Common.{◌≡◌, ◌+◌, Some, None, true, false, sym, ap, ◌∙◌}
+use Rattle.std.proofs.Common.{◌≡◌, ◌+◌, Some, None, sym, ap, ◌∙◌}
 use Rattle.pathspec_select.specs.Listing.{listing_entries}
-use Rattle.pathspec_select.specs.Index.{number_of, number_onward, entries_before, path_after}
+use Rattle.pathspec_select.specs.Index.{number_of, number_onward, entries_before}
 use Rattle.pathspec_select.proofs.IndexWalkProofs.{onward-entered, onward-after, onward-start, onward-end, entries_before-none, some-from, none-from}
 use Rattle.pathspec_select.proofs.index.walk.onward.Goals as goal
 

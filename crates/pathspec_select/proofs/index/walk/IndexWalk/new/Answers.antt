@@ -1,4 +1,4 @@
-use Rattle.std.proofs.Common.{◌≡◌, List, [], None, true, false, sym, subst, arith}
+use Rattle.std.proofs.Common.{List, None, true, false, sym, subst, arith}
 use Rattle.std.specs.Prelude.{vec_capacity}
 use Rattle.pathspec_select.specs.declared.index.paths.IndexPlace.{IndexPlace}
 use Rattle.pathspec_select.specs.Index.{IsIndexWalk}

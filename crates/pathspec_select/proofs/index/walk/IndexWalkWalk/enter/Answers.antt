@@ -10,22 +10,22 @@ pub returns-then-is_file-clause-entered : goal.returns-then-is_file-clause-enter
 returns-then-is_file-clause-entered c =
     let s = c.self.inside in
     let w = c.self.invariant in
-    let kind : not c.is_file.result ≡ is_dir_at c.args.self.now = contents-kind s.paths.now s.at s.entered.items s.is_entered s.is_new _ w c.in-Some.place c.in-Some.is c.is_file.result c.is_file.ensures ∙ ap (λ (x : CursorContents). is_dir_at x) c.self.view_is in
+    let kind : not c.is_file.result ≡ is_dir_at c.args.self.now = contents-kind s.paths.now s.at s.entered.items s.is_entered s.is_new _ w c.in-Some.place c.in-Some.is c.is_file.result c.is_file.ensures.test ∙ ap (λ (x : CursorContents). is_dir_at x) c.self.view_is in
     unentered c.args.self.now (sym kind ∙ ap not c.if-is_file.true)
 
 pub returns-then-is_file-clause-is_dir : goal.returns-then-is_file-clause-is_dir
 returns-then-is_file-clause-is_dir c =
     let s = c.self.inside in
     let w = c.self.invariant in
-    let kind : not c.is_file.result ≡ is_dir_at c.args.self.now = contents-kind s.paths.now s.at s.entered.items s.is_entered s.is_new _ w c.in-Some.place c.in-Some.is c.is_file.result c.is_file.ensures ∙ ap (λ (x : CursorContents). is_dir_at x) c.self.view_is in
+    let kind : not c.is_file.result ≡ is_dir_at c.args.self.now = contents-kind s.paths.now s.at s.entered.items s.is_entered s.is_new _ w c.in-Some.place c.in-Some.is c.is_file.result c.is_file.ensures.test ∙ ap (λ (x : CursorContents). is_dir_at x) c.self.view_is in
     sym (ap not c.if-is_file.true) ∙ kind
 
 pub invariant_of-self : goal.invariant_of-self
 invariant_of-self c =
     let s = c.self.inside in
     let w = c.self.invariant in
-    let kind : not c.is_file.result ≡ is_dir_at c.args.self.now = contents-kind s.paths.now s.at s.entered.items s.is_entered s.is_new _ w c.in-Some.place c.in-Some.is c.is_file.result c.is_file.ensures ∙ ap (λ (x : CursorContents). is_dir_at x) c.self.view_is in
-    let less : c.in-Some.place.length < length (path_at s.paths.now c.in-Some.place.path) = not-file s.paths.now s.at s.entered.items s.is_entered s.is_new _ w c.in-Some.place c.in-Some.is (sym c.is_file.ensures ∙ c.if-is_file.false) in
+    let kind : not c.is_file.result ≡ is_dir_at c.args.self.now = contents-kind s.paths.now s.at s.entered.items s.is_entered s.is_new _ w c.in-Some.place c.in-Some.is c.is_file.result c.is_file.ensures.test ∙ ap (λ (x : CursorContents). is_dir_at x) c.self.view_is in
+    let less : c.in-Some.place.length < length (path_at s.paths.now c.in-Some.place.path) = not-file s.paths.now s.at s.entered.items s.is_entered s.is_new _ w c.in-Some.place c.in-Some.is (sym c.is_file.ensures.test ∙ c.if-is_file.false) in
     let room = has-room s.paths.now s.at s.entered.items s.is_entered s.is_new _ w c.in-Some.place c.in-Some.is less c.if-not-self.true in
     let ok : is_ok c.push.result ≡ true = c.push.ensures.succeeds (omega (arith, room, s.entered.ok.0)) in
     let pushed : c.push.new.self.items ≡ s.entered.items ++ c.in-Some.place ∷ [] = c.push.ensures.items ∙ ap (λ b. cond b (s.entered.items ++ c.in-Some.place ∷ []) s.entered.items) ok in
@@ -35,8 +35,8 @@ pub returns-then-not-self-clause-entered : goal.returns-then-not-self-clause-ent
 returns-then-not-self-clause-entered c =
     let s = c.self.inside in
     let w = c.self.invariant in
-    let kind : not c.is_file.result ≡ is_dir_at c.args.self.now = contents-kind s.paths.now s.at s.entered.items s.is_entered s.is_new _ w c.in-Some.place c.in-Some.is c.is_file.result c.is_file.ensures ∙ ap (λ (x : CursorContents). is_dir_at x) c.self.view_is in
-    let less : c.in-Some.place.length < length (path_at s.paths.now c.in-Some.place.path) = not-file s.paths.now s.at s.entered.items s.is_entered s.is_new _ w c.in-Some.place c.in-Some.is (sym c.is_file.ensures ∙ c.if-is_file.false) in
+    let kind : not c.is_file.result ≡ is_dir_at c.args.self.now = contents-kind s.paths.now s.at s.entered.items s.is_entered s.is_new _ w c.in-Some.place c.in-Some.is c.is_file.result c.is_file.ensures.test ∙ ap (λ (x : CursorContents). is_dir_at x) c.self.view_is in
+    let less : c.in-Some.place.length < length (path_at s.paths.now c.in-Some.place.path) = not-file s.paths.now s.at s.entered.items s.is_entered s.is_new _ w c.in-Some.place c.in-Some.is (sym c.is_file.ensures.test ∙ c.if-is_file.false) in
     let room = has-room s.paths.now s.at s.entered.items s.is_entered s.is_new _ w c.in-Some.place c.in-Some.is less c.if-not-self.true in
     let ok : is_ok c.push.result ≡ true = c.push.ensures.succeeds (omega (arith, room, s.entered.ok.0)) in
     let pushed : c.push.new.self.items ≡ s.entered.items ++ c.in-Some.place ∷ [] = c.push.ensures.items ∙ ap (λ b. cond b (s.entered.items ++ c.in-Some.place ∷ []) s.entered.items) ok in
@@ -50,12 +50,12 @@ pub returns-then-not-self-clause-is_dir : goal.returns-then-not-self-clause-is_d
 returns-then-not-self-clause-is_dir c =
     let s = c.self.inside in
     let w = c.self.invariant in
-    let kind : not c.is_file.result ≡ is_dir_at c.args.self.now = contents-kind s.paths.now s.at s.entered.items s.is_entered s.is_new _ w c.in-Some.place c.in-Some.is c.is_file.result c.is_file.ensures ∙ ap (λ (x : CursorContents). is_dir_at x) c.self.view_is in
+    let kind : not c.is_file.result ≡ is_dir_at c.args.self.now = contents-kind s.paths.now s.at s.entered.items s.is_entered s.is_new _ w c.in-Some.place c.in-Some.is c.is_file.result c.is_file.ensures.test ∙ ap (λ (x : CursorContents). is_dir_at x) c.self.view_is in
     sym (ap not c.if-is_file.false) ∙ kind
 
 pub returns-else-not-self-clause-is_dir : goal.returns-else-not-self-clause-is_dir
 returns-else-not-self-clause-is_dir c =
     let s = c.self.inside in
     let w = c.self.invariant in
-    let kind : not c.is_file.result ≡ is_dir_at c.args.self.now = contents-kind s.paths.now s.at s.entered.items s.is_entered s.is_new _ w c.in-Some.place c.in-Some.is c.is_file.result c.is_file.ensures ∙ ap (λ (x : CursorContents). is_dir_at x) c.self.view_is in
+    let kind : not c.is_file.result ≡ is_dir_at c.args.self.now = contents-kind s.paths.now s.at s.entered.items s.is_entered s.is_new _ w c.in-Some.place c.in-Some.is c.is_file.result c.is_file.ensures.test ∙ ap (λ (x : CursorContents). is_dir_at x) c.self.view_is in
     sym (ap not c.if-is_file.false) ∙ kind

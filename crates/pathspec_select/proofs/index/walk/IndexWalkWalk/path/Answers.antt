@@ -1,4 +1,4 @@
-use Rattle.std.proofs.Common.{◌≡◌, ℕ, List, take, sym, ap, ◌∙◌}
+use Rattle.std.proofs.Common.{take, sym, ap, ◌∙◌}
 use Rattle.pathspec_parts.specs.Cursors.{CursorContents, path_at}
 use Rattle.pathspec_select.proofs.IndexWalkProofs.{contents-path}
 use Rattle.pathspec_select.proofs.index.walk.IndexWalkWalk.path.Goals as goal
