@@ -4,10 +4,13 @@ ghost use Rattle.gix_pathspec.specs.Search.{specs_of};
 ghost use Rattle.pathspec_select.specs.Environment.{words_of};
 ghost use Rattle.pathspec_select.specs.Choice.{WritesChosen};
 ghost use Rattle.pathspec_select.specs.Walks.{chosen_entries};
+ghost use Rattle.pathspec_select.specs.Listing.{listing_entries};
+ghost use Rattle.pathspec_select.specs.Index.{number_of};
 
 use gix_pathspec::Search;
 use gix_pathspec::attributes::LookUp;
 use pathspec_parts::tree::{Cursor, Tree};
+use pathspec_select::index::{IndexPlace, IndexWalk, SortedPaths};
 use pathspec_select::{Environment, Refusal, SelectError, run, select};
 use std::alloc::Global;
 
@@ -47,4 +50,24 @@ pub fn chosen_entries<L: LookUp>(
         return Err(SelectError::Memory);
     };
     select(alloc, &mut cursor, search, look_up)
+}
+
+/// The places of the paths of an index, and of the directories that they imply, that a search chooses.
+///
+/// # Errors
+/// Those of [`select`].
+pub fn chosen_places<L: LookUp>(
+    alloc: Global,
+    paths: &SortedPaths<'_>,
+    search: &Search,
+    look_up: &mut L,
+) -> Result<Vec<IndexPlace>, SelectError<L::Fault>>
+    ensures { let es = listing_entries paths.now in
+        IfOk result (λ given. map (number_of es) given.items ≡ chosen_entries
+        (L.table look_up.old) (specs_of search.now.specs) es) }
+{
+    let Ok(mut walk) = IndexWalk::new(alloc, paths) else {
+        return Err(SelectError::Memory);
+    };
+    select(alloc, &mut walk, search, look_up)
 }

@@ -1,12 +1,13 @@
 -- The numbers of an outline stand for a tree: what is done to them, calls of the tree do to it.
 use Rattle.std.proofs.Common.{◌≡◌, ◌≢◌, ℕ, ◌+◌, ◌-◌, ◌<◌, ◌≤◌, Bool, true, false, cond, ◌&&◌, not, ◌==◌, refl, sym, ◌∙◌, ap, subst, List, [], ◌∷◌, ◌++◌, length, map, set, take, drop, get_or, arith, append_assoc, inl, inr, Option, Some, None}
-use Rattle.std.proofs.lemmas.Bool.{ne_eqb, cases_lt}
-use Rattle.std.proofs.lemmas.List.{append-nil, map-append, length-map, take-map}
-use Rattle.std.proofs.lemmas.List.Sums.{fold_push}
+use Rattle.std.proofs.lemmas.Bool.{eqb-true, ne_eqb, cases_lt}
+use Rattle.std.proofs.lemmas.List.{append-nil, map-append, length-map, take-map, take_more, drop-drop, length-drop}
+use Rattle.std.proofs.lemmas.List.Sums.{fold_push, passes_at_first}
 use Rattle.std.proofs.lemmas.List.Elements.{All-take, All-drop}
 use Rattle.std.proofs.lemmas.Option.{same_Some, get_or_from_slice_get, slice_get-map}
-use Rattle.std.proofs.Math.Seq.{drop-append_seam, map-set_same}
+use Rattle.std.proofs.Math.Seq.{drop-append_seam, take-add, map-set_same}
 use Rattle.std.specs.Prelude.{slice_get, Contains, nat_lt, unwrap_or, option_map, option_and_then}
+use Rattle.std.specs.List.{position_or_len}
 use Rattle.pathspec_parts.specs.Bytes.{slash}
 use Rattle.pathspec_parts.specs.Paths.{join_names, IsBelow, IsBytes}
 use Rattle.pathspec_parts.specs.Entries.{Call, OpenDirectory, Entry, entry_in, names_of, numbers_of, own_call}
@@ -16,11 +17,13 @@ use Rattle.pathspec_parts.specs.TreeLayout.{path_above, open_end}
 use Rattle.pathspec_parts.proofs.EntryProofs.{Contains-here, Contains-later}
 use Rattle.pathspec_parts.proofs.ListProofs.{get-set_same, get-set_other}
 use Rattle.pathspec_parts.proofs.TreeProofs.{get-append, get-last, get-cases, tree_of_calls-nested}
-use Rattle.pathspec_select.specs.Listing.{mark_at}
+use Rattle.pathspec_select.specs.Listing.{mark_at, written_of, written_entries}
 use Rattle.pathspec_select.specs.Spans.{SpanContents, contents_after, contents_closed, LiesInOpen}
 use Rattle.pathspec_select.specs.SpanLayout.{path_of_span, path_at_span, end_at, numbers_above, contents_of_spans, AreSpans}
-use Rattle.pathspec_select.specs.Outlines.{OutlineContents, empty_outline, mark_of, last_name, record_from, record_length, outline_after, outline_closed, LiesOpen, IsMade, open_of_span, tree_of_spans, is_dir_span, mark_of_span, outline_of_spans, LieInRecords, IsOutline}
+use Rattle.pathspec_select.specs.Outlines.{OutlineContents, part, empty_outline, mark_of, last_name, record_from, record_length, outline_after, outline_closed, LiesOpen, IsMade, open_of_span, tree_of_spans, is_dir_span, mark_of_span, outline_of_spans, LieInRecords, IsOutline, IsRecordTo}
 use Rattle.pathspec_select.specs.declared.listing.outline.Span.{Span}
+use Rattle.pathspec_select.proofs.OutputProofs.{written-more}
+use Rattle.pathspec_select.proofs.ListingProofs.{length-before_first}
 use Rattle.pathspec_select.proofs.SpanProofs.{Contains-above, length-contents, contents_of_none}
 use Rattle.pathspec_select.proofs.SpanGrowProofs.{IsNext, path-old, path-new, pushes}
 use Rattle.pathspec_select.proofs.SpanCloseProofs.{path-closed, closes_at, top_is}
@@ -297,6 +300,47 @@ pub mark-is : (bytes : List ℕ) (separator : ℕ) (spans : List Span) (o : Outl
 mark-is bytes separator spans o view n s at k e =
     let r = record_from separator bytes s.start in
     ap (λ j. cond (length r == j) (Some r) None) (record_length-is s k e) ∙ (sym (mark-at bytes separator spans n s at) ∙ ap (λ (x : OutlineContents). mark_at x.marks n) view)
+
+-- where the record of an entry ends with its separator
+pub record-to : (bytes : List ℕ) (separator : ℕ) (spans : List Span) (o : OutlineContents) (view : outline_of_spans bytes separator spans ≡ o) (n : ℕ) (s : Span) (at : slice_get spans n ≡ Some s) (r : List ℕ) → Some r ≡ mark_at o.marks n → s.start + length r < length bytes
+    → IsRecordTo o n s.start (s.start + length r + 1)
+record-to bytes separator spans o view n s at r m l =
+    let rest = drop s.start bytes in
+    let p : ℕ → Bool = λ b. b == separator in
+    let k = position_or_len p rest in
+    let whole = record_from separator bytes s.start in
+    let is : Some r ≡ mark_of_span separator bytes s = m ∙ (ap (λ (x : OutlineContents). mark_at x.marks n) (sym view) ∙ mark-at bytes separator spans n s at) in
+    let same : r ≡ whole = by_test (length whole == record_length s.length (is_dir_span s)) is in
+    let long : length r ≡ k = ap length same ∙ length-before_first p rest in
+    let d = length-drop s.start bytes in
+    let inside : k < length rest = omega (arith, l, long, d) in
+    let here : get_or rest k 0 ≡ separator = eqb-true (get_or rest k 0) separator (passes_at_first p rest 0 inside) in
+    let count : (s.start + length r + 1) - s.start ≡ k + 1 = omega (arith, long) in
+    subst (λ (x : OutlineContents). IsRecordTo x n s.start (s.start + length r + 1)) view (record {
+      rises = omega arith;
+      fits = omega (arith, l);
+      written =
+          ap (λ j. take j rest) count ∙ (take_more rest k 0 inside ∙ (ap (λ x. take k rest ++ x ∷ []) here ∙ (ap (λ x. x ++ separator ∷ []) (sym same)
+          ∙ ap (written_of separator) (m ∙ ap (λ (x : OutlineContents). mark_at x.marks n) (sym view)))));
+    })
+  where
+    by_test : (b : Bool) → Some r ≡ cond b (Some (record_from separator bytes s.start)) None → r ≡ record_from separator bytes s.start
+    by_test true e = same_Some r (record_from separator bytes s.start) e
+    by_test false e = cc
+
+-- two parts of a listing that meet are one
+part-more : (bytes : List ℕ) (start end next : ℕ) → start ≤ end → end ≤ next → part bytes start (next - start) ≡ part bytes start (end - start) ++ part bytes end (next - end)
+part-more bytes start end next a b =
+    ap (λ n. take n (drop start bytes)) (omega (arith, a, b))
+    ∙ (take-add (end - start) (next - end) (drop start bytes) ∙ ap (λ t. part bytes start (end - start) ++ take (next - end) t) (drop-drop (end - start) start bytes ∙ ap (λ n. drop n bytes) (omega (arith, a))))
+
+-- one more record of a run
+pub run-more : (o : OutlineContents) (entries : List ℕ) (count start end next number : ℕ) → count < length entries → number ≡ get_or entries count 0 → start ≤ end → IsRecordTo o number end next
+    → part o.bytes start (end - start) ≡ written_entries o.separator o.marks (take count entries) → part o.bytes start (next - start) ≡ written_entries o.separator o.marks (take (count + 1) entries)
+run-more o entries count start end next number l n rises r w =
+    part-more o.bytes start end next rises r.rises
+    ∙ (ap (λ t. t ++ part o.bytes end (next - end)) w ∙ (ap (λ t. written_entries o.separator o.marks (take count entries) ++ t) (r.written ∙ ap (λ m. written_of o.separator (mark_at o.marks m)) n)
+    ∙ written-more o.separator o.marks entries count (mark_at o.marks (get_or entries count 0)) l refl))
 
 -- ---- none
 

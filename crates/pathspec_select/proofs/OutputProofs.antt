@@ -1,8 +1,9 @@
 -- What a buffer holds back of what is written.
-use Rattle.std.proofs.Common.{◌≡◌, ℕ, ◌+◌, ◌<◌, ◌≤◌, List, [], ◌∷◌, ◌++◌, length, take, drop, get_or, Option, Some, Result, Ok, Err, sym, ◌∙◌, ap, subst, append_assoc, arith}
-use Rattle.std.proofs.lemmas.List.{append-nil, take_all, take_more, take-append-drop}
+use Rattle.std.proofs.Common.{◌≡◌, ℕ, ◌+◌, ◌-◌, ◌<◌, ◌≤◌, List, [], ◌∷◌, ◌++◌, length, take, drop, get_or, Option, Some, Result, Ok, Err, refl, sym, ◌∙◌, ap, subst, append_assoc, arith}
+use Rattle.std.proofs.lemmas.List.{append-nil, length-drop, take_all, take_more, take_rest, take-append-drop}
+use Rattle.std.proofs.Math.Seq.{take-add}
 use Rattle.std.proofs.lemmas.Grind.{flat_map-append}
-use Rattle.std.specs.Prelude.{OnOk, OnErr, IfErr}
+use Rattle.std.specs.Prelude.{◌≢◌, OnOk, OnErr, IfErr}
 use Rattle.std.specs.Option.{option_map}
 use Rattle.bstr.specs.declared.bstr.BStr.{BStr}
 use Rattle.bstr.specs.BStr.{bstr_bytes}
@@ -68,6 +69,34 @@ pub written-rest : (separator : ℕ) (marks : List (Option (List ℕ))) (entries
 written-rest separator marks entries n =
     let f : ℕ → List ℕ = λ m. written_of separator (mark_at marks m) in
     ap (written_entries separator marks) (sym (take-append-drop n entries)) ∙ flat_map-append f (take n entries) (drop n entries)
+
+-- the same, where what is left is what a slice has
+module _ (separator : ℕ) (marks : List (Option (List ℕ))) (entries : List ℕ) (done : ℕ) (rest : List ℕ) (slice : rest ≡ take (length entries - done) (drop done entries)) where
+  rest_is : rest ≡ drop done entries
+  rest_is = slice ∙ take_rest entries done
+
+  pub length-rest : length rest ≡ length entries - done
+  length-rest = ap length rest_is ∙ length-drop done entries
+
+  pub written-run : (count : ℕ) → written_entries separator marks (take done entries) ++ written_entries separator marks (take count rest) ≡ written_entries separator marks (take (done + count) entries)
+  written-run count =
+      let f : ℕ → List ℕ = λ m. written_of separator (mark_at marks m) in
+      sym (ap (written_entries separator marks) (take-add done count entries ∙ ap (λ t. take done entries ++ take count t) (sym rest_is)) ∙ flat_map-append f (take done entries) (take count rest))
+
+  pub written-left : written_entries separator marks (take done entries) ++ written_entries separator marks rest ≡ written_entries separator marks entries
+  written-left = ap (λ t. written_entries separator marks (take done entries) ++ written_entries separator marks t) rest_is ∙ sym (written-rest separator marks entries done)
+
+-- a front of what is written for the first of some entries is one of what is written for all
+pub front-count : (old new : Option (List ℕ)) (buffered bytes : List ℕ) (separator : ℕ) (marks : List (Option (List ℕ))) (entries : List ℕ) (count : ℕ) → bytes ≡ written_entries separator marks (take count entries)
+    → AppendsFront old new (buffered ++ bytes) → AppendsFront old new (buffered ++ written_entries separator marks entries)
+front-count old new buffered bytes separator marks entries count e h =
+    let more = written_entries separator marks (drop count entries) in
+    subst (AppendsFront old new) (append_assoc buffered bytes more ∙ ap (λ t. buffered ++ t) (ap (λ t. t ++ more) e ∙ sym (written-rest separator marks entries count))) (front-longer old new (buffered ++ bytes) more h)
+
+pub front-first : (old new : Option (List ℕ)) (buffered : List ℕ) (separator : ℕ) (marks : List (Option (List ℕ))) (entries : List ℕ) (mark : Option (List ℕ)) → entries ≢ [] → mark ≡ mark_at marks (get_or entries 0 0)
+    → AppendsFront old new (buffered ++ written_of separator mark) → AppendsFront old new (buffered ++ written_entries separator marks entries)
+front-first old new buffered separator marks [] mark some e h = absurd (some refl)
+front-first old new buffered separator marks (n ∷ ns) mark some e h = front-count old new buffered (written_of separator mark) separator marks (n ∷ ns) 1 (written-more separator marks (n ∷ ns) 0 mark (omega arith) e) h
 
 -- an output whose last write is this
 pub ends-with : {A : Type 0} (old new : Option (List ℕ)) (bs : List ℕ) (result : Result A Refusal) → OnOk result (Appends old new bs) → OnErr result (AppendsFront old new bs) → IfErr result (λ e. e ≡ refusal.Write) → EndsOutput old new bs result

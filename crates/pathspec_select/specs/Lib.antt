@@ -31,3 +31,4 @@ pub mod ListingAnswers
 pub mod Spans
 pub mod SpanLayout
 pub mod Outlines
+pub mod Index

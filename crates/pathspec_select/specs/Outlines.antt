@@ -1,12 +1,12 @@
 -- A tree that lies over the bytes of a listing.
-use Rattle.std.specs.Prelude.{◌≡◌, ◌≢◌, ℕ, ◌+◌, ◌≤◌, ◌<◌, Bool, slice_get, true, false, List, [], ◌∷◌, ◌++◌, length, map, take, drop, Option, Some, None, ◌==◌, if◌then◌else◌}
+use Rattle.std.specs.Prelude.{◌≡◌, ◌≢◌, ℕ, ◌+◌, ◌-◌, ◌≤◌, ◌<◌, Bool, slice_get, true, false, List, [], ◌∷◌, ◌++◌, length, map, take, drop, Option, Some, None, ◌==◌, if◌then◌else◌}
 use Rattle.std.specs.List.{before_first}
 use Rattle.pathspec_parts.specs.Paths.{pieces}
 use Rattle.pathspec_parts.specs.Entries.{Call, OpenDirectory, own_call, names_of}
 use Rattle.pathspec_parts.specs.Entries.Call.{Close}
 use Rattle.pathspec_parts.specs.Trees.{TreeContents, empty_tree, tree_after, tree_of_calls, IsTreeName, AreNamed}
 use Rattle.pathspec_parts.specs.TreeLayout.{path_above}
-use Rattle.pathspec_select.specs.Listing.{ListingContents}
+use Rattle.pathspec_select.specs.Listing.{ListingContents, mark_at, written_of}
 use Rattle.pathspec_select.specs.ListingAnswers.{directory_names, IsClosed}
 use Rattle.pathspec_select.specs.SpanLayout.{path_at_span, contents_of_spans, AreSpans}
 use Rattle.pathspec_select.specs.declared.listing.outline.Span.{Span}
@@ -80,6 +80,12 @@ pub record KeepsListing (old new : OutlineContents) : Type 0 where
 pub record HasOpen (t : TreeContents) (directory : List ℕ) : Type 0 where
   pub names : names_of t.open_directories ≡ directory_names directory
   pub path : path_above t.open_directories ≡ directory
+
+-- The record of an entry, with its separator, is what stands between two places.
+pub record IsRecordTo (o : OutlineContents) (number start end : ℕ) : Type 0 where
+  pub rises : start ≤ end
+  pub fits : end ≤ length o.bytes
+  pub written : part o.bytes start (end - start) ≡ written_of o.separator (mark_at o.marks number)
 
 -- ---- by its numbers
 

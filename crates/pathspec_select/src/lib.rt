@@ -1,9 +1,10 @@
-//! Walks over trees that give the entries which a search chooses, and the program `pathspec-select`: it reads a listing of
+//! Walks over trees that give the entries which a search chooses, also over the sorted paths of an index, and the program `pathspec-select`: it reads a listing of
 //! paths, and writes the records that pathspecs choose.
 #![tactic(auto)]
 
 mod devices;
 mod environment;
+pub mod index;
 mod input;
 mod job;
 pub mod listing;

@@ -1,9 +1,10 @@
 //! What is written for a listing, through a buffer.
-ghost use Rattle.std.specs.Prelude.{◌≡◌, ◌++◌, IfErr, OnOk, OnErr};
+ghost use Rattle.std.specs.Prelude.{◌≡◌, ◌≢◌, ◌++◌, [], take, IfOk, IfErr, OnOk, OnErr};
 ghost use Rattle.std.specs.Io.KnownBytes.{Appends};
 ghost use Rattle.std.specs.Option.{option_map};
 ghost use Rattle.bstr.specs.BStr.{bstr_bytes};
 ghost use Rattle.pathspec_select.specs.Listing.{written_entries, written_of};
+ghost use Rattle.pathspec_select.specs.ListingAnswers.{IsCountOf};
 ghost use Rattle.pathspec_select.specs.Program.{AppendsFront, AppendsUpTo, EndsOutput};
 
 use crate::listing::Listing;
@@ -17,7 +18,8 @@ const ROOM: usize = 65536;
 
 /// Writes the records of these entries of a listing, each with the separator after it.
 ///
-/// It looks at each byte of a record, and takes a fixed amount of memory.
+/// It copies each byte of a record at most once, and none of records that follow one another and fill the buffer. It takes a
+/// fixed amount of memory.
 ///
 /// # Errors
 /// [`Refusal::Memory`], and nothing is written; [`Refusal::Write`], where a beginning of the bytes is.
@@ -32,10 +34,41 @@ pub(crate) fn write_records<W: Write>(
         (written_entries separator listing.now.marks entries.now) result }
 {
     let mut buffer = Vec::with_capacity(alloc, ROOM)?;
-    for entry in entries {
-        write_record(writer, &mut buffer, listing.record(*entry), separator)?;
+    let mut done = 0;
+    while done < entries.len() {
+        done += write_run(writer, &mut buffer, listing, &entries[done..], separator)?;
     }
     devices::write_whole(writer, buffer.as_slice())
+}
+
+/// Puts what is written for the first of some entries, at least one, after those bytes that a buffer holds: in one piece, as
+/// far as their records follow one another in the listing. It gives how many entries these are.
+///
+/// # Errors
+/// [`Refusal::Write`]: a beginning of all these bytes is written.
+fn write_run<W: Write>(
+    writer: &mut W,
+    buffer: &mut Vec<u8>,
+    listing: &Listing<'_>,
+    entries: &[usize],
+    separator: u8,
+) -> Result<usize, Refusal>
+    requires { entries.now ≢ [] }
+    ensures count { IfOk result (IsCountOf entries.now) }
+    ensures written { IfOk result (λ count. AppendsUpTo (W.contents writer.old) (W.contents writer.new)
+        (buffer.old.items ++ written_entries separator listing.now.marks (take count entries.now))
+        buffer.new.items) }
+    ensures cause { IfErr result (λ e. e ≡ Refusal.Write) }
+    ensures front { OnErr result (AppendsFront (W.contents writer.old) (W.contents writer.new)
+        (buffer.old.items ++ written_entries separator listing.now.marks entries.now)) }
+{
+    let (records, count) = listing.run(entries, separator);
+    if count == 0 {
+        write_record(writer, buffer, listing.record(entries[0]), separator)?;
+        return Ok(1);
+    }
+    write_buffered(writer, buffer, records)?;
+    Ok(count)
 }
 
 /// Puts the text of a record, if there is one, and the separator after it, after those bytes that a buffer holds.

@@ -8,6 +8,8 @@ mod growths_of_runs;
 #[cfg(test)]
 mod hostile;
 #[cfg(test)]
+mod indexes;
+#[cfg(test)]
 mod jobs;
 #[cfg(test)]
 mod lines;

@@ -4,7 +4,7 @@ ghost use Rattle.std.specs.Option.{option_map};
 ghost use Rattle.bstr.specs.BStr.{bstr_bytes};
 ghost use Rattle.pathspec_parts.specs.Cursors.{new_cursor};
 ghost use Rattle.pathspec_select.specs.Listing.{records, listing_of, mark_at, RecordsAreEntries};
-ghost use Rattle.pathspec_select.specs.ListingAnswers.{AnswersRecords, refusal_of};
+ghost use Rattle.pathspec_select.specs.ListingAnswers.{AnswersRecords, refusal_of, IsRun};
 
 use crate::listing::entries::{RecordError, add_record};
 use crate::listing::outline::Outline;
@@ -78,6 +78,15 @@ impl<'a> Listing<'a> {
         ensures { option_map bstr_bytes result ≡ mark_at self.now.marks entry }
     {
         self.outline.record(entry)
+    }
+
+    /// What is written for the first of some entries, in one piece as it stands in the listing, and for how many: as far as
+    /// their records follow one another there, each with this separator after it. It is for none where the first entry has no
+    /// record, or its record isn't followed by the separator.
+    pub(crate) fn run(&self, entries: &[usize], separator: u8) -> (&[u8], usize)
+        ensures { IsRun separator self.now.marks entries.now result.0.now result.1 }
+    {
+        self.outline.run(entries, separator)
     }
 }
 

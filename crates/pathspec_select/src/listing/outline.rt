@@ -1,11 +1,12 @@
 //! A tree that lies over the bytes of a listing: no name is copied.
-ghost use Rattle.std.specs.Prelude.{◌≡◌, ◌≤◌, ◌<◌, ◌+◌, ◌&&◌, ◌==◌, ◌∷◌, ◌++◌, [], length, is_ok, nat_lt, if◌then◌else◌, Some, None, OnOk, OnErr};
+ghost use Rattle.std.specs.Prelude.{◌≡◌, ◌≤◌, ◌<◌, ◌+◌, ◌&&◌, ◌==◌, ◌∷◌, ◌++◌, [], length, is_ok, nat_lt, if◌then◌else◌, Some, None, IfSome, OnOk, OnErr};
 ghost use Rattle.std.specs.List.{before_first};
 ghost use Rattle.std.specs.Option.{option_map};
 ghost use Rattle.bstr.specs.BStr.{bstr_bytes};
 ghost use Rattle.pathspec_parts.specs.TreeLayout.{open_end};
 ghost use Rattle.pathspec_select.specs.Listing.{mark_at};
-ghost use Rattle.pathspec_select.specs.Outlines.{part, record_from, record_length, empty_outline, outline_after, outline_closed, LiesOpen};
+ghost use Rattle.pathspec_select.specs.Outlines.{part, record_from, record_length, empty_outline, outline_after, outline_closed, LiesOpen, IsRecordTo};
+ghost use Rattle.pathspec_select.specs.ListingAnswers.{IsRun};
 
 use bstr::BStr;
 use pathspec_parts::tree::{Entries, EntryPaths};
@@ -103,6 +104,58 @@ impl<'a> Outline<'a> {
         let count = span.length + one_if(span.end != 0);
         let record = record_of(self.bytes, self.separator, span.start, count)?;
         Some(BStr::new(record))
+    }
+}
+
+impl<'a> Outline<'a> {
+    /// The records of the first of some entries, each with this separator after it, as far as they follow one another in
+    /// the listing, and of how many entries they are. They are of none where the first entry has no record, or its record
+    /// isn't followed by the separator.
+    pub(super) fn run(&self, entries: &[usize], separator: u8) -> (&[u8], usize)
+        ensures { IsRun separator self.now.marks entries.now result.0.now result.1 }
+    {
+        if separator != self.separator {
+            return (&[], 0);
+        }
+        let start = self.start_of(entries);
+        let mut end = start;
+        let mut count = 0;
+        while count < entries.len() {
+            let Some(next) = self.end_of_record(entries[count], end) else {
+                break;
+            };
+            end = next;
+            count += 1;
+        }
+        (piece(self.bytes, start, end - start), count)
+    }
+
+    /// Where the record of the first of some entries begins, if there is one.
+    fn start_of(&self, entries: &[usize]) -> usize
+        ensures { result ≤ length self.now.bytes }
+    {
+        match entries.first() {
+            Some(number) => match self.spans.get(*number) {
+                Some(span) => span.start,
+                None => 0,
+            },
+            None => 0,
+        }
+    }
+
+    /// Where the record of an entry ends with its separator, if it begins at this place and has one.
+    fn end_of_record(&self, number: usize, start: usize) -> Option<usize>
+        ensures { IfSome result (IsRecordTo self.now number start) }
+    {
+        if self.spans.get(number)?.start != start {
+            return None;
+        }
+        let end = start + self.record(number)?.as_bytes().len();
+        if end < self.bytes.len() {
+            Some(end + 1)
+        } else {
+            None
+        }
     }
 }
 

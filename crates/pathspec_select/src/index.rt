@@ -1,0 +1,10 @@
+//! Walks over paths in byte order, as a git index has them.
+
+mod chosen;
+mod paths;
+mod texts;
+mod walk;
+
+pub use chosen::chosen_paths;
+pub use paths::{IndexError, IndexPlace, SortedPaths};
+pub use walk::IndexWalk;

@@ -1,0 +1,63 @@
+//! The paths of an index that a search chooses.
+ghost use Rattle.std.specs.Prelude.{◌≡◌, false, map, filter, IfOk};
+ghost use Rattle.gix_pathspec.specs.Matching.{is_chosen};
+ghost use Rattle.gix_pathspec.specs.Search.{specs_of};
+ghost use Rattle.pathspec_select.specs.Index.{is_whole, AreNumbersOf};
+
+use crate::index::paths::{IndexPlace, SortedPaths};
+use crate::index::walk::IndexWalk;
+use crate::walk::{SelectError, select};
+use gix_pathspec::Search;
+use pathspec_parts::attributes::LookUp;
+use std::alloc::{AllocError, Global};
+
+/// The numbers of the paths that a search chooses, each once, in order: of exactly those that no exclude matches and some
+/// include matches (or any, without an include), each as a file's path.
+///
+/// It walks over the paths by [`select`], so it looks at no path below a directory that can't hold a chosen one. It takes
+/// memory for the walk, for the places that this gives, and for the numbers.
+///
+/// # Errors
+/// Those of [`select`].
+pub fn chosen_paths<L: LookUp>(
+    alloc: Global,
+    paths: &SortedPaths<'_>,
+    search: &Search,
+    look_up: &mut L,
+) -> Result<Vec<usize>, SelectError<L::Fault>>
+    ensures { IfOk result (λ numbers. AreNumbersOf
+        (λ path. is_chosen (L.table look_up.old) (specs_of search.now.specs) path false)
+        paths.now numbers.items) }
+{
+    // The proof reads here that the paths are an index.
+    let _ = paths.len();
+    let Ok(mut walk) = IndexWalk::new(alloc, paths) else {
+        return Err(SelectError::Memory);
+    };
+    let places = select(alloc, &mut walk, search, look_up)?;
+    match files_among(alloc, paths, &places) {
+        Ok(numbers) => Ok(numbers),
+        Err(AllocError) => Err(SelectError::Memory),
+    }
+}
+
+/// The numbers of the paths that are whole among places.
+///
+/// # Errors
+/// Memory runs out.
+fn files_among(
+    alloc: Global,
+    paths: &SortedPaths<'_>,
+    places: &[IndexPlace],
+) -> Result<Vec<usize>, AllocError>
+    ensures { IfOk result (λ numbers. numbers.items
+        ≡ map (λ place. place.path) (filter (is_whole paths.now) places.now)) }
+{
+    let mut numbers = Vec::new(alloc);
+    for place in places {
+        if paths.is_file(*place) {
+            numbers.push(place.path)?;
+        }
+    }
+    Ok(numbers)
+}

@@ -1,0 +1,300 @@
+//! Walks over sorted paths, as a git index has them, beside a cursor over the tree of the same paths.
+use bstr::BStr;
+use gix_pathspec::Search;
+use pathspec_parts::tree::Walk;
+use pathspec_select::index::{IndexError, IndexPlace, IndexWalk, SortedPaths, chosen_paths};
+use pathspec_select::listing::read;
+use pathspec_select::select;
+use pathspec_test_support::look_ups::Marks;
+use pathspec_test_support::support::{Row, are_same, assert_each, search_of};
+use std::alloc::{AllocError, Global};
+use std::test::Fail;
+
+/// The bytes of texts.
+pub fn bytes_of<'t>(alloc: Global, texts: &'t [&'t str]) -> Result<Vec<&'t [u8]>, AllocError> {
+    let mut all = Vec::new(alloc);
+    for text in texts {
+        all.push(text.as_bytes())?;
+    }
+    Ok(all)
+}
+
+/// A listing whose records are these texts, a line each.
+fn lines_of(alloc: Global, texts: &[&str]) -> Result<Vec<u8>, AllocError> {
+    let mut lines = Vec::new(alloc);
+    for text in texts {
+        lines.extend_from_slice(text.as_bytes())?;
+        lines.push(b'\n')?;
+    }
+    Ok(lines)
+}
+
+/// An entry: its path, whether it is a directory, the number of a path and a length.
+type Entry = (&'static str, bool, usize, usize);
+
+/// Paths, and their entries in order, where every directory is entered.
+struct Entries(&'static [&'static str], &'static [Entry]);
+
+impl Row for Entries {
+    fn holds(&self, alloc: Global) -> Result<bool, Fail> {
+        let paths = bytes_of(alloc, self.0)?;
+        let Ok(sorted) = SortedPaths::new(&paths) else {
+            return Ok(false);
+        };
+        let lines = lines_of(alloc, self.0)?;
+        let listing = read(alloc, &lines, b'\n')?;
+        let mut walk = IndexWalk::new(alloc, &sorted)?;
+        let mut cursor = listing.cursor(alloc)?;
+        for entry in self.1 {
+            if !is_next(&mut walk, &mut cursor, entry) {
+                return Ok(false);
+            }
+        }
+        Ok(walk.next().is_none() && cursor.next().is_none())
+    }
+}
+
+/// Whether a walk stands at this path.
+fn is_at(walk: &IndexWalk<'_>, path: &str) -> bool {
+    walk.path().as_bytes() == path.as_bytes()
+}
+
+/// Whether this is the next entry of both walks, which is entered.
+fn is_next<W: Walk>(walk: &mut IndexWalk<'_>, cursor: &mut W, entry: &Entry) -> bool {
+    let (path, is_dir, number, length) = entry;
+    let Some(place) = walk.next() else {
+        return false;
+    };
+    if cursor.next().is_none() {
+        return false;
+    }
+    let is_there = place.path == *number && place.length == *length;
+    let is_path = is_at(walk, path) && cursor.path().as_bytes() == path.as_bytes();
+    let is_kind = walk.is_dir() == *is_dir && cursor.is_dir() == *is_dir;
+    is_there && is_path && is_kind && walk.enter() == *is_dir && cursor.enter() == *is_dir
+}
+
+#[test]
+#[rattlefmt::skip]
+fn paths_make_entries_and_imply_directories(rt: HostRuntime) -> Result<(), Fail> {
+    const ROWS: &[Entries] = &[
+        Entries(&[], &[]),
+        Entries(&["a"], &[("a", false, 0, 1)]),
+        Entries(&["a/b/c"], &[("a", true, 0, 1), ("a/b", true, 0, 3), ("a/b/c", false, 0, 5)]),
+        Entries(
+            &["a", "a.b", "a/b/c", "a/b/d", "a/bc", "e/f"],
+            &[
+                ("a", false, 0, 1), ("a.b", false, 1, 3), ("a", true, 2, 1), ("a/b", true, 2, 3), ("a/b/c", false, 2, 5),
+                ("a/b/d", false, 3, 5), ("a/bc", false, 4, 4), ("e", true, 5, 1), ("e/f", false, 5, 3),
+            ],
+        ),
+        Entries(
+            &["x-y/z", "x/a-b", "x/a/b", "x0"],
+            &[
+                ("x-y", true, 0, 3), ("x-y/z", false, 0, 5), ("x", true, 1, 1), ("x/a-b", false, 1, 5), ("x/a", true, 2, 3),
+                ("x/a/b", false, 2, 5), ("x0", false, 3, 2),
+            ],
+        ),
+    ];
+    assert_each(rt.alloc(), ROWS)
+}
+
+/// Texts, the directory that they are given in, paths, the numbers of the entries that a cursor gives and enters, the
+/// places, a path's number and a length each, that a walk over the paths gives and enters, and the numbers of the paths
+/// that are chosen.
+struct Choice(
+    &'static [&'static str],
+    &'static str,
+    &'static [&'static str],
+    (&'static [usize], &'static [usize]),
+    (&'static [(usize, usize)], &'static [(usize, usize)]),
+    &'static [usize],
+);
+
+impl Row for Choice {
+    fn holds(&self, alloc: Global) -> Result<bool, Fail> {
+        let search = search_of(alloc, self.0, self.1)?;
+        let paths = bytes_of(alloc, self.2)?;
+        let Ok(sorted) = SortedPaths::new(&paths) else {
+            return Ok(false);
+        };
+        let lines = lines_of(alloc, self.2)?;
+        let chosen = chosen_paths(alloc, &sorted, &search, &mut Marks::new())?;
+        Ok(
+            are_same(&chosen, self.5)
+                && is_by_tree(alloc, &lines, &search, self.3)?
+                && is_by_paths(alloc, &sorted, &search, self.4)?,
+        )
+    }
+}
+
+/// Whether a cursor over the tree of a listing gives and enters the entries with these numbers.
+fn is_by_tree(
+    alloc: Global,
+    lines: &[u8],
+    search: &Search,
+    wanted: (&[usize], &[usize]),
+) -> Result<bool, Fail> {
+    let listing = read(alloc, lines, b'\n')?;
+    let mut cursor = listing.cursor(alloc)?;
+    let given = select(alloc, &mut cursor, search, &mut Marks::new())?;
+    Ok(are_same(&given, wanted.0) && are_same(cursor.entered(), wanted.1))
+}
+
+/// Whether a walk over paths gives and enters these places.
+fn is_by_paths(
+    alloc: Global,
+    sorted: &SortedPaths<'_>,
+    search: &Search,
+    wanted: (&[(usize, usize)], &[(usize, usize)]),
+) -> Result<bool, Fail> {
+    let mut walk = IndexWalk::new(alloc, sorted)?;
+    let given = select(alloc, &mut walk, search, &mut Marks::new())?;
+    Ok(are_places(&given, wanted.0) && are_places(walk.entered(), wanted.1))
+}
+
+/// Whether these are the places.
+fn are_places(places: &[IndexPlace], wanted: &[(usize, usize)]) -> bool {
+    if places.len() != wanted.len() {
+        return false;
+    }
+    for (place, (path, length)) in places.iter().zip(wanted) {
+        if place.path != *path || place.length != *length {
+            return false;
+        }
+    }
+    true
+}
+
+#[test]
+#[rattlefmt::skip]
+fn a_walk_over_paths_gives_what_a_cursor_gives(rt: HostRuntime) -> Result<(), Fail> {
+    const SOURCES: &[&str] = &["README.md", "doc/a.md", "src/gen/x.rs", "src/lib.rs", "src/lib/y.rs", "src/main.c"];
+    const ROWS: &[Choice] = &[
+        Choice(&["src/*.rs", ":!src/gen"], "", SOURCES, (&[6, 8], &[3, 7]), (&[(3, 10), (4, 12)], &[(2, 3), (4, 7)]), &[3, 4]),
+        Choice(&["*.md"], "", SOURCES, (&[0, 2], &[1, 3, 4, 7]), (&[(0, 9), (1, 8)], &[(1, 3), (2, 3), (2, 7), (4, 7)]), &[0, 1]),
+        Choice(&["doc"], "", SOURCES, (&[1, 2], &[1]), (&[(1, 3), (1, 8)], &[(1, 3)]), &[1]),
+        Choice(&["src/lib"], "", SOURCES, (&[7, 8], &[3, 7]), (&[(4, 7), (4, 12)], &[(2, 3), (4, 7)]), &[4]),
+        Choice(&["none"], "", SOURCES, (&[], &[]), (&[], &[]), &[]),
+        Choice(&["lib.rs"], "src", SOURCES, (&[6], &[3]), (&[(3, 10)], &[(2, 3)]), &[3]),
+        Choice(&["a"], "", &["a", "a-b", "a/b"], (&[0, 2, 3], &[2]), (&[(0, 1), (2, 1), (2, 3)], &[(2, 1)]), &[0, 2]),
+        Choice(&["a/b"], "", &["a", "a-b", "a/b", "ab"], (&[3], &[2]), (&[(2, 3)], &[(2, 1)]), &[2]),
+        Choice(&["a"], "", &[], (&[], &[]), (&[], &[]), &[]),
+    ];
+    assert_each(rt.alloc(), ROWS)
+}
+
+/// Paths that are refused, and why.
+struct Refused(&'static [&'static str], IndexError);
+
+impl Row for Refused {
+    fn holds(&self, alloc: Global) -> Result<bool, Fail> {
+        let paths = bytes_of(alloc, self.0)?;
+        Ok(match SortedPaths::new(&paths) {
+            Ok(_) => false,
+            Err(error) => error == self.1,
+        })
+    }
+}
+
+#[test]
+fn paths_that_are_no_index_are_refused(rt: HostRuntime) -> Result<(), Fail> {
+    const ROWS: &[Refused] = &[
+        Refused(&[""], IndexError::BadPath(0)),
+        Refused(&["a", ""], IndexError::BadPath(1)),
+        Refused(&["/a"], IndexError::BadPath(0)),
+        Refused(&["a//b"], IndexError::BadPath(0)),
+        Refused(&["a", "b/"], IndexError::BadPath(1)),
+        Refused(&["a", "a"], IndexError::NotGreater(1)),
+        Refused(&["a", "c", "b", ""], IndexError::NotGreater(2)),
+        Refused(&["a/b", "a"], IndexError::NotGreater(1)),
+        Refused(&["a/b", "a.b"], IndexError::NotGreater(1)),
+        Refused(&["b", "a/"], IndexError::BadPath(1)),
+    ];
+    assert_each(rt.alloc(), ROWS)
+}
+
+#[test]
+fn a_walk_stands_nowhere_before_its_first_entry_and_after_its_last(
+    rt: HostRuntime,
+) -> Result<(), Fail> {
+    let paths = bytes_of(rt.alloc(), &["a/b", "a/c", "d"])?;
+    let sorted = SortedPaths::new(&paths)?;
+    assert_eq!(rt; sorted.len(), 3);
+    let mut walk = IndexWalk::new(rt.alloc(), &sorted)?;
+    assert!(rt; walk.is_new() && is_at(&walk, ""));
+    assert!(rt; !walk.is_dir() && !walk.enter());
+    assert!(rt; walk.next().is_some() && is_at(&walk, "a") && !walk.is_new());
+    assert!(rt; walk.next().is_some() && is_at(&walk, "d"));
+    assert!(rt; !walk.enter() && walk.entered().is_empty());
+    assert!(rt; walk.next().is_none() && is_at(&walk, "") && !walk.enter());
+    assert!(rt; walk.next().is_none() && !walk.is_new());
+    Ok(())
+}
+
+#[test]
+fn a_directory_is_entered_once(rt: HostRuntime) -> Result<(), Fail> {
+    let paths = bytes_of(rt.alloc(), &["a/b", "a/c/d", "e"])?;
+    let sorted = SortedPaths::new(&paths)?;
+    let mut walk = IndexWalk::new(rt.alloc(), &sorted)?;
+    assert!(rt; walk.next().is_some() && walk.enter() && walk.enter());
+    assert!(rt; are_places(walk.entered(), &[(0, 1)]));
+    assert!(rt; walk.next().is_some() && is_at(&walk, "a/b") && !walk.enter());
+    assert!(rt; walk.next().is_some() && is_at(&walk, "a/c") && walk.is_dir());
+    assert!(rt; walk.next().is_some() && is_at(&walk, "e"));
+    assert!(rt; are_places(walk.entered(), &[(0, 1)]));
+    Ok(())
+}
+
+/// How many entries a walk comes to that doesn't enter the directory with this path.
+fn count_without(walk: &mut IndexWalk<'_>, path: &str) -> usize {
+    let mut count = 0usize;
+    for _ in 0..100 {
+        if walk.next().is_none() {
+            break;
+        }
+        count = count.saturating_add(1);
+        if !is_at(walk, path) {
+            walk.enter();
+        }
+    }
+    count
+}
+
+/// Whether a path is there and is this.
+fn is_path(found: Option<BStr<'_>>, path: &str) -> bool {
+    match found {
+        Some(found) => found.as_bytes() == path.as_bytes(),
+        None => false,
+    }
+}
+
+#[test]
+fn the_example_for_callers_does_what_it_says(rt: HostRuntime) -> Result<(), Fail> {
+    let alloc = rt.alloc();
+    let search = search_of(alloc, &["src/*.rs", ":!src/gen"], "")?;
+    let texts = ["README.md", "doc/a.md", "src/gen/x.rs", "src/lib.rs"];
+    let names = bytes_of(alloc, &texts)?;
+    let paths = SortedPaths::new(&names)?;
+    let numbers = chosen_paths(alloc, &paths, &search, &mut Marks::new())?;
+    assert!(rt; are_same(&numbers, &[3]));
+    let mut walk = IndexWalk::new(alloc, &paths)?;
+    let places = select(alloc, &mut walk, &search, &mut Marks::new())?;
+    assert!(rt; are_places(&places, &[(3, 10)]) && are_places(walk.entered(), &[(2, 3)]));
+    for place in &places {
+        assert!(rt; paths.is_file(*place));
+    }
+    let directory = IndexPlace { path: 2, length: 3 };
+    let nowhere = IndexPlace { path: 4, length: 0 };
+    let past_the_path = IndexPlace {
+        path: 3,
+        length: 11,
+    };
+    assert!(rt; !paths.is_file(directory) && is_path(paths.entry_path(directory), "src"));
+    assert!(rt; !paths.is_file(nowhere) && paths.entry_path(nowhere).is_none());
+    assert!(rt; !paths.is_file(past_the_path) && paths.entry_path(past_the_path).is_none());
+    let mut walk = IndexWalk::new(alloc, &paths)?;
+    assert_eq!(rt; count_without(&mut walk, "doc"), 6);
+    assert!(rt; are_places(walk.entered(), &[(2, 3), (2, 7)]));
+    Ok(())
+}
