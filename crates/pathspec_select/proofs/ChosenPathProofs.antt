@@ -12,25 +12,11 @@ use Rattle.pathspec_select.specs.declared.index.paths.IndexPlace.{IndexPlace}
 use Rattle.pathspec_select.specs.Listing.{listing_entries}
 use Rattle.pathspec_select.specs.Index.{path_at, number_of, is_whole, IsIndex, AreNumbersOf}
 use Rattle.pathspec_select.proofs.IndexEntryProofs.{implies, base-step, base-le, entry-at}
+use Rattle.pathspec_select.proofs.EnteredProofs.{rising_tail, rising_first}
 use Rattle.pathspec_select.proofs.RunProofs.{plain}
 use Rattle.pathspec_select.proofs.NumberProofs.{file, file-entry, named-by}
 
--- ---- rising numbers
-
-rising_tail : (x : ℕ) (xs : List ℕ) → IsStrictlyIncreasing (x ∷ xs) → IsStrictlyIncreasing xs
-rising_tail x xs h k l =
-    let e : suc k + 1 ≡ suc (k + 1) = omega arith in
-    subst (λ j. get_or (x ∷ xs) (suc k) 0 < get_or (x ∷ xs) j 0) e (h (suc k) (omega (arith, l)))
-
-rising_first : (x : ℕ) (xs : List ℕ) → IsStrictlyIncreasing (x ∷ xs) → (m : ℕ) → Contains xs m → x < m
-rising_first x [] h m c = absurd (omega (arith, c.1))
-rising_first x (y ∷ xs) h m c =
-    let first : x < y = h 0 (omega arith) in
-    elim (Contains-cases y m xs c) [
-      | inl e ↦ omega (arith, first, e)
-      | inr d ↦ let later = rising_first y xs (rising_tail x (y ∷ xs) h) m d in omega (arith, first, later)
-    ]
-
+-- a smaller number in front of numbers that rise
 rising_cons : (x : ℕ) (xs : List ℕ) → ((m : ℕ) → Contains xs m → x < m) → IsStrictlyIncreasing xs → IsStrictlyIncreasing (x ∷ xs)
 rising_cons x [] a r zero l = absurd (omega (arith, l))
 rising_cons x (y ∷ xs) a r zero l = a y (Contains-here y xs)

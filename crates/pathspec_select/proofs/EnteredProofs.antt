@@ -14,12 +14,12 @@ use Rattle.pathspec_select.specs.Walks.{Enters, EnteredIsOne, chosen_entries, Gi
 
 -- ---- rising lists
 
-rising_tail : (x : ℕ) (xs : List ℕ) → IsStrictlyIncreasing (x ∷ xs) → IsStrictlyIncreasing xs
+pub rising_tail : (x : ℕ) (xs : List ℕ) → IsStrictlyIncreasing (x ∷ xs) → IsStrictlyIncreasing xs
 rising_tail x xs h k l =
     let e : suc k + 1 ≡ suc (k + 1) = omega arith in
     subst (λ j. get_or (x ∷ xs) (suc k) 0 < get_or (x ∷ xs) j 0) e (h (suc k) (omega (arith, l)))
 
-rising_first : (x : ℕ) (xs : List ℕ) → IsStrictlyIncreasing (x ∷ xs) → (m : ℕ) → Contains xs m → x < m
+pub rising_first : (x : ℕ) (xs : List ℕ) → IsStrictlyIncreasing (x ∷ xs) → (m : ℕ) → Contains xs m → x < m
 rising_first x [] h m c = absurd (omega (arith, c.1))
 rising_first x (y ∷ xs) h m c =
     let one : 0 + 1 ≡ 1 = refl in
