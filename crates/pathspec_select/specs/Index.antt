@@ -40,6 +40,7 @@ RefusesPaths paths (index_error.NotGreater n) = (n < length paths) × IsIndex (t
 
 -- ---- places
 
+-- how many slashes a text has
 abbrev pub slashes_in : List ℕ → ℕ
 slashes_in text = count_by is_slash text
 
