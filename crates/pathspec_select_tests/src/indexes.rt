@@ -1,7 +1,7 @@
 //! Walks over sorted paths, as a git index has them, beside a cursor over the tree of the same paths.
 use bstr::BStr;
 use gix_pathspec::Search;
-use pathspec_parts::tree::Walk;
+use pathspec_parts::tree::Walk as _;
 use pathspec_select::index::{IndexError, IndexPlace, IndexWalk, SortedPaths, chosen_paths};
 use pathspec_select::listing::read;
 use pathspec_select::select;
@@ -41,16 +41,13 @@ impl Row for Entries {
         let Ok(sorted) = SortedPaths::new(&paths) else {
             return Ok(false);
         };
-        let lines = lines_of(alloc, self.0)?;
-        let listing = read(alloc, &lines, b'\n')?;
         let mut walk = IndexWalk::new(alloc, &sorted)?;
-        let mut cursor = listing.cursor(alloc)?;
         for entry in self.1 {
-            if !is_next(&mut walk, &mut cursor, entry) {
+            if !is_next(&mut walk, entry) {
                 return Ok(false);
             }
         }
-        Ok(walk.next().is_none() && cursor.next().is_none())
+        Ok(walk.next().is_none())
     }
 }
 
@@ -59,19 +56,16 @@ fn is_at(walk: &IndexWalk<'_>, path: &str) -> bool {
     walk.path().as_bytes() == path.as_bytes()
 }
 
-/// Whether this is the next entry of both walks, which is entered.
-fn is_next<W: Walk>(walk: &mut IndexWalk<'_>, cursor: &mut W, entry: &Entry) -> bool {
+/// Whether this is the next entry of a walk, which is entered.
+fn is_next(walk: &mut IndexWalk<'_>, entry: &Entry) -> bool {
     let (path, is_dir, number, length) = entry;
     let Some(place) = walk.next() else {
         return false;
     };
-    if cursor.next().is_none() {
-        return false;
-    }
     let is_there = place.path == *number && place.length == *length;
-    let is_path = is_at(walk, path) && cursor.path().as_bytes() == path.as_bytes();
-    let is_kind = walk.is_dir() == *is_dir && cursor.is_dir() == *is_dir;
-    is_there && is_path && is_kind && walk.enter() == *is_dir && cursor.enter() == *is_dir
+    let is_path = is_at(walk, path);
+    let is_kind = walk.is_dir() == *is_dir;
+    is_there && is_path && is_kind && walk.enter() == *is_dir
 }
 
 #[test]

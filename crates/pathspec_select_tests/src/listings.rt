@@ -1,5 +1,5 @@
 //! Listings that are read as trees.
-use pathspec_parts::tree::Walk;
+use pathspec_parts::tree::Walk as _;
 use pathspec_select::listing::{Listing, ListingError, read};
 use pathspec_test_support::support::{Row, assert_each};
 use std::alloc::Global;
@@ -18,38 +18,25 @@ impl Row for Entries {
     }
 }
 
-/// Whether a listing has these entries.
+/// Whether a listing has these entries, where every directory is entered.
 fn has_entries(alloc: Global, listing: &Listing<'_>, entries: &[Entry]) -> Result<bool, Fail> {
     let mut cursor = listing.cursor(alloc)?;
-    Ok(comes_to(listing, &mut cursor, entries) && listing.record(entries.len()).is_none())
-}
-
-/// Whether a cursor comes to these entries and to no other, where every directory is entered.
-fn comes_to<W: Walk<Place = usize>>(
-    listing: &Listing<'_>,
-    cursor: &mut W,
-    entries: &[Entry],
-) -> bool {
     for entry in entries {
-        if !is_next(listing, cursor, entry) {
-            return false;
+        let (path, is_dir, record) = entry;
+        let Some(number) = cursor.next() else {
+            return Ok(false);
+        };
+        let is_same = cursor.path().as_bytes() == path.as_bytes() && cursor.is_dir() == *is_dir;
+        cursor.enter();
+        let is_right = match listing.record(number) {
+            Some(found) => is_same && found.as_bytes() == record.as_bytes(),
+            None => is_same && record.is_empty(),
+        };
+        if !is_right {
+            return Ok(false);
         }
     }
-    cursor.next().is_none()
-}
-
-/// Whether this is the next entry, which is entered.
-fn is_next<W: Walk<Place = usize>>(listing: &Listing<'_>, cursor: &mut W, entry: &Entry) -> bool {
-    let (path, is_dir, record) = entry;
-    let Some(number) = cursor.next() else {
-        return false;
-    };
-    let is_same = cursor.path().as_bytes() == path.as_bytes() && cursor.is_dir() == *is_dir;
-    cursor.enter();
-    match listing.record(number) {
-        Some(found) => is_same && found.as_bytes() == record.as_bytes(),
-        None => is_same && record.is_empty(),
-    }
+    Ok(cursor.next().is_none() && listing.record(entries.len()).is_none())
 }
 
 #[test]
@@ -127,38 +114,6 @@ fn records_are_entries_and_missing_parents_are_implied(rt: HostRuntime) -> Resul
         Entries("a/b/", b'/', &[("a", false, "a"), ("b", false, "b")]),
     ];
     assert_each(rt.alloc(), ROWS)
-}
-
-/// A listing of one record with so many names, of which each is `a`: the path of its last entry has twice as many bytes but
-/// one.
-struct Names(usize);
-
-impl Row for Names {
-    fn holds(&self, alloc: Global) -> Result<bool, Fail> {
-        let mut bytes = Vec::new(alloc);
-        for _ in 1..self.0 {
-            bytes.extend_from_slice(b"a/")?;
-        }
-        bytes.extend_from_slice(b"a\n")?;
-        let listing = read(alloc, bytes.as_slice(), b'\n')?;
-        let mut cursor = listing.cursor(alloc)?;
-        let mut longest = 0;
-        while cursor.next().is_some() {
-            cursor.enter();
-            longest = cursor.path().as_bytes().len();
-        }
-        Ok(
-            longest + 1 == 2 * self.0
-                && cursor.entered().len() + 1 == self.0
-                && listing.len() == self.0
-                && listing.record(self.0 - 1).is_some(),
-        )
-    }
-}
-
-#[test]
-fn a_record_has_an_entry_for_each_of_its_names(rt: HostRuntime) -> Result<(), Fail> {
-    assert_each(rt.alloc(), &[Names(1), Names(2), Names(10_000)])
 }
 
 /// A listing, and the number of its first bad record.
