@@ -4,11 +4,9 @@ use Rattle.std.proofs.lemmas.Bool.{cases_Bool}
 use Rattle.std.proofs.lemmas.List.{append-nil, map-append, length-map, length-drop, take_all, take-map, take-append-drop, take-append-le, length_push}
 use Rattle.std.proofs.lemmas.List.Sums.{common_prefix_len-le, sum_by-append, fold-append}
 use Rattle.std.proofs.lemmas.List.Splits.{join_with_byte-slice_split}
-use Rattle.std.proofs.lemmas.Slice.Eq.{bytes_eq-Decides}
 use Rattle.std.proofs.lemmas.Option.{same_Some, slice_get_within}
 use Rattle.std.proofs.Math.Seq.{take-add}
 use Rattle.std.specs.Prelude.{◌⊎◌, slice_get, bytes_eq}
-use Rattle.std.specs.List.{common_prefix_len}
 use Rattle.pathspec_parts.specs.Bytes.{slash}
 use Rattle.pathspec_parts.specs.Paths.{pieces, join_names, ends_with_slash}
 use Rattle.pathspec_parts.specs.Entries.{OpenDirectory, Entry, own_call, names_of, entry_in}
@@ -19,7 +17,7 @@ use Rattle.pathspec_parts.proofs.EntryProofs.{numbers_from, numbers_from-yes, nu
 use Rattle.pathspec_parts.proofs.TreeProofs.{get-cases}
 use Rattle.pathspec_select.specs.Listing.{record_is_dir, own_names, shared_depth, record_calls}
 use Rattle.pathspec_select.specs.Index.{slashes_in}
-use Rattle.pathspec_select.proofs.RecordProofs.{take-less}
+use Rattle.pathspec_select.proofs.RecordProofs.{take-less, take-common_prefix_len}
 use Rattle.pathspec_select.proofs.FrontProofs.{dirs, last_name, pieces-dirs, length-dirs, parents-are, own-are}
 
 -- ---- directories are closed
@@ -112,18 +110,6 @@ directories-opened n ds (x ∷ xs) =
 
 -- ---- one more path
 
-take-common : (xs ys : List (List ℕ)) → take (common_prefix_len bytes_eq xs ys) xs ≡ take (common_prefix_len bytes_eq xs ys) ys
-take-common [] [] = refl
-take-common [] (y ∷ ys) = refl
-take-common (x ∷ xs) [] = refl
-take-common (x ∷ xs) (y ∷ ys) = elim (cases_Bool (bytes_eq x y)) [
-  | inl t ↦
-      let same : x ≡ y = (bytes_eq-Decides x y).0 t in
-      let e : 1 + common_prefix_len bytes_eq xs ys ≡ suc (common_prefix_len bytes_eq xs ys) = omega arith in
-      rw (t, e) (ap (λ z. z ∷ take (common_prefix_len bytes_eq xs ys) xs) same ∙ ap (λ t. y ∷ t) (take-common xs ys))
-  | inr f ↦ rw f refl
-]
-
 module _ (es : List Entry) (ds : List OpenDirectory) (r : List ℕ) (plain : ends_with_slash r ≡ false) where
   abbrev pub names : List (List ℕ)
   names = names_of ds
@@ -170,7 +156,7 @@ module _ (es : List Entry) (ds : List OpenDirectory) (r : List ℕ) (plain : end
       ∙ ap (λ t. tree_of t parents) (append_assoc es (opened (length es) kept missing) (own ∷ []))))
 
   kept-names : names_of kept ≡ take shared (dirs r)
-  kept-names = sym (take-map (λ (d : OpenDirectory). d.name) shared ds) ∙ take-common names (dirs r)
+  kept-names = sym (take-map (λ (d : OpenDirectory). d.name) shared ds) ∙ take-common_prefix_len names (dirs r)
 
   pub parents-names : names_of parents ≡ dirs r
   parents-names = names_of-open_too (length es) kept missing ∙ (ap (λ t. t ++ missing) kept-names ∙ take-append-drop shared (dirs r))

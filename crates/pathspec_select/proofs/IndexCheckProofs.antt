@@ -1,5 +1,5 @@
 -- One more path that is checked.
-use Rattle.std.proofs.Common.{◌≡◌, ℕ, zero, suc, ◌+◌, ◌-◌, ◌<◌, true, false, nat_eq, refl, sym, ◌∙◌, ap, List, [], length, take, drop, arith, inl, inr}
+use Rattle.std.proofs.Common.{◌≡◌, ℕ, zero, suc, ◌+◌, ◌-◌, ◌<◌, true, nat_eq, refl, sym, ◌∙◌, ap, List, [], length, take, drop, arith, inl, inr}
 use Rattle.std.proofs.lemmas.Bool.{cases_lt}
 use Rattle.std.proofs.lemmas.List.{length-take-le, take-take, take_all}
 use Rattle.std.proofs.Math.Seq.{get_or-take}
@@ -20,11 +20,6 @@ pub less-from : (o : Ordering) → is_lt o ≡ true → o ≡ Less
 less-from Less t = refl
 less-from Equal t = cc
 less-from Greater t = cc
-
-pub not-less-from : (o : Ordering) → is_lt o ≡ false → o ≡ Less → ⊥
-not-less-from Less f e = let off : true ≡ false = f in cc
-not-less-from Equal f e = cc
-not-less-from Greater f e = cc
 
 module _ (ps : List (List ℕ)) (n : ℕ) (l : n < length ps) where
   abbrev more : List (List ℕ)

@@ -136,9 +136,6 @@ module _ (ps : List (List ℕ)) (plain : (k : ℕ) → k < length ps → ends_wi
   pub base-step : (k : ℕ) → k < length ps → base (k + 1) ≡ base k + (implies ps k + 1)
   base-step k l = let a = adds-at k l in ap length a.entries_are ∙ (length-append (listing_entries (take k ps)) a.new ∙ ap (λ n. base k + n) a.count)
 
-  pub base-none : base 0 ≡ 0
-  base-none = refl
-
   pub base-all : base (length ps) ≡ length es
   base-all = ap (λ t. length (listing_entries t)) (take_all (length ps) ps (omega arith))
 
@@ -164,9 +161,6 @@ module _ (ps : List (List ℕ)) (plain : (k : ℕ) → k < length ps → ends_wi
         sym (tree_has_entries (calls_from [] ps)) ∙ (ap (λ (t : TreeContents). t.entries) (ap tree_of_calls calls ∙ fold-append tree_after empty_tree (calls_from [] (take k ps)) later)
             ∙ (x.1 ∙ ap (λ t. t ++ x.0) (tree_has_entries (calls_from [] (take k ps))))),
       )
-
-  pub base-within : (k : ℕ) → base k ≤ length es
-  base-within k = let f = front-of k in let s = ap length f.1 ∙ length-append (listing_entries (take k ps)) f.0 in omega (arith, s)
 
   -- the entry that a path makes with this number
   pub entry-at : (k c : ℕ) → k < length ps → c ≤ implies ps k → (e : Entry) × (slice_get es (base k + c) ≡ Some e)

@@ -212,9 +212,6 @@ module _ (ps : List (List ℕ)) (at : Option IndexPlace) (entered : List IndexPl
 
   -- ---- a step
 
-  abbrev IsStep : Option IndexPlace → Type 0
-  IsStep r = IfSome r (λ place. IsPlace ps place × (number place ≡ next)) × IfNone r (next ≡ length es)
-
   pub step-on : (r : Option IndexPlace) → IfSome r (λ place. IsPlace ps place × (number place ≡ next)) → IfNone r (next ≡ length es) → IsIndexWalk ps r entered false false room
   step-on (Some place) s n = goes-on place s.0 s.1
   step-on None s n = ends-on n

@@ -55,7 +55,8 @@ fn write_run<W: Write>(
 ) -> Result<usize, Refusal>
     requires { entries.now ≢ [] }
     ensures count { IfOk result (IsCountOf entries.now) }
-    ensures written { IfOk result (λ count. AppendsUpTo (W.contents writer.old) (W.contents writer.new)
+    ensures written { IfOk result (λ count. AppendsUpTo
+        (W.contents writer.old) (W.contents writer.new)
         (buffer.old.items ++ written_entries separator listing.now.marks (take count entries.now))
         buffer.new.items) }
     ensures cause { IfErr result (λ e. e ≡ Refusal.Write) }

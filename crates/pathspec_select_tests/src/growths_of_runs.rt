@@ -1,12 +1,14 @@
 //! Each growth refused in turn, of walks, listings, jobs and runs of the program.
 use crate::environments::read;
+use crate::indexes::bytes_of;
 use crate::program::Run;
 use gix_pathspec::Search;
 use pathspec_parts::tree::{Cursor, Tree, Walk as _};
+use pathspec_select::index::{IndexWalk, SortedPaths, chosen_paths};
 use pathspec_select::listing::{self, ListingError};
 use pathspec_select::{Environment, Job, Refusal, Rows, SelectError, run, run_with, select};
 use pathspec_test_support::growths::{
-    Call, Ended, Makes, Making, Memory, NONE, assert_calls, refuse,
+    ALL, Call, Ended, Makes, Making, Memory, NONE, assert_calls, refuse,
 };
 use pathspec_test_support::look_ups::Marks;
 use pathspec_test_support::support::{
@@ -66,7 +68,90 @@ fn a_walk_ends_or_memory_ran_out(rt: HostRuntime) -> Result<(), Fail> {
     assert_calls(rt.alloc(), CALLS)
 }
 
-/// The call that reads a listing of so many bytes, which has so many entries.
+/// How the call ends that gives the numbers of the chosen paths, which are these.
+fn end_of_choice(
+    alloc: Global,
+    number: usize,
+    paths: &SortedPaths<'_>,
+    search: &Search,
+    want: &[usize],
+) -> Result<Ended, Fail> {
+    let mut marks = Marks::new();
+    refuse(alloc, number);
+    let answer = chosen_paths(alloc, paths, search, &mut marks);
+    refuse(alloc, NONE);
+    Ok(match answer {
+        Ok(given) => Ended::Answered.if_right(are_same(&given, want)),
+        Err(SelectError::Memory) => Ended::Refused,
+        // The look-up of the tests takes memory, too.
+        Err(SelectError::LookUp(AllocError)) => Ended::Refused.if_right(marks.failed == 1),
+    })
+}
+
+/// The call that gives the chosen ones of some paths, with the texts of its search and the numbers that it gives.
+struct Choose(&'static [&'static str], &'static [usize]);
+
+impl Call for Choose {
+    fn end(&self, alloc: Global, number: usize) -> Result<Ended, Fail> {
+        let texts = bytes_of(alloc, &["a/b", "a/x", "c/d", "x"])?;
+        let paths = SortedPaths::new(&texts)?;
+        let search = search_of(alloc, self.0, "")?;
+        let end = end_of_choice(alloc, number, &paths, &search, self.1)?;
+        let again = end_of_choice(alloc, NONE, &paths, &search, self.1)?;
+        Ok(with_again(end, again))
+    }
+}
+
+#[test]
+fn chosen_paths_are_given_or_memory_ran_out(rt: HostRuntime) -> Result<(), Fail> {
+    const CALLS: &[Choose] = &[
+        Choose(&["a/b"], &[0]),
+        Choose(&["."], &[0, 1, 2, 3]),
+        Choose(&[":(attr:gen)."], &[3]),
+    ];
+    assert_calls(rt.alloc(), CALLS)
+}
+
+/// How many entries a walk comes to that enters all.
+fn count_of(walk: &mut IndexWalk<'_>) -> usize {
+    let mut count = 0usize;
+    for _ in 0..100 {
+        if walk.next().is_none() {
+            break;
+        }
+        count = count.saturating_add(walk.path().as_bytes().len().min(1));
+        walk.enter();
+    }
+    count
+}
+
+/// The steps of a walk over paths, after which it has come to so many entries.
+struct Steps(&'static [&'static str], usize);
+
+impl Call for Steps {
+    fn end(&self, alloc: Global, _: usize) -> Result<Ended, Fail> {
+        let texts = bytes_of(alloc, self.0)?;
+        let paths = SortedPaths::new(&texts)?;
+        let mut walk = IndexWalk::new(alloc, &paths)?;
+        refuse(alloc, ALL);
+        let count = count_of(&mut walk);
+        refuse(alloc, NONE);
+        Ok(Ended::Answered.if_right(count == self.1))
+    }
+}
+
+#[test]
+fn a_walk_over_paths_takes_no_memory(rt: HostRuntime) -> Result<(), Fail> {
+    const CALLS: &[Steps] = &[
+        Steps(&[], 0),
+        Steps(&["a"], 1),
+        Steps(&["a/b/c/d/e/f/g/h"], 8),
+        Steps(&["a/b", "a/c/d", "b/c/d", "b/d/e"], 9),
+    ];
+    assert_calls(rt.alloc(), CALLS)
+}
+
+/// The calls that read a listing and make a walk over it, which has so many entries.
 struct ReadListing(&'static [u8], usize);
 
 impl Making for ReadListing {
@@ -81,7 +166,11 @@ impl Making for ReadListing {
     }
 
     fn make(&self, alloc: Global, _: ()) -> Result<usize, ListingError> {
-        Ok(listing::read(alloc, self.0, b'\n')?.len())
+        let listing = listing::read(alloc, self.0, b'\n')?;
+        match listing.cursor(alloc) {
+            Ok(_) => Ok(listing.len()),
+            Err(AllocError) => Err(ListingError::Memory),
+        }
     }
 
     fn is_same(&self, value: &usize, other: &usize) -> bool {

@@ -68,6 +68,13 @@ fn records_are_entries_and_missing_parents_are_implied(rt: HostRuntime) -> Resul
             ],
         ),
         Entries("", b'\n', &[]),
+    ];
+    assert_each(rt.alloc(), ROWS)
+}
+
+#[test]
+fn a_path_may_come_again_as_another_entry(rt: HostRuntime) -> Result<(), Fail> {
+    const ROWS: &[Entries] = &[
         Entries(
             "a\na/\na/b\na\n",
             b'\n',

@@ -105,9 +105,7 @@ impl<'a> Outline<'a> {
         let record = record_of(self.bytes, self.separator, span.start, count)?;
         Some(BStr::new(record))
     }
-}
 
-impl<'a> Outline<'a> {
     /// The records of the first of some entries, each with this separator after it, as far as they follow one another in
     /// the listing, and of how many entries they are. They are of none where the first entry has no record, or its record
     /// isn't followed by the separator.

@@ -66,6 +66,15 @@ after_own o u start text parents name own is_dir k r w some kind above names e d
           (record_is text parents name w some kind ∙ (ap (λ (x : List ℕ). record_length (length parents + length x) (record_is_dir text)) (sym e) ∙ ap (record_length (length parents + length own)) (sym b)));
     }
 
+-- what the last entry is
+added : (c : Joined-is_dir)
+    → After c.go_to.new.outline c.args.start c.args.text.now c.split_name.result.0.now c.split_name.result.1.now (length c.split_name.result.0.now + length c.strip_last_slash-is_dir.result.0.now) c.strip_last_slash-is_dir.result.1
+added c =
+    let n = c.split_name.ensures in
+    let s = c.strip_last_slash-is_dir in
+    after_own c.args.outline.now c.go_to.new.outline c.args.start c.args.text.now c.split_name.result.0.now c.split_name.result.1.now s.result.0.now s.result.1 c.in_ok-go_to.ensures.kept c.requires.record n.whole n.some n.kind n.parents n.name s.ensures.path
+    s.ensures.slash
+
 pub returns-clause-tree : goal.returns-clause-tree
 returns-clause-tree c =
     let n = c.split_name.ensures in
@@ -74,20 +83,16 @@ returns-clause-tree c =
     let name = c.split_name.result.1.now in
     let o = c.go_to.new.outline in
     let g = c.in_ok-go_to.ensures in
-    let s = c.strip_last_slash-is_dir in
-    let a = after_own c.args.outline.now o c.args.start text parents name s.result.0.now s.result.1 g.kept c.requires.record n.whole n.some n.kind n.parents n.name s.ensures.path s.ensures.slash in
+    let a = added c in
     ap (λ (x : OutlineContents). x.tree) c.in_ok-add.ensures.ok ∙ (a.tree ∙ tree_own text parents name n.whole n.some n.kind n.parents n.name o.tree g.there c.args.outline.now.tree (directory_names c.args.directory.now) g.tree)
 
 pub returns-clause-marks : goal.returns-clause-marks
 returns-clause-marks c =
     let n = c.split_name.ensures in
     let text = c.args.text.now in
-    let parents = c.split_name.result.0.now in
-    let name = c.split_name.result.1.now in
     let o = c.go_to.new.outline in
     let g = c.in_ok-go_to.ensures in
-    let s = c.strip_last_slash-is_dir in
-    let a = after_own c.args.outline.now o c.args.start text parents name s.result.0.now s.result.1 g.kept c.requires.record n.whole n.some n.kind n.parents n.name s.ensures.path s.ensures.slash in
+    let a = added c in
     let names = directory_names c.args.directory.now in
     ap (λ (x : OutlineContents). x.marks) c.in_ok-add.ensures.ok
     ∙ (ap (λ m. o.marks ++ m ∷ []) a.mark
@@ -118,8 +123,7 @@ returns-clause-there c =
     let name = c.split_name.result.1.now in
     let o = c.go_to.new.outline in
     let g = c.in_ok-go_to.ensures in
-    let s = c.strip_last_slash-is_dir in
-    let a = after_own c.args.outline.now o c.args.start text parents name s.result.0.now s.result.1 g.kept c.requires.record n.whole n.some n.kind n.parents n.name s.ensures.path s.ensures.slash in
+    let a = added c in
     subst (λ (t : TreeContents). HasOpen t c.if-is_dir.result.now) (sym (ap (λ (x : OutlineContents). x.tree) c.in_ok-add.ensures.ok ∙ a.tree))
     (subst (HasOpen (tree_after o.tree (own_call (record_is_dir text) (without_last_slash name)))) (sym (path_is c)) (has_open-own text parents name n.whole n.some n.kind n.parents n.name o.tree g.there (record_is_dir text) refl))
 
