@@ -17,11 +17,6 @@ use Rattle.gix_pathspec.specs.Reading.{nil_spec}
 use Rattle.gix_pathspec.specs.NormalForm.{normal_form}
 use Rattle.gix_pathspec.specs.Prefixes.{heads, common_front, common_prefix}
 use Rattle.gix_pathspec.specs.Search.{Numbered, specs_of, at_number, numbered_from, default_to_prefix, in_search_order, search_of}
-use Rattle.gix_pathspec.specs.declared.search.reach.Reach.{Reach}
-use Rattle.gix_pathspec.specs.Reach.{IsReachOf}
-use Rattle.gix_pathspec.specs.Compiled.{IsSearch}
-use Rattle.gix_pathspec.specs.Room.{ScratchContents, Fits}
-use Rattle.gix_pathspec.specs.Takers.{takers_of}
 use Rattle.gix_pathspec.specs.Building.{numbered_normal_form, TellsFault, IsErrorAt}
 
 -- ---- faults
@@ -127,19 +122,3 @@ read-or (Some x) other = refl
 pub common_prefix-is : (specs : List Spec) → unwrap_or (reduce common_front (heads specs)) [] ≡ common_prefix specs
 unfolding common_prefix
 common_prefix-is specs = refl
-
--- ---- a search
-
--- the same search, with room of its own
-pub is_search-same : (specs others : List Numbered) (reach other_reach : Reach) (takers other_takers : List Spec) (nil other_nil : Pattern) (room other_room : ScratchContents) → others ≡ specs → IsReachOf (specs_of others) other_reach → other_takers ≡ takers_of (specs_of others) → pattern_spec other_nil ≡ nil_spec → Fits others other_room → IsSearch specs reach takers nil room
-    → IsSearch others other_reach other_takers other_nil other_room
-is_search-same specs others reach other_reach takers other_takers nil other_nil room other_room s r t n f h =
-    record {
-      is_ordered = rw s h.is_ordered;
-      has_no_nil_prefix = rw s h.has_no_nil_prefix;
-      has_byte_paths = rw s h.has_byte_paths;
-      is_reach = r;
-      are_takers = t;
-      is_nil = n;
-      has_room = f;
-    }

@@ -143,13 +143,30 @@ impl Parts {
             IsParted mode pattern.now parts.head parts.middle parts.tail) }
     {
         let PartTokens { head, middle, tail } = PartTokens::of_pattern(alloc, pattern, mode)?;
+        let (head, tail) = ends_of_tokens(alloc, head, tail)?;
         Ok(Parts {
             source: Source::of(pattern),
-            head: End::of_tokens(alloc, head)?,
+            head,
             middle: Middle::of_tokens(alloc, middle)?,
-            tail: End::of_tokens(alloc, tail)?,
+            tail,
         })
     }
+}
+
+/// The head and the tail of these tokens.
+///
+/// # Errors
+/// Memory runs out.
+fn ends_of_tokens(
+    alloc: Global,
+    head: Tokens,
+    tail: Tokens,
+) -> Result<(End, End), AllocError>
+    ensures head { IfOk result (λ ends. ends.0 ≡ head) }
+    ensures tail { IfOk result (λ ends. ends.1 ≡ tail) }
+{
+    let head = End::of_tokens(alloc, head)?;
+    Ok((head, End::of_tokens(alloc, tail)?))
 }
 
 impl PartTokens {

@@ -4,59 +4,69 @@ ghost use Rattle.pathspec_pattern.specs.Errors.{kind_of, IsMemory};
 
 use bstr::BStr;
 use std::alloc::{AllocError, AllocFailed, Global};
-use thiserror::Error;
+use std::{error, fmt};
 
 /// Why a text is no pathspec, or a pathspec or the environment lies outside of what can be answered.
-#[derive(Debug, Drop, PartialEq, Eq, Error)]
+#[derive(Debug, Drop, PartialEq, Eq)]
 pub enum Error {
     /// The text is empty.
-    #[error("an empty string is not a valid pathspec")]
     Empty,
     /// A byte of short magic that git keeps free for later: the byte.
-    #[error("unimplemented short keyword: {:?}", char::from(*.0))]
     UnimplementedShort(u8),
     /// Long magic without its closing parenthesis: the whole text, from its `:` on.
-    #[error("missing ')' at the end of pathspec magic in {}", BStr::new(.0.as_slice()))]
     MissingParen(Vec<u8>),
     /// No keyword of long magic: the whole piece, as it stands between the commas that cut.
-    #[error("found an unknown keyword in long magic: {}", BStr::new(.0.as_slice()))]
     InvalidKeyword(Vec<u8>),
     /// `literal` after `glob`, or the other way round: the second of them.
-    #[error("'literal' and 'glob' are incompatible: {}", BStr::new(.0.as_slice()))]
     LiteralWithGlob(Vec<u8>),
     /// A second list of attributes: its whole piece, with its `attr:`.
-    #[error("only one attribute list is allowed: {}", BStr::new(.0.as_slice()))]
     SecondAttributes(Vec<u8>),
     /// A prefix length that is no number, or no boundary of the path: its whole piece, with its `prefix:`.
-    #[error("invalid prefix length: {}", BStr::new(.0.as_slice()))]
     InvalidPrefix(Vec<u8>),
     /// `attr:` without a list: nothing follows its colon.
-    #[error("attribute list is empty")]
     EmptyAttributes,
     /// No name of an attribute: the name without the mark `-` or `!` before it, and without `=` and a value.
-    #[error("invalid attribute name: {}", BStr::new(.0.as_slice()))]
     InvalidName(Vec<u8>),
     /// A byte that no value of an attribute holds: the byte, without a backslash before it.
-    #[error("invalid byte in attribute value: {:?}", char::from(*.0))]
     InvalidValueByte(u8),
     /// A value that ends with the backslash of an escape: the whole value as it is written, backslashes and all.
-    #[error("escape at the end of attribute value: {}", BStr::new(.0.as_slice()))]
     TrailingEscape(Vec<u8>),
     /// An absolute path that doesn't lie in the root: the path as it was before the call.
-    #[error("path is not inside of the repository: {}", BStr::new(.0.as_slice()))]
     OutsideRoot(Vec<u8>),
     /// A path that climbs out of the repository: the path as it was before the call, without the prefix.
-    #[error("path leaves the repository: {}", BStr::new(.0.as_slice()))]
     LeavesRepository(Vec<u8>),
     /// No word of truth: the word.
-    #[error("not a boolean: {}", BStr::new(.0.as_slice()))]
     NotTruth(Vec<u8>),
     /// Glob and no-glob are both asked for.
-    #[error("glob and no-glob settings are incompatible")]
     GlobAndNoGlob,
     /// Memory ran out.
-    #[error("out of memory")]
     Memory,
+}
+
+impl error::Error for Error {}
+
+impl fmt::Display for Error {
+    fn fmt<W: fmt::Write>(&self, f: &mut fmt::Formatter<W>) -> fmt::Result {
+        write!(f, "{}{}", self.message(), self.detail())
+    }
+}
+
+/// What an error carries.
+#[derive(Drop)]
+enum Detail<'a> {
+    Nothing,
+    Byte(u8),
+    Bytes(&'a [u8]),
+}
+
+impl fmt::Display for Detail<'_> {
+    fn fmt<W: fmt::Write>(&self, f: &mut fmt::Formatter<W>) -> fmt::Result {
+        match self {
+            Detail::Nothing => Ok(()),
+            Detail::Byte(byte) => write!(f, "{:?}", char::from(*byte)),
+            Detail::Bytes(bytes) => write!(f, "{}", BStr::new(bytes)),
+        }
+    }
 }
 
 impl Error {
@@ -81,6 +91,46 @@ impl Error {
             Error::NotTruth(_) => "NotTruth",
             Error::GlobAndNoGlob => "GlobAndNoGlob",
             Error::Memory => "Memory",
+        }
+    }
+
+    /// What it says, up to what it carries.
+    fn message(&self) -> &'static str {
+        match self {
+            Error::Empty => "an empty string is not a valid pathspec",
+            Error::UnimplementedShort(_) => "unimplemented short keyword: ",
+            Error::MissingParen(_) => "missing ')' at the end of pathspec magic in ",
+            Error::InvalidKeyword(_) => "found an unknown keyword in long magic: ",
+            Error::LiteralWithGlob(_) => "'literal' and 'glob' are incompatible: ",
+            Error::SecondAttributes(_) => "only one attribute list is allowed: ",
+            Error::InvalidPrefix(_) => "invalid prefix length: ",
+            Error::EmptyAttributes => "attribute list is empty",
+            Error::InvalidName(_) => "invalid attribute name: ",
+            Error::InvalidValueByte(_) => "invalid byte in attribute value: ",
+            Error::TrailingEscape(_) => "escape at the end of attribute value: ",
+            Error::OutsideRoot(_) => "path is not inside of the repository: ",
+            Error::LeavesRepository(_) => "path leaves the repository: ",
+            Error::NotTruth(_) => "not a boolean: ",
+            Error::GlobAndNoGlob => "glob and no-glob settings are incompatible",
+            Error::Memory => "out of memory",
+        }
+    }
+
+    /// What it carries.
+    fn detail(&self) -> Detail<'_> {
+        match self {
+            Error::UnimplementedShort(byte) | Error::InvalidValueByte(byte) => Detail::Byte(*byte),
+            Error::MissingParen(bytes)
+            | Error::InvalidKeyword(bytes)
+            | Error::LiteralWithGlob(bytes)
+            | Error::SecondAttributes(bytes)
+            | Error::InvalidPrefix(bytes)
+            | Error::InvalidName(bytes)
+            | Error::TrailingEscape(bytes)
+            | Error::OutsideRoot(bytes)
+            | Error::LeavesRepository(bytes)
+            | Error::NotTruth(bytes) => Detail::Bytes(bytes),
+            _ => Detail::Nothing,
         }
     }
 }

@@ -7,7 +7,7 @@ use Rattle.std.proofs.lemmas.Slice.Eq.{bytes_eq-Decides}
 use Rattle.std.proofs.lemmas.Cmp.{nat_list_cmp_total}
 use Rattle.std.proofs.lemmas.Option.{same_Some, slice_get_within}
 use Rattle.std.proofs.Math.Seq.{take-append_seam, take-append-add}
-use Rattle.std.specs.Prelude.{slice_get, Contains}
+use Rattle.std.specs.Prelude.{◌⊎◌, slice_get, Contains}
 use Rattle.std.specs.Ordering.{nat_cmp}
 use Rattle.std.specs.Cmp.{nat_cmp_is}
 use Rattle.std.specs.Cmp.Lexicographic.{slice_cmp}
@@ -232,6 +232,35 @@ module _ (ps : List (List ℕ)) (h : IsIndex ps) where
       let parts = slashes-parts place.length (path_at ps place.path) in
       (omega arith, omega (arith, s, parts))
 
+  -- a directory's place is a front of its path, and a file's the whole
+  abbrev IsKind : IndexPlace → Entry → Type 0
+  IsKind q f = ((q.length < length (path_at ps q.path)) × (f.is_dir ≡ true)) ⊎ ((q.length ≡ length (path_at ps q.path)) × (f.is_dir ≡ false))
+
+  -- the entry with a number, and its place
+  record IsPlaced (m : ℕ) (f : Entry) (q : IndexPlace) : Type 0 where
+    is_place : IsPlace ps q
+    number_is : number q ≡ m
+    from : first q.path ≤ m
+    upto : m < first (q.path + 1)
+    path : f.path ≡ take q.length (path_at ps q.path)
+    kind : IsKind q f
+
+  placed : (m : ℕ) (f : Entry) → slice_get es m ≡ Some f → (q : IndexPlace) × IsPlaced m f q
+  placed m f there =
+      let q = place-of ps plain m (slice_get_within es m f there) in
+      let y = entry-of ps plain q.0 q.1 in
+      let same : y.0 ≡ f = sym (same_Some f y.0 (sym there ∙ (ap (slice_get es) (sym q.2) ∙ y.1.stands))) in (
+        q.0,
+        record {
+          is_place = q.1;
+          number_is = q.2;
+          from = q.3;
+          upto = q.4;
+          path = ap (λ (z : Entry). z.path) (sym same) ∙ y.1.path;
+          kind = subst (IsKind q.0) same y.1.kind;
+        },
+      )
+
   module _ (nested : IsNested es) (no_slash : ArePlain NoSlash ps) where
     file-ends : (place : IndexPlace) → IsPlace ps place → place.length ≡ length (path_at ps place.path) → IsEndOf es (number place) (first (place.path + 1))
     file-ends place p e =
@@ -262,34 +291,43 @@ module _ (ps : List (List ℕ)) (h : IsIndex ps) where
       ended : IsRunEnd place.path front end
       ended = run-ends place.path front p.within
 
+      -- its own path
+      own-path : (d : Entry) → slice_get es (number place) ≡ Some d → d.path ≡ take place.length (path_at ps place.path)
+      own-path d stands = let x = entry-of ps plain place p in ap (λ (y : Entry). y.path) (same_Some d x.0 (sym stands ∙ x.1.stands)) ∙ x.1.path
+
+      -- a path below it begins with its path and a slash
+      below-begins : (q : IndexPlace) (rest : List ℕ) → take q.length (path_at ps q.path) ≡ take place.length (path_at ps place.path) ++ slash ∷ rest → BeginsWith (path_at ps q.path) front
+      below-begins q rest path =
+          let behind = drop q.length (path_at ps q.path) in (
+            rest ++ behind,
+            sym (take-append-drop q.length (path_at ps q.path)) ∙ (ap (λ t. t ++ behind) path
+            ∙ (append_assoc (take place.length (path_at ps place.path)) (slash ∷ rest) behind
+            ∙ (sym (append_assoc (take place.length (path_at ps place.path)) (slash ∷ []) (rest ++ behind)) ∙ ap (λ t. t ++ (rest ++ behind)) (sym (front-slash place p lt))))),
+          )
+
+      -- a path that begins so stands before the end
+      before-end : (k : ℕ) → k < length ps → BeginsWith (path_at ps k) front → k < end
+      before-end k within begins = elim (cases_lt k end) [
+        | inl less ↦ less
+        | inr ge ↦
+            let behind = ended.behind in
+            let there_too : BeginsWith (path_at ps end) front = run front place.path end k (omega (arith, behind)) ge within (begins-take (place.length + 1) (path_at ps place.path)) begins in
+            absurd (both_ways (begins_with (path_at ps end) front) (ended.ends (omega (arith, ge, within))) (begins-from (path_at ps end) front there_too))
+      ]
+
+      inside-at : (m : ℕ) (f : Entry) (q : IndexPlace) → IsPlaced m f q → (rest : List ℕ) → f.path ≡ take place.length (path_at ps place.path) ++ slash ∷ rest → m < first end
+      inside-at m f q h rest below =
+          let less = before-end q.path h.is_place.within (below-begins q rest (sym h.path ∙ below)) in
+          let le = base-le ps plain (q.path + 1) end (omega (arith, less)) ended.within in
+          let upto = h.upto in
+          omega (arith, le, upto)
+
       -- what lies in the directory comes before the end
       inside-before : (m : ℕ) (f : Entry) → slice_get es m ≡ Some f → number place < m → Contains f.above (number place) → m < first end
       inside-before m f there after c =
           let a = nested.above m (number place) f there c in
-          let x = entry-of ps plain place p in
-          let same : a.directory ≡ x.0 = same_Some a.directory x.0 (sym a.stands ∙ x.1.stands) in
-          let d_path : a.directory.path ≡ take place.length (path_at ps place.path) = ap (λ (y : Entry). y.path) same ∙ x.1.path in
-          let q = place-of ps plain m (slice_get_within es m f there) in
-          let y = entry-of ps plain q.0 q.1 in
-          let f_is : f ≡ y.0 = same_Some f y.0 (sym there ∙ (ap (slice_get es) (sym q.2) ∙ y.1.stands)) in
-          let k = q.0.path in
-          let path : take q.0.length (path_at ps k) ≡ take place.length (path_at ps place.path) ++ slash ∷ a.below.0 = sym y.1.path ∙ (ap (λ (z : Entry). z.path) (sym f_is) ∙ (a.below.1 ∙ ap (λ t. t ++ slash ∷ a.below.0) d_path)) in
-          let long : path_at ps k ≡ front ++ (a.below.0 ++ drop q.0.length (path_at ps k)) =
-          sym (take-append-drop q.0.length (path_at ps k)) ∙ (ap (λ t. t ++ drop q.0.length (path_at ps k)) path
-          ∙ (append_assoc (take place.length (path_at ps place.path)) (slash ∷ a.below.0) (drop q.0.length (path_at ps k))
-          ∙ (sym (append_assoc (take place.length (path_at ps place.path)) (slash ∷ []) (a.below.0 ++ drop q.0.length (path_at ps k))) ∙ ap (λ t. t ++ (a.below.0 ++ drop q.0.length (path_at ps k))) (sym (front-slash place p lt))))) in
-          let begins : BeginsWith (path_at ps k) front = (a.below.0 ++ drop q.0.length (path_at ps k), long) in
-          let k_in = q.1.within in
-          let behind = ended.behind in
-          elim (cases_lt k end) [
-            | inl less ↦
-                let le = base-le ps plain (k + 1) end (omega (arith, less)) ended.within in
-                let v = q.4 in
-                omega (arith, le, v)
-            | inr ge ↦
-                let there_too : BeginsWith (path_at ps end) front = run front place.path end k (omega (arith, behind)) ge k_in (begins-take (place.length + 1) (path_at ps place.path)) begins in
-                absurd (both_ways (begins_with (path_at ps end) front) (ended.ends (omega (arith, ge, k_in))) (begins-from (path_at ps end) front there_too))
-          ]
+          let q = placed m f there in
+          inside-at m f q.0 q.1 a.below.0 (a.below.1 ∙ ap (λ t. t ++ slash ∷ a.below.0) (own-path a.directory a.stands))
 
       -- each path of the run begins so
       run-begins : (k : ℕ) → place.path ≤ k → k < end → BeginsWith (path_at ps k) front
@@ -322,49 +360,54 @@ module _ (ps : List (List ℕ)) (h : IsIndex ps) where
             ]
       ]
 
-      before-inside : (m : ℕ) (f : Entry) → slice_get es m ≡ Some f → number place < m → m < first end → Contains f.above (number place)
-      before-inside m f there after b =
-          let q = place-of ps plain m (slice_get_within es m f there) in
-          let y = entry-of ps plain q.0 q.1 in
-          let f_is : f ≡ y.0 = same_Some f y.0 (sym there ∙ (ap (slice_get es) (sym q.2) ∙ y.1.stands)) in
-          let k = q.0.path in
-          let r = number-range place p in
-          let k_in = q.1.within in
-          let lo = q.3 in
-          let hi = q.4 in
-          let from : place.path ≤ k = elim (cases_lt k place.path) [
-            | inl l ↦ let le = base-le ps plain (k + 1) place.path (omega (arith, l)) (let w = p.within in omega (arith, w)) in let r0 = r.0 in absurd (omega (arith, le, hi, r0, after))
-            | inr ge ↦ ge
-          ] in
-          let upto : k < end = elim (cases_lt k end) [
-            | inl l ↦ l
-            | inr ge ↦ let le = base-le ps plain end k ge (omega (arith, k_in)) in absurd (omega (arith, le, lo, b))
-          ] in
-          let q_number = q.2 in
-          let enough = long-enough q.0 q.1 (omega (arith, q_number, after)) from upto in
-          let begins = run-begins k from upto in
-          let n = q.0.length - length front in
-          let flen = front-length place lt in
-          let at : length front + n ≡ q.0.length = omega (arith, enough, flen) in
-          let path : f.path ≡ take place.length (path_at ps place.path) ++ slash ∷ take n begins.0 =
-          ap (λ (z : Entry). z.path) f_is ∙ (y.1.path ∙ (ap (λ j. take j (path_at ps k)) (sym at) ∙ (ap (take (length front + n)) begins.1 ∙ (take-append-add front begins.0 n
-          ∙ (ap (λ t. t ++ take n begins.0) (front-slash place p lt) ∙ append_assoc (take place.length (path_at ps place.path)) (slash ∷ []) (take n begins.0)))))) in
-          let above = fronts_above ps no_slash m f (take place.length (path_at ps place.path)) there (take n begins.0, path) in
-          let w = above.0 in
+      -- the path of an entry between is one of the run
+      in-run : (m k : ℕ) → k < length ps → first k ≤ m → m < first (k + 1) → number place < m → m < first end → (place.path ≤ k) × (k < end)
+      in-run m k within lo hi after b = (
+        elim (cases_lt k place.path) [
+          | inl l ↦
+              let w = p.within in
+              let le = base-le ps plain (k + 1) place.path (omega (arith, l)) (omega (arith, w)) in
+              let r = (number-range place p).0 in
+              absurd (omega (arith, le, hi, r, after))
+          | inr ge ↦ ge
+        ],
+        elim (cases_lt k end) [
+          | inl l ↦ l
+          | inr ge ↦ let le = base-le ps plain end k ge (omega (arith, within)) in absurd (omega (arith, le, lo, b))
+        ],
+      )
+
+      -- a directory with its path is the directory
+      is-this : (w : ℕ) (d : Entry) (q : IndexPlace) → IsPlaced w d q → d.is_dir ≡ true → d.path ≡ take place.length (path_at ps place.path) → q ≡ place
+      is-this w d q h dir same = elim h.kind [
+        | inr g ↦ absurd (both_ways d.is_dir g.1 dir)
+        | inl g ↦ one-place q place h.is_place p g.0 lt (sym h.path ∙ same)
+      ]
+
+      -- what has a path below its path lies in it
+      goes-below : (m : ℕ) (f : Entry) → slice_get es m ≡ Some f → (rest : List ℕ) → f.path ≡ take place.length (path_at ps place.path) ++ slash ∷ rest → Contains f.above (number place)
+      goes-below m f there rest path =
+          let above = fronts_above ps no_slash m f (take place.length (path_at ps place.path)) there (rest, path) in
           let d = above.2.0 in
-          let is = nested.above m w f there above.1 in
-          let same : is.directory ≡ d = same_Some is.directory d (sym is.stands ∙ above.2.1) in
-          let dir : d.is_dir ≡ true = ap (λ (z : Entry). z.is_dir) (sym same) ∙ is.is_dir in
-          let o = place-of ps plain w (slice_get_within es w d above.2.1) in
-          let z = entry-of ps plain o.0 o.1 in
-          let d_is : d ≡ z.0 = same_Some d z.0 (sym above.2.1 ∙ (ap (slice_get es) (sym o.2) ∙ z.1.stands)) in
-          elim z.1.kind [
-            | inr g ↦ absurd (both_ways z.0.is_dir g.1 (ap (λ (v : Entry). v.is_dir) (sym d_is) ∙ dir))
-            | inl g ↦
-                let alike : take o.0.length (path_at ps o.0.path) ≡ take place.length (path_at ps place.path) = sym z.1.path ∙ (ap (λ (v : Entry). v.path) (sym d_is) ∙ above.2.2) in
-                let one : o.0 ≡ place = one-place o.0 place o.1 p g.0 lt alike in
-                subst (Contains f.above) (sym o.2 ∙ ap (number) one) above.1
-          ]
+          let is = nested.above m above.0 f there above.1 in
+          let dir : d.is_dir ≡ true = ap (λ (z : Entry). z.is_dir) (same_Some d is.directory (sym above.2.1 ∙ is.stands)) ∙ is.is_dir in
+          let o = placed above.0 d above.2.1 in
+          subst (Contains f.above) (sym o.1.number_is ∙ ap number (is-this above.0 d o.0 o.1 dir above.2.2)) above.1
+
+      before-at : (m : ℕ) (f : Entry) → slice_get es m ≡ Some f → (q : IndexPlace) → IsPlaced m f q → number place < m → m < first end → Contains f.above (number place)
+      before-at m f there q h after b =
+          let within = in-run m q.path h.is_place.within h.from h.upto after b in
+          let at = h.number_is in
+          let enough = long-enough q h.is_place (omega (arith, at, after)) within.0 within.1 in
+          let begins = run-begins q.path within.0 within.1 in
+          let n = q.length - length front in
+          let long : length front + n ≡ q.length = omega (arith, enough, front-length place lt) in
+          goes-below m f there (take n begins.0)
+          (h.path ∙ (ap (λ j. take j (path_at ps q.path)) (sym long) ∙ (ap (take (length front + n)) begins.1 ∙ (take-append-add front begins.0 n
+          ∙ (ap (λ t. t ++ take n begins.0) (front-slash place p lt) ∙ append_assoc (take place.length (path_at ps place.path)) (slash ∷ []) (take n begins.0))))))
+
+      before-inside : (m : ℕ) (f : Entry) → slice_get es m ≡ Some f → number place < m → m < first end → Contains f.above (number place)
+      before-inside m f there after b = let q = placed m f there in before-at m f there q.0 q.1 after b
 
       directory-ends : IsEndOf es (number place) (first end)
       directory-ends =

@@ -14,16 +14,18 @@ ghost use Rattle.gix_pathspec.specs.Search.{KeepsSpecs, IsFresh, specs_of, numbe
 ghost use Rattle.gix_pathspec.specs.Effort.{ArePlacesOf, heads_in_order};
 ghost use Rattle.gix_pathspec.specs.Takers.{takers_of};
 ghost use Rattle.gix_pathspec.specs.Building.{prefix_bytes, TellsFault, Builds, IsErrorAt, numbered_normal_form};
-ghost use Rattle.gix_pathspec.specs.SelectionLaws.{SpecPathsAreBytes};
+ghost use Rattle.gix_pathspec.specs.Reach.{IsReachOf};
+ghost use Rattle.gix_pathspec.specs.Room.{Fits};
+ghost use Rattle.gix_pathspec.specs.SelectionLaws.{NoNilPrefix, SpecPathsAreBytes};
 
 use crate::by_head::SpecsByHead;
 use crate::by_head::takers::TakersByHead;
-use crate::search::Search;
 use crate::search::counted::{CountedHeads, CountedSpecs, CountedTakers};
 use crate::search::reach::Reach;
 use crate::search::scratch::boxed_scratch;
 use crate::search::spec::CompiledSpec;
 use crate::search::takers::takers_with_heads;
+use crate::search::{Scratch, Search};
 use crate::{Error, MagicSignature, Pattern};
 use bstr::{BStr, BString};
 use pathspec_heads::places::PlacesByHead;
@@ -116,19 +118,8 @@ impl Search {
     {
         let alloc = *self.nil.attributes.allocator();
         let specs = clone_all(alloc, self.specs.as_slice())?;
-        let reach = Reach::of_specs(alloc, &specs)?;
-        let takers = takers_by_head(alloc, &specs)?;
-        let specs = by_head(alloc, specs)?;
-        let scratch = boxed_scratch(alloc, &specs)?;
         let source = clone_source(&self.source)?;
-        Ok(Search {
-            specs,
-            scratch,
-            reach,
-            takers,
-            nil: Pattern::nil(alloc),
-            source,
-        })
+        Ok(of_ordered(alloc, specs, source)?)
     }
 }
 
@@ -167,18 +158,64 @@ pub(super) fn build(
     let patterns = default_to_prefix(alloc, patterns, prefix)?;
     let compiled = compile_all(alloc, patterns, prefix, root)?;
     let specs = in_search_order(alloc, compiled)?;
-    let reach = Reach::of_specs(alloc, specs.as_slice())?;
-    let takers = takers_by_head(alloc, specs.as_slice())?;
-    let specs = by_head(alloc, specs)?;
-    let scratch = boxed_scratch(alloc, &specs)?;
+    Ok(of_ordered(alloc, specs, None)?)
+}
+
+/// The search of these specs, which stand in search order.
+///
+/// # Errors
+/// Memory runs out.
+fn of_ordered(
+    alloc: Global,
+    specs: Vec<CompiledSpec>,
+    source: Option<BString>,
+) -> Result<Search, AllocError>
+    requires ordered { in_search_order specs.items ≡ specs.items }
+    requires prefixes { NoNilPrefix (specs_of specs.items) }
+    requires bytes { SpecPathsAreBytes (specs_of specs.items) }
+    ensures specs { IfOk result (λ search. search.specs ≡ specs.items) }
+    ensures source { IfOk result (λ search. search.source ≡ option_map bstring_bytes source) }
+    ensures effort { IfOk result (λ search. IsFresh search.counts) }
+{
+    let (reach, takers) = pruning(alloc, &specs)?;
+    let (specs, scratch) = with_room(alloc, specs)?;
     Ok(Search {
         specs,
         scratch,
         reach,
         takers,
         nil: Pattern::nil(alloc),
-        source: None,
+        source,
     })
+}
+
+/// What specs reach, and the excludes among them that are asked one by one.
+///
+/// # Errors
+/// Memory runs out.
+fn pruning(alloc: Global, specs: &[CompiledSpec]) -> Result<(Reach, TakersByHead), AllocError>
+    ensures reach { IfOk result (λ pair. IsReachOf (specs_of specs.now) pair.0) }
+    ensures takers { IfOk result (λ pair. pair.1 ≡ takers_of (specs_of specs.now)) }
+{
+    let reach = Reach::of_specs(alloc, specs)?;
+    Ok((reach, takers_by_head(alloc, specs)?))
+}
+
+/// Specs by their heads, with room for their matches.
+///
+/// # Errors
+/// Memory runs out.
+fn with_room(
+    alloc: Global,
+    specs: Vec<CompiledSpec>,
+) -> Result<(SpecsByHead, Box<Scratch>), AllocError>
+    ensures specs { IfOk result (λ pair. pair.0 ≡ specs.items) }
+    ensures fits { IfOk result (λ pair. Fits pair.0 (box_value pair.1)) }
+    ensures fresh { IfOk result (λ pair. IsFresh (box_value pair.1).counts) }
+{
+    let specs = by_head(alloc, specs)?;
+    let scratch = boxed_scratch(alloc, &specs)?;
+    Ok((specs, scratch))
 }
 
 /// The patterns, or where there is none the prefix, if it isn't empty.

@@ -48,8 +48,9 @@ impl Search {
         ensures forms { OnOk result (HoldsNormalForms × NormalFormIsNormal) }
     {
         let patterns = parse_lines(alloc, text, defaults)?;
+        let source = BString::from_slice(alloc, source.as_bytes())?;
         let mut search = init::build(alloc, patterns, prefix.unwrap_or(BStr::new(b"")), root)?;
-        search.source = Some(BString::from_slice(alloc, source.as_bytes())?);
+        search.source = Some(source);
         Ok(search)
     }
 }

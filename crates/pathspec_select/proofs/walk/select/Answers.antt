@@ -1,6 +1,7 @@
 -- Each turn visits the next entry that the walk sees.
 use Rattle.std.proofs.Common.{◌≡◌, ℕ, ◌-◌, ◌<◌, Bool, true, false, cond, length, map, List, [], ◌∷◌, ◌++◌, refl, sym, ap, subst, ◌∙◌, Some, None}
 use Rattle.std.proofs.lemmas.List.{map-append}
+use Rattle.std.specs.Box.{box_value}
 use Rattle.pathspec_parts.specs.Attributes.{Table}
 use Rattle.pathspec_parts.specs.Entries.{Entry}
 use Rattle.pathspec_parts.specs.Trees.{IsNested, HasBytePaths}
@@ -56,7 +57,7 @@ loop-place-init g c =
     record {
       course = start_as (g.L.LookUp.table c.args.look_up.now) (specs_of c.args.search.now.specs) begin c.requires (numbers c.new-given.result.items) (ap numbers c.new-given.ensures.items);
       tree = refl;
-      room = c.in-Ok.ensures.fits;
+      room = c.in-Ok.ensures;
       table = refl;
       count = refl;
     }
@@ -97,7 +98,7 @@ loop-place-preserved g c =
           (given_is table before specs at there (number_in es) (numbers given) (numbers c.visit.new.given.items) here i.table more)
           (v.entered ∙ ap (after_visit specs) here);
       tree = v.tree ∙ (ap (λ (x : CursorContents). x.entries) e.place ∙ i.tree);
-      room = fits-kept _ c.loop-place.scratch c.visit.new.scratch i.room v.room;
+      room = fits-kept _ (box_value c.loop-place.scratch) c.visit.new.scratch i.room v.room;
       table = v.table_stays ∙ i.table;
       count = v.counts ∙ i.count;
     }

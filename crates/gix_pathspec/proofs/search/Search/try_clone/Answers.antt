@@ -1,15 +1,8 @@
--- The clone has the same specs, by heads of its own.
-use Rattle.std.proofs.Common.{◌∙◌, sym, ap, subst, List}
-use Rattle.std.specs.Box.{box_value}
+-- The clone has the same specs, in the same order.
+use Rattle.std.proofs.Common.{◌∙◌, sym, subst, List}
 use Rattle.gix_pathspec.specs.Search.{Numbered, specs_of}
-use Rattle.gix_pathspec.specs.Reach.{IsReachOf}
-use Rattle.gix_pathspec.specs.Takers.{takers_of}
-use Rattle.gix_pathspec.proofs.BuildingProofs.{is_search-same}
+use Rattle.gix_pathspec.specs.SelectionLaws.{NoNilPrefix}
 use Rattle.gix_pathspec.proofs.search.Search.try_clone.Goals as goal
 
-pub invariant_of-result : goal.invariant_of-result
-invariant_of-result c =
-    let made = c.in_ok-specs-2.ensures in
-    is_search-same _ _ _ _ _ _ _ c.nil.result (box_value c.self.inside.scratch) (box_value c.in_ok-scratch.scratch) (made ∙ (c.in_ok-specs.ensures.ok ∙ c.as_slice.ensures))
-    (subst (λ (ns : List Numbered). IsReachOf (specs_of ns) c.in_ok-reach.reach) (c.deref.ensures.value ∙ sym made) c.in_ok-reach.ensures)
-    (c.in_ok-takers.ensures ∙ ap (λ (ns : List Numbered). takers_of (specs_of ns)) (c.deref-2.ensures.value ∙ sym made)) c.nil.ensures c.in_ok-scratch.ensures.fits c.self.invariant
+pub of_ordered-requires-clause-prefixes : goal.of_ordered-requires-clause-prefixes
+of_ordered-requires-clause-prefixes c = subst (λ (ns : List Numbered). NoNilPrefix (specs_of ns)) (sym (c.in_ok-specs.ensures.ok ∙ c.as_slice.ensures)) c.self.invariant.has_no_nil_prefix

@@ -6,8 +6,8 @@ use Rattle.pathspec_glob.specs.GlobParts.{behind_head, head_size, middle_of, wid
 use Rattle.pathspec_glob.proofs.RunProofs.{part-alternates}
 use Rattle.pathspec_glob.proofs.matcher.Parts.of_pattern.Goals as goal
 
-pub of_tokens-requires-2 : goal.of_tokens-requires-2
-of_tokens-requires-2 c =
+pub of_tokens-requires : goal.of_tokens-requires
+of_tokens-requires c =
     let tokens = listed_tokens c.args.mode c.args.pattern.now in
     let middle : c.in_ok-head.field-0.middle.tokens ≡ middle_of c.args.mode tokens = ap (λ (t : TokenList). t.tokens) c.in_ok-head.ensures.middle_is in
     rw middle (part-alternates c.args.mode c.args.pattern.now (head_size tokens) (wide_size c.args.mode (behind_head tokens)))
