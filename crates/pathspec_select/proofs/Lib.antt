@@ -26,6 +26,8 @@ pub mod SpanCloseProofs
 pub mod OutlineProofs
 pub mod OpenProofs
 pub mod AddingProofs
+pub mod FileProofs
+pub mod OwnProofs
 pub mod ReadProofs
 pub mod FrontProofs
 pub mod AddedProofs

@@ -106,7 +106,7 @@ pub record NamesAre (text path name : List ℕ) : Type 0 where
   pub parents : directory_names path ≡ parent_names text
   pub own : own_names text ≡ name ∷ []
 
-names_are : (text path name : List ℕ) → ClosedForm path → All (λ b. is_slash b ≡ false) name → record_path text ≡ path ++ name → NamesAre text path name
+pub names_are : (text path name : List ℕ) → ClosedForm path → All (λ b. is_slash b ≡ false) name → record_path text ≡ path ++ name → NamesAre text path name
 names_are text path name closed none h =
     let names = record_names text in
     let e : names ≡ directory_names path ++ name ∷ [] = ap pieces h ∙ pieces-closed path name closed none in

@@ -124,7 +124,7 @@ has_open-closed t u directory wanted left missing opens closed rest l m c =
 
 -- ---- directories that are opened
 
-closed-path_above : (ds : List OpenDirectory) → ClosedForm (path_above ds)
+pub closed-path_above : (ds : List OpenDirectory) → ClosedForm (path_above ds)
 closed-path_above [] = empty
 closed-path_above (d ∷ []) = subst ClosedForm (sym (append-nil (d.name ++ slash ∷ []))) (after_slash d.name)
 closed-path_above (d ∷ e ∷ ds) = in_front (path_above (e ∷ ds)) (closed-path_above (e ∷ ds))
@@ -224,7 +224,7 @@ module _ (path : List ℕ) (closed : IsClosed path) (end : ℕ) (inside : end < 
 
 -- ---- the record that a path begins
 
-some_bytes : (xs : List ℕ) → xs ≢ [] → 0 < length xs
+pub some_bytes : (xs : List ℕ) → xs ≢ [] → 0 < length xs
 some_bytes [] n = absurd (n refl)
 some_bytes (x ∷ xs) n = omega arith
 

@@ -2,6 +2,7 @@
 use Rattle.std.proofs.Common.{◌≡◌, ℕ, ◌+◌, ◌-◌, ◌<◌, ◌≤◌, Bool, true, false, ◌||◌, cond, refl, sym, ◌∙◌, ap, subst, List, [], ◌∷◌, ◌++◌, length, take, drop, fold, ◌==◌, arith, append_assoc, Some, None}
 use Rattle.std.proofs.lemmas.Bool.Decides.{nat_tests}
 use Rattle.std.proofs.lemmas.List.{append-nil, take-append-drop, length-append, length-drop}
+use Rattle.std.proofs.lemmas.List.Elements.{All-nil}
 use Rattle.std.proofs.lemmas.List.Folds.{list_any-append}
 use Rattle.std.proofs.lemmas.List.Sums.{fold-append}
 use Rattle.std.proofs.Math.Seq.{drop-append_seam}
@@ -12,7 +13,7 @@ use Rattle.pathspec_parts.specs.Bytes.{is_empty}
 use Rattle.pathspec_parts.specs.Trees.{TreeContents, tree_after, tree_of_calls}
 use Rattle.pathspec_parts.proofs.TreeProofs.{tree_has_entries}
 use Rattle.pathspec_select.specs.Listing.{records, first_bad, is_bad, record_is_dir, record_names, parent_names, open_after, record_calls, calls_from, marks_of_record, marks_from, ListingContents, listing_of}
-use Rattle.pathspec_select.specs.ListingAnswers.{directory_names, has_empty_name, RefusesNames, RefusesRecords, refusal_of}
+use Rattle.pathspec_select.specs.ListingAnswers.{directory_names, has_empty_name, IsFreeOf, RefusesNames, RefusesRecords, refusal_of}
 use Rattle.pathspec_select.specs.Outlines.{OutlineContents, empty_outline, record_from, listing_of_outline, HasOpen, KeepsListing, IsRecordAt}
 use Rattle.pathspec_select.proofs.ListingProofs.{records-first}
 use Rattle.pathspec_select.proofs.NameProofs.{has_empty_name-record}
@@ -26,6 +27,7 @@ pub record IsReadUpTo (bytes : List ℕ) (separator : ℕ) (rest directory : Lis
   pub separator_is : outline.separator ≡ separator
   pub here : HasOpen outline.tree directory
   pub named : has_empty_name (directory_names directory) ≡ false
+  pub free : IsFreeOf separator directory
   pub calls_are : fold tree_after outline.tree (calls_from (directory_names directory) (records separator rest)) ≡ tree_of_calls (calls_from [] (records separator bytes))
   pub marks_are : outline.marks ++ marks_from (directory_names directory) (records separator rest) ≡ marks_from [] (records separator bytes)
   pub found : position_from is_bad (number + 1) (records separator rest) ≡ first_bad (records separator bytes)
@@ -42,6 +44,7 @@ read_none bytes separator directory outline d o =
       separator_is = refl;
       here = record { names = refl; path = refl };
       named = refl;
+      free = All-nil (λ b. (b == separator) ≡ false);
       calls_are = refl;
       marks_are = refl;
       found = refl;
@@ -85,9 +88,9 @@ module _ (bytes : List ℕ) (separator : ℕ) (rest directory : List ℕ) (outli
 
   -- a record that is good
   pub read_one : (now_open : List ℕ) (u : OutlineContents) (next : ℕ) → next ≡ number + 1 → KeepsListing outline u → HasOpen u.tree now_open
-      → u.tree ≡ fold tree_after outline.tree (record_calls names text) → u.marks ≡ outline.marks ++ marks_of_record names text → directory_names now_open ≡ open_after text → has_empty_name (record_names text) ≡ false
+      → u.tree ≡ fold tree_after outline.tree (record_calls names text) → u.marks ≡ outline.marks ++ marks_of_record names text → directory_names now_open ≡ open_after text → IsFreeOf separator now_open → has_empty_name (record_names text) ≡ false
       → IsReadUpTo bytes separator after now_open u next
-  read_one now_open u next k kept opens t m o good =
+  read_one now_open u next k kept opens t m o f good =
       let p = position_or_len (λ b. b == separator) rest + 1 in
       let later = records separator after in
       let shorter : length after ≡ length rest - p = ap length behind ∙ length-drop p rest in
@@ -100,6 +103,7 @@ module _ (bytes : List ℕ) (separator : ℕ) (rest directory : List ℕ) (outli
         separator_is = kept.separator ∙ read.separator_is;
         here = opens;
         named = ap has_empty_name o ∙ named-after text good;
+        free = f;
         calls_are =
             ap (λ (x : TreeContents). fold tree_after x (calls_from (directory_names now_open) later)) t
             ∙ (ap (λ x. fold tree_after (fold tree_after outline.tree (record_calls names text)) (calls_from x later)) o

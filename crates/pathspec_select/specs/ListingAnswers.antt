@@ -1,6 +1,6 @@
 -- What a clause reads of a listing that is read, and of its parts.
-use Rattle.std.specs.Prelude.{◌≡◌, ◌⊎◌, ℕ, ◌<◌, ◌≤◌, Bool, true, false, List, [], ◌++◌, length, take, drop, Option, Some, None, Result, Ok, Err}
-use Rattle.std.specs.List.{list_any}
+use Rattle.std.specs.Prelude.{◌≡◌, ◌≢◌, ◌⊎◌, ℕ, ◌+◌, ◌<◌, ◌≤◌, Bool, true, false, List, [], ◌++◌, length, take, drop, All, ◌==◌, Option, Some, None, Result, Ok, Err}
+use Rattle.std.specs.List.{list_any, before_first, after_first}
 use Rattle.pathspec_select.specs.declared.listing.entries.RecordError.{RecordError}
 use Rattle.pathspec_select.specs.declared.listing.entries.RecordError.TheVariants as record_error
 use Rattle.pathspec_parts.specs.Bytes.{slash, is_empty}
@@ -26,6 +26,28 @@ pub record IsRestOf (path rest : List ℕ) : Type 0 where
   pub front : List ℕ
   pub whole : path ≡ front ++ rest
   pub closed : IsClosed front
+
+-- the first record of what is left of a listing
+abbrev pub first_record : ℕ → List ℕ → List ℕ
+first_record separator rest = before_first (λ b. b == separator) rest
+
+-- what stands behind it
+abbrev pub behind_record : ℕ → List ℕ → List ℕ
+behind_record separator rest = after_first (λ b. b == separator) rest
+
+-- no byte of it is the separator
+abbrev pub IsFreeOf : ℕ → List ℕ → Type 0
+IsFreeOf separator text = All (λ b. (b == separator) ≡ false) text
+
+-- The first record of what is left has so many bytes and a separator behind it: it is a file right in the directory.
+pub record BeginsWithFile (separator : ℕ) (directory rest : List ℕ) (count : ℕ) : Type 0 where
+  pub fits : count < length rest
+  pub record_is : take count rest ≡ first_record separator rest
+  pub behind_is : drop (count + 1) rest ≡ behind_record separator rest
+  pub name : List ℕ
+  pub whole : take count rest ≡ directory ++ name
+  pub some : name ≢ []
+  pub no_slash : IsFreeOf slash name
 
 -- so many first bytes of both are the same
 pub record HasCommonFront (left right : List ℕ) (n : ℕ) : Type 0 where

@@ -6,10 +6,9 @@ ghost use Rattle.pathspec_parts.specs.Cursors.{new_cursor};
 ghost use Rattle.pathspec_select.specs.Listing.{records, listing_of, mark_at, RecordsAreEntries};
 ghost use Rattle.pathspec_select.specs.ListingAnswers.{AnswersRecords, refusal_of, IsRun};
 
-use crate::listing::entries::{RecordError, add_record};
+use crate::listing::entries::{RecordError, add_first};
 use crate::listing::outline::Outline;
 use bstr::BStr;
-use pathspec_parts::split;
 use pathspec_parts::tree::{Entries as _, Steps};
 use std::alloc::{AllocError, Global};
 use std::marker::Model;
@@ -112,13 +111,14 @@ pub fn read(alloc: Global, bytes: &[u8], separator: u8) -> Result<Listing<'_>, L
     let mut number = 0;
     while !rest.is_empty() {
         number += 1;
-        let (text, after) = split::at_first(rest, separator);
         let start = bytes.len() - rest.len();
-        match add_record(&mut outline, directory, text, start) {
-            Ok(open) => directory = open,
+        match add_first(&mut outline, directory, rest, separator, start) {
+            Ok((open, after)) => {
+                directory = open;
+                rest = after;
+            }
             Err(error) => return Err(refusal(error, number)),
         }
-        rest = after;
     }
     Ok(Listing { outline })
 }

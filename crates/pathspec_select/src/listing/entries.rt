@@ -4,10 +4,10 @@ ghost use Rattle.pathspec_parts.specs.Entries.Call.{Open, Close};
 ghost use Rattle.pathspec_parts.specs.Trees.{tree_after};
 ghost use Rattle.pathspec_parts.specs.Paths.{ends_with_slash, without_last_slash};
 ghost use Rattle.pathspec_select.specs.Listing.{record_names, parent_names, open_after, implied_names, directory_calls, record_calls, marks_of_record};
-ghost use Rattle.pathspec_select.specs.ListingAnswers.{directory_names, has_empty_name, AnswersNames};
+ghost use Rattle.pathspec_select.specs.ListingAnswers.{directory_names, has_empty_name, first_record, behind_record, IsFreeOf, AnswersNames};
 ghost use Rattle.pathspec_select.specs.Outlines.{record_from, HasOpen, KeepsListing, IsRecordAt, BeginsRecord};
 
-use crate::listing::names::{after_shared, split_name};
+use crate::listing::names::{after_shared, file_length, split_name};
 use crate::listing::outline::Outline;
 use pathspec_parts::path::strip_last_slash;
 use pathspec_parts::split;
@@ -32,12 +32,49 @@ impl From<AllocError> for RecordError {
     }
 }
 
+/// Adds the entries of the record that what is left of the listing begins with, as [`add_record`] does. It gives the path of
+/// the directory that is open then, and what stands behind the record.
+///
+/// # Errors
+/// Those of [`add_record`].
+pub(super) fn add_first<'a>(
+    outline: &mut Outline<'_>,
+    directory: &'a [u8],
+    rest: &'a [u8],
+    separator: u8,
+    start: usize,
+) -> Result<(&'a [u8], &'a [u8]), RecordError>
+    requires record { IsRecordAt outline.old start (first_record separator rest.now) }
+    requires named { has_empty_name (directory_names directory.now) ≡ false }
+    requires here { HasOpen outline.old.tree directory.now }
+    requires free { IsFreeOf separator directory.now }
+    ensures tree { OnOk result (outline.new.tree ≡ fold tree_after outline.old.tree
+        (record_calls (directory_names directory.now) (first_record separator rest.now))) }
+    ensures marks { OnOk result (outline.new.marks ≡ outline.old.marks
+        ++ marks_of_record (directory_names directory.now) (first_record separator rest.now)) }
+    ensures kept { KeepsListing outline.old outline.new }
+    ensures there { IfOk result (λ pair. HasOpen outline.new.tree pair.0.now) }
+    ensures names { IfOk result (λ pair. directory_names pair.0.now
+        ≡ open_after (first_record separator rest.now)) }
+    ensures free { IfOk result (λ pair. IsFreeOf separator pair.0.now) }
+    ensures after { IfOk result (λ pair. pair.1.now ≡ behind_record separator rest.now) }
+    ensures answers { AnswersNames (record_names (first_record separator rest.now)) result }
+{
+    if let Some(length) = file_length(directory, rest, separator) {
+        outline.add(start, length, false)?;
+        return Ok((directory, &rest[length + 1..]));
+    }
+    let (text, after) = split::at_first(rest, separator);
+    let open = add_record(outline, directory, text, start)?;
+    Ok((open, after))
+}
+
 /// Adds the entries of the record that begins at an offset of the listing, where a directory is open. It gives the path of
 /// the directory that is open then.
 ///
 /// # Errors
 /// [`RecordError::EmptyName`] where a name of the record is empty, and [`RecordError::Memory`].
-pub(super) fn add_record<'a>(
+fn add_record<'a>(
     outline: &mut Outline<'_>,
     directory: &'a [u8],
     text: &'a [u8],
@@ -53,6 +90,7 @@ pub(super) fn add_record<'a>(
     ensures kept { KeepsListing outline.old outline.new }
     ensures there { IfOk result (λ path. HasOpen outline.new.tree path.now) }
     ensures names { IfOk result (λ path. directory_names path.now ≡ open_after text.now) }
+    ensures front { IfOk result (λ path. path.now ≡ take (length path.now) text.now) }
     ensures answers { AnswersNames (record_names text.now) result }
 {
     if text.is_empty() {

@@ -1,10 +1,11 @@
 //! The names in a record, and the directories that two paths share.
-ghost use Rattle.std.specs.Prelude.{◌≡◌, ◌≢◌, [], ◌∷◌, ◌++◌, drop, IsTrue};
+ghost use Rattle.std.specs.Prelude.{◌≡◌, ◌≢◌, [], ◌∷◌, ◌++◌, drop, IsTrue, IfSome};
 ghost use Rattle.pathspec_parts.specs.Paths.{ends_with_slash, without_last_slash};
 ghost use Rattle.pathspec_select.specs.Listing.{record_is_dir, parent_names, own_names, shared_depth, implied_names};
-ghost use Rattle.pathspec_select.specs.ListingAnswers.{directory_names, HasCommonFront, SharesNames, IsClosed, IsRestOf};
+ghost use Rattle.pathspec_select.specs.ListingAnswers.{directory_names, HasCommonFront, SharesNames, IsClosed, IsRestOf, IsFreeOf, BeginsWithFile};
 
 use bstr::ByteSlice;
+use memchr::memchr2_iter;
 use pathspec_parts::split;
 
 /// A record, cut after the last slash that isn't at its end: the path of the directory that it lies in, and its own
@@ -26,6 +27,22 @@ pub(super) fn split_name(text: &[u8]) -> (&[u8], &[u8])
         None => 0,
     };
     text.split_at(length)
+}
+
+/// How many bytes the record has that a text begins with, where it is a name right in the directory and has its separator.
+///
+/// It searches once.
+pub(super) fn file_length(directory: &[u8], rest: &[u8], separator: u8) -> Option<usize>
+    requires { IsFreeOf separator directory.now }
+    ensures { IfSome result (BeginsWithFile separator directory.now rest.now) }
+{
+    let behind = rest.strip_prefix(directory)?;
+    let length = memchr2_iter(b'/', separator, behind).next()?;
+    if length != 0 && behind[length] == separator {
+        Some(directory.len() + length)
+    } else {
+        None
+    }
 }
 
 /// What stands in the paths of two directories after the names that both begin with.

@@ -1,5 +1,7 @@
-use Rattle.std.proofs.Common.{◌≡◌, ◌≢◌, ℕ, ◌+◌, ◌≤◌, Bool, true, false, cond, refl, sym, ◌∙◌, ap, subst, List, [], ◌∷◌, ◌++◌, length, arith, append_assoc, replicate, Some, None, ◌==◌}
+use Rattle.std.proofs.Common.{◌≡◌, ◌≢◌, ℕ, ◌+◌, ◌≤◌, Bool, true, false, cond, refl, sym, ◌∙◌, ap, subst, List, [], ◌∷◌, ◌++◌, length, take, arith, append_assoc, replicate, Some, None, ◌==◌}
+use Rattle.std.proofs.lemmas.List.{take_all}
 use Rattle.std.proofs.lemmas.Result.{err_from_is_err_and}
+use Rattle.std.proofs.Math.Seq.{take-append_seam}
 use Rattle.pathspec_parts.specs.Paths.{ends_with_slash, without_last_slash}
 use Rattle.pathspec_parts.specs.Entries.{own_call}
 use Rattle.pathspec_parts.specs.Trees.{TreeContents, tree_after}
@@ -9,6 +11,7 @@ use Rattle.pathspec_select.specs.Outlines.{OutlineContents, part, last_name, mar
 use Rattle.pathspec_select.proofs.NameProofs.{directory_names-record}
 use Rattle.pathspec_select.proofs.AddingProofs.{some_name, no_name, refused_parents, refused_own, good_names}
 use Rattle.pathspec_select.proofs.OpenProofs.{part_of_record, record-kept, own_mark, path_front, record_is, last_own, lies_own, has_open-own, tree_own}
+use Rattle.pathspec_select.proofs.OwnProofs.{own_path, After, after_own}
 use Rattle.pathspec_select.proofs.listing.entries.add_record.Goals as goal
 use Rattle.pathspec_select.proofs.listing.entries.add_record.Goals.{Joined-is_dir, then-is_dir, else-is_dir}
 
@@ -24,18 +27,6 @@ returns-then-is_empty-2-clause-answers c =
     let own = without_last_slash c.split_name.result.1.now in
     refused_own c.args.text.now c.split_name.result.0.now own n.parents n.name (no_name own (ap (λ (x : List ℕ). length x == 0) (sym c.strip_last_slash-is_dir.ensures.path) ∙ (sym c.is_empty-2.ensures ∙ c.if-is_empty-2.true)))
 
--- the path of the record, by its parts
-own_path : (o u : OutlineContents) (start : ℕ) (text parents name own : List ℕ) → KeepsListing o u → IsRecordAt o start text → text ≡ parents ++ name → name ≢ [] → ends_with_slash name ≡ record_is_dir text → own ≡ without_last_slash name
-    → part u.bytes start (length parents + length own) ≡ parents ++ without_last_slash name
-own_path o u start text parents name own k r w some kind e =
-    let rec = record_is text parents name w some kind in
-    let le : length parents + length (without_last_slash name) ≤ length text = at_most (record_is_dir text) rec in
-    ap (λ (x : List ℕ). part u.bytes start (length parents + length x)) e ∙ (part_of_record u start text (length parents + length (without_last_slash name)) (record-kept o u start text k r) le ∙ path_front text parents name w some kind)
-  where
-    at_most : (b : Bool) → length text ≡ record_length (length parents + length (without_last_slash name)) b → length parents + length (without_last_slash name) ≤ length text
-    at_most true q = omega (arith, q)
-    at_most false q = omega (arith, q)
-
 pub add-requires-clause-lies : goal.add-requires-clause-lies
 add-requires-clause-lies c =
     let n = c.split_name.ensures in
@@ -47,24 +38,6 @@ add-requires-clause-lies c =
     let path = own_path c.args.outline.now o c.args.start text parents name c.strip_last_slash-is_dir.result.0.now g.kept c.requires.record n.whole n.some n.kind c.strip_last_slash-is_dir.ensures.path in
     let some = some_name (without_last_slash name) (ap (λ (x : List ℕ). length x == 0) (sym c.strip_last_slash-is_dir.ensures.path) ∙ (sym c.is_empty-2.ensures ∙ c.if-is_empty-2.false)) in
     subst (LiesOpen o.tree) (sym path) (lies_own text parents name n.whole n.some n.kind n.parents n.name o.tree g.there some)
-
--- the tree after the record, and its mark
-record After (o : OutlineContents) (start : ℕ) (text parents name : List ℕ) (count : ℕ) (is_dir : Bool) : Type 0 where
-  tree : (outline_after o start count is_dir).tree ≡ tree_after o.tree (own_call (record_is_dir text) (without_last_slash name))
-  mark : mark_of o.separator o.bytes start count is_dir ≡ Some text
-
-after_own : (o u : OutlineContents) (start : ℕ) (text parents name own : List ℕ) (is_dir : Bool) → KeepsListing o u → IsRecordAt o start text → text ≡ parents ++ name → name ≢ [] → ends_with_slash name ≡ record_is_dir text → directory_names parents ≡ parent_names text → own_names text ≡ without_last_slash name ∷ []
-    → own ≡ without_last_slash name → is_dir ≡ ends_with_slash name → After u start text parents name (length parents + length own) is_dir
-after_own o u start text parents name own is_dir k r w some kind above names e d =
-    let b = d ∙ kind in
-    let path = own_path o u start text parents name own k r w some kind e in
-    let last : last_name (part u.bytes start (length parents + length own)) ≡ without_last_slash name = ap last_name path ∙ last_own text parents name w some kind above names in
-    record {
-      tree = ap (λ x. tree_after u.tree (own_call is_dir x)) last ∙ ap (λ x. tree_after u.tree (own_call x (without_last_slash name))) b;
-      mark =
-          own_mark u start text (length parents + length own) is_dir (record-kept o u start text k r)
-          (record_is text parents name w some kind ∙ (ap (λ (x : List ℕ). record_length (length parents + length x) (record_is_dir text)) (sym e) ∙ ap (record_length (length parents + length own)) (sym b)));
-    }
 
 -- what the last entry is
 added : (c : Joined-is_dir)
@@ -136,3 +109,14 @@ returns-clause-answers c =
     let own = without_last_slash c.split_name.result.1.now in
     let some = some_name own (ap (λ (x : List ℕ). length x == 0) (sym c.strip_last_slash-is_dir.ensures.path) ∙ (sym c.is_empty-2.ensures ∙ c.if-is_empty-2.false)) in
     good_names c.args.text.now c.split_name.result.0.now own n.parents n.name c.in_ok-go_to.ensures.answers some
+
+-- it is a front of the record
+front_is : (text parents name : List ℕ) → text ≡ parents ++ name → (b : Bool) → cond b text parents ≡ take (length (cond b text parents)) text
+front_is text parents name w true = sym (take_all (length text) text (omega arith))
+front_is text parents name w false = sym (ap (take (length parents)) w ∙ take-append_seam parents name)
+
+pub returns-clause-front : goal.returns-clause-front
+returns-clause-front c =
+    let text = c.args.text.now in
+    let parents = c.split_name.result.0.now in
+    path_is c ∙ (front_is text parents c.split_name.result.1.now c.split_name.ensures.whole (record_is_dir text) ∙ ap (λ (x : List ℕ). take (length x) text) (sym (path_is c)))
