@@ -8,6 +8,7 @@ use Rattle.pathspec_parts.specs.Trees.{IsNested, HasBytePaths}
 use Rattle.pathspec_parts.specs.Cursors.{CursorContents, IsNew, next_seen, append_if, next_number, cursor_at, path_at, is_dir_at}
 use Rattle.gix_pathspec.specs.Specs.{Spec}
 use Rattle.gix_pathspec.specs.Matching.{is_chosen}
+use Rattle.gix_pathspec.specs.Room.{ScratchContents}
 use Rattle.gix_pathspec.specs.Search.{specs_of}
 use Rattle.gix_pathspec.proofs.RoomProofs.{fits-kept}
 use Rattle.gix_pathspec.specs.SelectionLaws.{NoNilPrefix, SpecPathsAreBytes}
@@ -98,7 +99,7 @@ loop-place-preserved g c =
           (given_is table before specs at there (number_in es) (numbers given) (numbers c.visit.new.given.items) here i.table more)
           (v.entered ∙ ap (after_visit specs) here);
       tree = v.tree ∙ (ap (λ (x : CursorContents). x.entries) e.place ∙ i.tree);
-      room = fits-kept _ (box_value c.loop-place.scratch) c.visit.new.scratch i.room v.room;
+      room = fits-kept _ (box_value c.loop-place.scratch) c.visit.new.scratch i.room (v.room ∙ ap (λ (s : ScratchContents). s.room) c.deref_mut.ensures.value);
       table = v.table_stays ∙ i.table;
       count = v.counts ∙ i.count;
     }
