@@ -1,13 +1,13 @@
 -- Records that are files right in the open directory.
-use Rattle.std.proofs.Common.{◌≡◌, ◌≢◌, ℕ, ◌+◌, ◌-◌, ◌<◌, ◌≤◌, Bool, true, false, cond, ◌||◌, ◌==◌, not, refl, sym, ◌∙◌, ap, subst, inl, inr, List, [], ◌∷◌, ◌++◌, length, get_or, take, drop, fold, map, replicate, arith, append_assoc, Option, Some, None}
-use Rattle.std.proofs.lemmas.Bool.{cases_Bool, cases_lt, both_ways, eq-eqb}
-use Rattle.std.proofs.lemmas.List.{append-nil, length-append, length-drop, length-take-le, take-append-drop, drop-drop, get_or_append_left, get_or-append_right, get_or-take}
-use Rattle.std.proofs.lemmas.List.Elements.{All-get_or, All-from_get_or, All-take}
+use Rattle.std.proofs.Common.{◌≡◌, ◌≢◌, ℕ, ◌+◌, ◌-◌, ◌<◌, Bool, true, false, ◌||◌, ◌==◌, not, refl, sym, ◌∙◌, ap, inl, inr, List, ◌∷◌, ◌++◌, length, get_or, take, drop, arith, Some, None}
+use Rattle.std.proofs.lemmas.Bool.{cases_lt, both_ways, eq-eqb}
+use Rattle.std.proofs.lemmas.List.{length-append, length-take-le, take-append-drop, get_or_append_left, get_or-append_right, get_or-take}
+use Rattle.std.proofs.lemmas.List.Elements.{All-get_or, All-from_get_or}
 use Rattle.std.proofs.lemmas.List.Sums.{fails_before_first, passes_at_first, position_or_len_is, prefix_len-le-length}
 use Rattle.std.proofs.lemmas.Option.{same_Some}
 use Rattle.std.proofs.lemmas.Slice.Eq.{bytes_eq-Decides}
 use Rattle.std.proofs.Math.Seq.{take-add}
-use Rattle.std.specs.Prelude.{All, bytes_eq}
+use Rattle.std.specs.Prelude.{bytes_eq}
 use Rattle.std.specs.List.{position_or_len, before_first}
 use Rattle.memchr.specs.Find.{IsFirstByte, is_byte2, places, first_of}
 use Rattle.memchr.proofs.lemmas.ValueLemmas.{IsFirstByte-value}

@@ -20,6 +20,7 @@ pub mod SelectProofs
 pub mod RecordProofs
 pub mod NameProofs
 pub mod SharedProofs
+pub mod PackedProofs
 pub mod SpanProofs
 pub mod SpanGrowProofs
 pub mod SpanCloseProofs

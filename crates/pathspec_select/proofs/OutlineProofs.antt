@@ -1,5 +1,5 @@
 -- The numbers of an outline stand for a tree: what is done to them, calls of the tree do to it.
-use Rattle.std.proofs.Common.{◌≡◌, ◌≢◌, ℕ, ◌+◌, ◌-◌, ◌<◌, ◌≤◌, Bool, true, false, cond, ◌&&◌, not, ◌==◌, refl, sym, ◌∙◌, ap, subst, List, [], ◌∷◌, ◌++◌, length, map, set, take, drop, get_or, arith, append_assoc, inl, inr, Option, Some, None}
+use Rattle.std.proofs.Common.{◌≡◌, ◌≢◌, ℕ, ◌+◌, ◌-◌, ◌<◌, ◌≤◌, Bool, true, false, cond, ◌&&◌, not, ◌==◌, refl, sym, ◌∙◌, ap, subst, List, [], ◌∷◌, ◌++◌, length, map, set, take, drop, get_or, arith, append_assoc, inl, inr, Option, Some, None, length-set}
 use Rattle.std.proofs.lemmas.Bool.{eqb-true, ne_eqb, cases_lt}
 use Rattle.std.proofs.lemmas.List.{append-nil, map-append, length-map, take-map, take_more, drop-drop, length-drop}
 use Rattle.std.proofs.lemmas.List.Sums.{fold_push, passes_at_first}
@@ -21,7 +21,7 @@ use Rattle.pathspec_select.specs.Listing.{mark_at, written_of, written_entries}
 use Rattle.pathspec_select.specs.Spans.{SpanContents, contents_after, contents_closed, LiesInOpen}
 use Rattle.pathspec_select.specs.SpanLayout.{path_of_span, path_at_span, end_at, numbers_above, contents_of_spans, AreSpans}
 use Rattle.pathspec_select.specs.Outlines.{OutlineContents, part, empty_outline, mark_of, last_name, record_from, record_length, outline_after, outline_closed, LiesOpen, IsMade, open_of_span, tree_of_spans, is_dir_span, mark_of_span, outline_of_spans, LieInRecords, IsOutline, IsRecordTo}
-use Rattle.pathspec_select.specs.declared.listing.outline.Span.{Span}
+use Rattle.pathspec_select.specs.declared.listing.spans.Span.{Span}
 use Rattle.pathspec_select.proofs.OutputProofs.{written-more}
 use Rattle.pathspec_select.proofs.ListingProofs.{length-before_first}
 use Rattle.pathspec_select.proofs.SpanProofs.{Contains-above, length-contents, contents_of_none}
@@ -169,9 +169,9 @@ module _ (bytes : List ℕ) (separator : ℕ) (spans : List Span) (stack : List 
         by_kind false ns n k a = k
 
     -- So they are the numbers of an outline, by the answers of the call that put the span after the others.
-    pub added : (new_spans : List Span) (new_stack : List ℕ) (new_directories : ℕ) (done : Bool) → done ≡ true → new_spans ≡ cond done more spans → new_stack ≡ cond (done && nat_lt 0 span.end) (stack ++ length spans ∷ []) stack → new_directories ≡ directories + cond is_dir 1 0
+    pub added : (new_spans : List Span) (new_stack : List ℕ) (new_directories : ℕ) (done : Bool) → done ≡ true → length new_spans + 1 < open_end → new_spans ≡ cond done more spans → new_stack ≡ cond (done && nat_lt 0 span.end) (stack ++ length spans ∷ []) stack → new_directories ≡ directories + cond is_dir 1 0
         → IsOutline bytes separator new_spans new_stack new_directories × (outline_of_spans bytes separator new_spans ≡ outline_after (outline_of_spans bytes separator spans) span.start span.length is_dir)
-    added new_spans new_stack new_directories done t f g d =
+    added new_spans new_stack new_directories done t roomy f g d =
         let r = pushes bytes spans stack directories h.spans_are is_dir span next new_spans new_stack new_directories done t f g d in
         let is_more : new_spans ≡ more = f ∙ ap (λ b. cond b more spans) t in
         let tree_is : tree_of_spans bytes new_spans ≡ tree_after tree (own_call is_dir (last_name path)) = ap (tree_of_spans bytes) is_more ∙ grown (ap (contents_of_spans bytes) (sym is_more) ∙ r.1) in
@@ -184,6 +184,7 @@ module _ (bytes : List ℕ) (separator : ℕ) (spans : List Span) (stack : List 
               | inl q ↦ h.records i s q
               | inr q ↦ subst (λ (x : Span). record_length x.length (is_dir_span x) ≤ length (record_from separator bytes x.start)) q.1 (subst (λ b. record_length span.length b ≤ length (record_from separator bytes span.start)) (sym kind) within)
             ]);
+            room = roomy;
           },
           ap (λ x. record { bytes = bytes; separator = separator; tree = x; marks = map (mark_of_span separator bytes) new_spans }) tree_is
               ∙ (ap (λ x. record { bytes = bytes; separator = separator; tree = tree_after tree (own_call is_dir (last_name path)); marks = x }) marks_are
@@ -264,6 +265,7 @@ module _ (bytes : List ℕ) (separator : ℕ) (spans : List Span) (stack : List 
           spans_are = closes.0;
           made = subst IsMade (sym tree_is) (made-push tree Close tt h.made);
           records = records_in;
+          room = let l = h.room in omega (arith, l, length-set spans place (record span { end = k }));
         },
         ap (λ x. record { bytes = bytes; separator = separator; tree = x; marks = map (mark_of_span separator bytes) (shut k) }) tree_is
             ∙ ap (λ x. record { bytes = bytes; separator = separator; tree = tree_after tree Close; marks = x }) marks_are,
@@ -352,6 +354,7 @@ outline_of_none bytes separator all =
         spans_are = r.0;
         made = subst IsMade (sym tree_is) ([], tt, refl);
         records = λ i s e. cc;
+        room = omega arith;
       },
       ap (λ x. record { bytes = bytes; separator = separator; tree = x; marks = [] }) tree_is,
     )

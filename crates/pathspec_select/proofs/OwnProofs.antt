@@ -1,13 +1,12 @@
 -- The own entry of a record, and records that are files right in the open directory.
-use Rattle.std.proofs.Common.{◌≡◌, ◌≢◌, ℕ, ◌+◌, ◌-◌, ◌<◌, ◌≤◌, Bool, true, false, cond, ◌==◌, refl, sym, ◌∙◌, ap, subst, List, [], ◌∷◌, ◌++◌, length, get_or, take, fold, replicate, arith, append_assoc, Option, Some, None}
-use Rattle.std.proofs.lemmas.List.{append-nil, length-append, length-take-le, length_push}
-use Rattle.std.proofs.lemmas.List.Elements.{All-get_or, All-take}
+use Rattle.std.proofs.Common.{◌≡◌, ◌≢◌, ℕ, ◌+◌, ◌-◌, ◌≤◌, Bool, true, false, cond, refl, sym, ◌∙◌, ap, subst, List, [], ◌∷◌, ◌++◌, length, get_or, take, fold, replicate, arith, append_assoc, Some, None}
+use Rattle.std.proofs.lemmas.List.{length-append, length-take-le, length_push}
+use Rattle.std.proofs.lemmas.List.Elements.{All-get_or}
 use Rattle.std.proofs.lemmas.Slice.Eq.{bytes_eq-Decides}
 use Rattle.std.proofs.Math.Seq.{get_or-append_seam}
-use Rattle.pathspec_parts.specs.Bytes.{slash}
 use Rattle.pathspec_parts.specs.Paths.{is_slash, ends_with_slash, without_last_slash}
 use Rattle.pathspec_parts.specs.Entries.{own_call}
-use Rattle.pathspec_parts.specs.Trees.{TreeContents, tree_after}
+use Rattle.pathspec_parts.specs.Trees.{tree_after}
 use Rattle.pathspec_select.specs.Listing.{record_names, parent_names, own_names, open_after, record_is_dir, implied_names, directory_calls, record_calls, marks_of_record}
 use Rattle.pathspec_select.specs.ListingAnswers.{directory_names, has_empty_name, first_record, BeginsWithFile}
 use Rattle.pathspec_select.specs.Outlines.{OutlineContents, part, last_name, mark_of, record_from, record_length, outline_after, LiesOpen, HasOpen, KeepsListing, IsRecordAt}

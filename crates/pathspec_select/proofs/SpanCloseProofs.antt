@@ -11,7 +11,7 @@ use Rattle.pathspec_parts.specs.TreeLayout.{open_end, IsEnd}
 use Rattle.pathspec_parts.proofs.ListProofs.{snoc_parts, take-snoc, get-set_same, get-set_other, map_range-same, filter_range-same, filter_range-without_last}
 use Rattle.pathspec_select.specs.Spans.{SpanContents, contents_closed}
 use Rattle.pathspec_select.specs.SpanLayout.{path_of_span, path_at_span, end_at, numbers_above, entry_of_span, contents_of_spans, AreSpans, AreSpansOf}
-use Rattle.pathspec_select.specs.declared.listing.outline.Span.{Span}
+use Rattle.pathspec_select.specs.declared.listing.spans.Span.{Span}
 use Rattle.pathspec_select.proofs.SpanProofs.{Contains-above}
 use Rattle.pathspec_select.proofs.SpanGrowProofs.{lt-same}
 
@@ -67,6 +67,10 @@ module _ (bytes : List ℕ) (spans : List Span) (stack : List ℕ) (directories 
           ],
           r.1,
         )
+
+    -- it is open
+    pub end-open : (span : Span) → slice_get spans place ≡ Some span → span.end ≡ open_end
+    end-open span at = sym (ap (λ (o : Option Span). unwrap_or (option_map (λ x. x.end) o) 0) at) ∙ top_is.1
 
     module _ (span : Span) (at : slice_get spans place ≡ Some span) (room : length spans < open_end) where
       abbrev closed : List Span

@@ -15,7 +15,7 @@ use Rattle.pathspec_parts.proofs.ListProofs.{count_by-push, get-front, map_range
 use Rattle.pathspec_parts.proofs.TreeProofs.{get-append, get-last, get-cases}
 use Rattle.pathspec_select.specs.Spans.{SpanContents, contents_after, LiesInOpen}
 use Rattle.pathspec_select.specs.SpanLayout.{path_of_span, path_at_span, end_at, numbers_above, entry_of_span, contents_of_spans, AreSpans, AreSpansOf}
-use Rattle.pathspec_select.specs.declared.listing.outline.Span.{Span}
+use Rattle.pathspec_select.specs.declared.listing.spans.Span.{Span}
 use Rattle.pathspec_select.proofs.SpanProofs.{Contains-above, length-contents, get-contents}
 
 -- tests on numbers that hold alike give one answer

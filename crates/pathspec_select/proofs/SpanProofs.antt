@@ -12,7 +12,7 @@ use Rattle.pathspec_parts.specs.TreeLayout.{open_end}
 use Rattle.pathspec_parts.proofs.ListProofs.{get-map_range, Contains-filter_range}
 use Rattle.pathspec_select.specs.Spans.{SpanContents, empty_contents}
 use Rattle.pathspec_select.specs.SpanLayout.{path_of_span, end_at, numbers_above, entry_of_span, contents_of_spans, AreSpans}
-use Rattle.pathspec_select.specs.declared.listing.outline.Span.{Span}
+use Rattle.pathspec_select.specs.declared.listing.spans.Span.{Span}
 
 pub Contains-above : (spans : List Span) (n i : ℕ) → Contains (numbers_above spans n) i ↔ ((i < n) × (nat_lt n (end_at spans i) ≡ true))
 Contains-above spans n i = Contains-filter_range (λ k. k) (λ k. k) (λ k. refl) (λ k. nat_lt n (end_at spans k)) n i

@@ -29,6 +29,7 @@ pub mod Walks
 pub mod SelectAnswers
 pub mod ListingAnswers
 pub mod Spans
+pub mod PackedSpans
 pub mod SpanLayout
 pub mod Outlines
 pub mod Index

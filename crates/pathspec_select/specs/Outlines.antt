@@ -5,11 +5,11 @@ use Rattle.pathspec_parts.specs.Paths.{pieces}
 use Rattle.pathspec_parts.specs.Entries.{Call, OpenDirectory, own_call, names_of}
 use Rattle.pathspec_parts.specs.Entries.Call.{Close}
 use Rattle.pathspec_parts.specs.Trees.{TreeContents, empty_tree, tree_after, tree_of_calls, IsTreeName, AreNamed}
-use Rattle.pathspec_parts.specs.TreeLayout.{path_above}
+use Rattle.pathspec_parts.specs.TreeLayout.{path_above, open_end}
 use Rattle.pathspec_select.specs.Listing.{ListingContents, mark_at, written_of}
 use Rattle.pathspec_select.specs.ListingAnswers.{directory_names, IsClosed}
 use Rattle.pathspec_select.specs.SpanLayout.{path_at_span, contents_of_spans, AreSpans}
-use Rattle.pathspec_select.specs.declared.listing.outline.Span.{Span}
+use Rattle.pathspec_select.specs.declared.listing.spans.Span.{Span}
 
 -- a listing, its separator, the tree of what was read of it so far, and the record of each entry that has one
 pub record OutlineContents : Type 0 where
@@ -120,6 +120,7 @@ pub record IsOutline (bytes : List ℕ) (separator : ℕ) (spans : List Span) (s
   pub spans_are : AreSpans bytes spans stack directories
   pub made : IsMade (tree_of_spans bytes spans)
   pub records : LieInRecords separator bytes spans
+  pub room : length spans + 1 < open_end
 
 -- the entries of an outline and their records
 abbrev pub listing_of_outline : OutlineContents → ListingContents

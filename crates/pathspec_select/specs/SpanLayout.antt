@@ -7,7 +7,7 @@ use Rattle.pathspec_parts.specs.Trees.{IsNested, HasBytePaths}
 use Rattle.pathspec_parts.specs.Cursors.{directory_count}
 use Rattle.pathspec_parts.specs.TreeLayout.{IsEnd}
 use Rattle.pathspec_select.specs.Spans.{SpanContents}
-use Rattle.pathspec_select.specs.declared.listing.outline.Span.{Span}
+use Rattle.pathspec_select.specs.declared.listing.spans.Span.{Span}
 
 -- the path of an entry is a part of the listing
 abbrev pub path_of_span : List ℕ → Span → List ℕ

@@ -4,6 +4,7 @@ mod contents;
 mod entries;
 mod names;
 mod outline;
+mod spans;
 
 pub use contents::{Listing, ListingError, read};
 pub use outline::Outline;

@@ -63,9 +63,9 @@ pub fn run<R: Read, W: Write>(
 /// search as [`Search::from_lines`] makes one, anew in each call. For example the input `a`, line feed, `--`, line feed,
 /// `a/x`, line feed, `b` has the spec `a` and the records `a/x` and `b`. Neither part is copied.
 ///
-/// It looks at each byte of the listing a fixed number of times, and asks the search about each entry at most twice. An
-/// entry takes 24 bytes, and 8 more where it is chosen. A directory that comes again is a further entry, so that a listing
-/// which isn't in byte order takes more.
+/// It looks at each byte of the listing a fixed number of times, and asks the search about each entry at most twice. A
+/// file mostly takes 8 bytes and a directory 24, and 8 more where it is chosen. A directory that comes again is a further
+/// entry, so that a listing which isn't in byte order takes more.
 ///
 /// It doesn't flush the writer, as [`run`] doesn't.
 ///

@@ -27,8 +27,8 @@ pub enum ListingError {
 
 /// A listing that was read: an entry for each record, in their order, and one for each directory that is only implied.
 ///
-/// It is walked where it lies: no name is copied. An entry takes three numbers: where its path begins, how long it is,
-/// and where what lies in it ends.
+/// It is walked where it lies: no name is copied. A file takes eight bytes where its path is shorter than 2^16 bytes and begins
+/// in the first 2^32 bytes of the listing, and any other entry 24, or 32 where its path is longer.
 #[derive(Debug, Drop)]
 pub struct Listing<'a> {
     outline: Outline<'a>,
@@ -98,7 +98,7 @@ impl<'a> Listing<'a> {
 /// It looks at each byte of the listing a fixed number of times.
 ///
 /// # Errors
-/// [`ListingError`].
+/// [`ListingError`]. Memory is told to have run out also where 2^32 entries take 32 bytes each and one more would.
 pub fn read(alloc: Global, bytes: &[u8], separator: u8) -> Result<Listing<'_>, ListingError>
     ensures contents { IfOk result (λ l. l ≡ listing_of (records separator bytes.now)) }
     ensures answers { AnswersRecords (records separator bytes.now) result }

@@ -8,31 +8,20 @@ ghost use Rattle.pathspec_select.specs.Listing.{mark_at};
 ghost use Rattle.pathspec_select.specs.Outlines.{part, record_from, record_length, empty_outline, outline_after, outline_closed, LiesOpen, IsRecordTo};
 ghost use Rattle.pathspec_select.specs.ListingAnswers.{IsRun};
 
+use crate::listing::spans::{Span, Spans};
 use bstr::BStr;
 use pathspec_parts::tree::{Entries, EntryPaths};
 use std::alloc::{AllocError, Global};
 use std::marker::Model;
 
-/// An entry in numbers.
-#[derive(Clone, Copy, Debug)]
-struct Span {
-    /// Where its path begins in the listing.
-    start: usize,
-    /// How many bytes its path has.
-    length: usize,
-    /// The number of the first entry after a directory that doesn't lie in it, as great as can be while it is open;
-    /// of a file 0.
-    end: usize,
-}
-
 /// The entries of a listing, whose paths are parts of it: what a walk over a [`super::Listing`] is over.
 ///
-/// An entry takes three numbers.
+/// A file mostly takes eight bytes, and a directory 24.
 #[derive(Debug, Drop)]
 pub struct Outline<'a> {
     bytes: &'a [u8],
     separator: u8,
-    spans: Vec<Span>,
+    spans: Spans,
     /// The numbers of the open directories, the outermost first.
     stack: Vec<usize>,
     /// How many directories there are.
@@ -44,9 +33,9 @@ impl<'a> Model for Outline<'a> {
 
     ghost Value = { OutlineContents };
 
-    ghost view = { λ o. outline_of_spans o.bytes.now o.separator o.spans.items };
+    ghost view = { λ o. outline_of_spans o.bytes.now o.separator o.spans };
 
-    ghost invariant = { λ o. IsOutline o.bytes.now o.separator o.spans.items o.stack.items o.directories };
+    ghost invariant = { λ o. IsOutline o.bytes.now o.separator o.spans o.stack.items o.directories };
 }
 
 impl<'a> Outline<'a> {
@@ -57,7 +46,7 @@ impl<'a> Outline<'a> {
         Outline {
             bytes,
             separator,
-            spans: Vec::new(alloc),
+            spans: Spans::new(alloc),
             stack: Vec::new(alloc),
             directories: 0,
         }
@@ -67,6 +56,7 @@ impl<'a> Outline<'a> {
     ///
     /// # Errors
     /// Memory runs out. The outline is then as it was.
+    #[inline(always)]
     pub(super) fn add(&mut self, start: usize, count: usize, is_dir: bool) -> Result<(), AllocError>
         // The path, with the slash of a directory, lies in one record.
         requires fits { record_length count is_dir
@@ -93,7 +83,8 @@ impl<'a> Outline<'a> {
         let Some(number) = self.stack.pop() else {
             return;
         };
-        self.spans[number].end = self.spans.len();
+        let end = self.spans.len();
+        self.spans.set_end(number, end);
     }
 
     /// The record of an entry, if it has one: it has none where its record goes on behind its path.
@@ -169,18 +160,18 @@ impl<'a> Entries for Outline<'a> {
     }
 
     fn is_dir(&self, number: usize) -> bool {
-        self.spans[number].end != 0
+        self.spans.at(number).end != 0
     }
 
     fn end_of(&self, number: usize) -> usize {
-        let end = self.spans[number].end;
+        let end = self.spans.at(number).end;
         if end == 0 { number + 1 } else { end }
     }
 }
 
 impl<'a> EntryPaths for Outline<'a> {
     fn path(&self, number: usize) -> &[u8] {
-        let span = self.spans[number];
+        let span = self.spans.at(number);
         piece(self.bytes, span.start, span.length)
     }
 }
@@ -239,17 +230,20 @@ fn one_if(is_dir: bool) -> usize
 ///
 /// # Errors
 /// Memory runs out. All is then as it was.
-fn append(spans: &mut Vec<Span>, stack: &mut Vec<usize>, span: Span) -> Result<(), AllocError>
-    ensures spans { spans.new.items
-        ≡ (if is_ok result then spans.old.items ++ span ∷ [] else spans.old.items) }
+#[inline(always)]
+fn append(spans: &mut Spans, stack: &mut Vec<usize>, span: Span) -> Result<(), AllocError>
+    ensures spans { spans.new ≡ (if is_ok result then spans.old ++ span ∷ [] else spans.old) }
     ensures stack { stack.new.items ≡ (if is_ok result && nat_lt 0 span.end
-        then stack.old.items ++ length spans.old.items ∷ [] else stack.old.items) }
+        then stack.old.items ++ length spans.old ∷ [] else stack.old.items) }
+    ensures room { OnOk result (length spans.new + 1 < open_end) }
 {
-    spans.reserve(1)?;
-    stack.reserve(1)?;
+    let number = spans.len();
     if span.end > 0 {
-        stack.push(spans.len())?;
+        stack.reserve(1)?;
     }
     spans.push(span)?;
+    if span.end > 0 {
+        stack.push(number)?;
+    }
     Ok(())
 }

@@ -1,16 +1,16 @@
-use Rattle.std.proofs.Common.{◌≡◌, ◌≢◌, ℕ, ◌+◌, ◌≤◌, Bool, true, false, cond, refl, sym, ◌∙◌, ap, subst, List, [], ◌∷◌, ◌++◌, length, take, arith, append_assoc, replicate, Some, None, ◌==◌}
+use Rattle.std.proofs.Common.{◌≡◌, ℕ, ◌+◌, Bool, true, false, cond, refl, sym, ◌∙◌, ap, subst, List, [], ◌∷◌, ◌++◌, length, take, arith, append_assoc, replicate, Some, None, ◌==◌}
 use Rattle.std.proofs.lemmas.List.{take_all}
 use Rattle.std.proofs.lemmas.Result.{err_from_is_err_and}
 use Rattle.std.proofs.Math.Seq.{take-append_seam}
-use Rattle.pathspec_parts.specs.Paths.{ends_with_slash, without_last_slash}
+use Rattle.pathspec_parts.specs.Paths.{without_last_slash}
 use Rattle.pathspec_parts.specs.Entries.{own_call}
 use Rattle.pathspec_parts.specs.Trees.{TreeContents, tree_after}
-use Rattle.pathspec_select.specs.Listing.{record_names, parent_names, own_names, record_is_dir, implied_names}
+use Rattle.pathspec_select.specs.Listing.{record_names, parent_names, record_is_dir, implied_names}
 use Rattle.pathspec_select.specs.ListingAnswers.{directory_names}
-use Rattle.pathspec_select.specs.Outlines.{OutlineContents, part, last_name, mark_of, record_length, outline_after, LiesOpen, HasOpen, KeepsListing, IsRecordAt}
+use Rattle.pathspec_select.specs.Outlines.{OutlineContents, LiesOpen, HasOpen}
 use Rattle.pathspec_select.proofs.NameProofs.{directory_names-record}
 use Rattle.pathspec_select.proofs.AddingProofs.{some_name, no_name, refused_parents, refused_own, good_names}
-use Rattle.pathspec_select.proofs.OpenProofs.{part_of_record, record-kept, own_mark, path_front, record_is, last_own, lies_own, has_open-own, tree_own}
+use Rattle.pathspec_select.proofs.OpenProofs.{lies_own, has_open-own, tree_own}
 use Rattle.pathspec_select.proofs.OwnProofs.{own_path, After, after_own}
 use Rattle.pathspec_select.proofs.listing.entries.add_record.Goals as goal
 use Rattle.pathspec_select.proofs.listing.entries.add_record.Goals.{Joined-is_dir, then-is_dir, else-is_dir}

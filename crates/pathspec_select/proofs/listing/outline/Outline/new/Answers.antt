@@ -2,7 +2,7 @@ use Rattle.std.proofs.Common.{◌≡◌, ℕ, ◌<◌, arith, List, [], sym, sub
 use Rattle.std.proofs.lemmas.List.Elements.{All-from_get_or}
 use Rattle.pathspec_parts.specs.Paths.{IsBytes}
 use Rattle.pathspec_select.specs.Outlines.{empty_outline, outline_of_spans, IsOutline}
-use Rattle.pathspec_select.specs.declared.listing.outline.Span.{Span}
+use Rattle.pathspec_select.specs.declared.listing.spans.Span.{Span}
 use Rattle.pathspec_select.proofs.OutlineProofs.{outline_of_none}
 use Rattle.pathspec_select.proofs.listing.outline.Outline.new.Goals as goal
 
@@ -16,7 +16,7 @@ all_bytes : (c : goal.After-new-2) → IsBytes c.args.bytes.now
 all_bytes c = All-from_get_or (λ b. b < 256) c.args.bytes.now 0 (λ i l. let fits = c.type_inv.bytes i in omega (arith, fits))
 
 pub invariant_of-result : goal.invariant_of-result
-invariant_of-result c = (both c.args.bytes.now c.args.separator (all_bytes c) c.new.result.items c.new-2.result.items c.new.ensures.items c.new-2.ensures.items).0
+invariant_of-result c = (both c.args.bytes.now c.args.separator (all_bytes c) c.new.result c.new-2.result.items c.new.ensures c.new-2.ensures.items).0
 
 pub returns : goal.returns
-returns c = (both c.args.bytes.now c.args.separator (all_bytes c) c.new.result.items c.new-2.result.items c.new.ensures.items c.new-2.ensures.items).1
+returns c = (both c.args.bytes.now c.args.separator (all_bytes c) c.new.result c.new-2.result.items c.new.ensures c.new-2.ensures.items).1

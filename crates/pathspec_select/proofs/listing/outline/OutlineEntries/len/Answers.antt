@@ -6,5 +6,5 @@ use Rattle.pathspec_select.proofs.listing.outline.OutlineEntries.len.Goals as go
 pub returns : goal.returns
 returns c =
     let s = c.self.inside in
-    let count = entries_count s.bytes.now s.spans.items s.stack.items s.directories c.self.invariant.spans_are (laid s.bytes.now s.separator s.spans.items s.stack.items s.directories c.self.invariant c.args.self.now c.self.view_is) (view_laid s.bytes.now s.separator s.spans.items s.stack.items s.directories c.self.invariant c.args.self.now c.self.view_is) in
-    omega (arith, c.len.ensures, s.spans.ok.0, count)
+    let count = entries_count s.bytes.now s.spans s.stack.items s.directories c.self.invariant.spans_are (laid s.bytes.now s.separator s.spans s.stack.items s.directories c.self.invariant c.args.self.now c.self.view_is) (view_laid s.bytes.now s.separator s.spans s.stack.items s.directories c.self.invariant c.args.self.now c.self.view_is) in
+    omega (arith, c.len.ensures, c.self.invariant.room, count)
