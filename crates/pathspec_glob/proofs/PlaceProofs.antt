@@ -3,6 +3,7 @@ use Rattle.std.proofs.Common.{◌≡◌, ℕ, ◌+◌, ◌<◌, sym, ◌∙◌, 
 use Rattle.std.proofs.lemmas.List.{drop_more, drop-map, length-map, length-drop, take_all}
 use Rattle.pathspec_glob.specs.declared.tokens.Token.{Token as Part}
 use Rattle.pathspec_glob.specs.Tokens.{Token}
+use Rattle.pathspec_glob.specs.GlobCells.{cell_count}
 use Rattle.pathspec_glob.specs.GlobForms.{token_view, tokens_view}
 use Rattle.pathspec_glob.specs.GlobSteps.{is_wide_at}
 
@@ -29,3 +30,8 @@ pub tokens-from : (parts all : List Part) (tokens : List Token) (place : ℕ) �
 tokens-from parts all tokens place view same =
     ap tokens_view (take_all (length all - place) (drop place all) (omega (arith, length-drop place all)))
     ∙ ap (λ ps. tokens_view (drop place ps)) same ∙ sym (drop-map token_view place parts) ∙ ap (drop place) view
+
+-- where a token takes one byte there is one
+pub some-cell : (ts : List Token) → 0 < cell_count ts → 0 < length ts
+some-cell [] h = absurd (let no : ⊥ = omega arith in no)
+some-cell (t ∷ ts) h = omega arith

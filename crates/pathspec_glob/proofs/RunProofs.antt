@@ -120,8 +120,12 @@ take-alternates wide (suc n) (t ∷ ts) h =
     let both = and_parts (not (wide && is_wide t)) (alternates_behind (is_wide t) ts) h in
     rw (both.0, take-alternates (is_wide t) n ts both.1) refl
 
--- No two tokens that take any number of bytes stand side by side in a part of a pattern.
+-- No two tokens that take any number of bytes stand side by side in a pattern,
+pub all-alternates : (mode : Mode) (pattern : List ℕ) → alternates_behind false (listed_tokens mode pattern) ≡ true
+all-alternates mode pattern = listed-alternates false (tokens mode pattern) ∙ from-alternates mode 0 true false pattern refl
+
+-- nor in a part of one.
 pub part-alternates : (mode : Mode) (pattern : List ℕ) (from count : ℕ) → alternates_behind false (take count (drop from (listed_tokens mode pattern))) ≡ true
 part-alternates mode pattern from count =
     take-alternates false count (drop from (listed_tokens mode pattern))
-    (drop-alternates false from (listed_tokens mode pattern) (listed-alternates false (tokens mode pattern) ∙ from-alternates mode 0 true false pattern refl))
+    (drop-alternates false from (listed_tokens mode pattern) (all-alternates mode pattern))

@@ -5,8 +5,7 @@ ghost use Rattle.pathspec_glob.specs.Globs.{glob_tokens, AnswersGlob, GlobIsRela
 ghost use Rattle.pathspec_glob.specs.Counts.{Counts};
 ghost use Rattle.pathspec_glob.specs.OpenEnds.{is_open};
 
-use crate::counted::CountedTokens;
-use crate::places::moves::EmptyMoves;
+use crate::middle::Middle;
 use crate::scratch::Scratch;
 use crate::source::Source;
 use crate::tokens::Tokens;
@@ -22,8 +21,8 @@ use std::marker::Model;
 #[derive(Drop)]
 pub struct DirectoryGlob {
     source: Source,
-    tokens: CountedTokens,
-    moves: EmptyMoves,
+    /// All its tokens, as what stands between a head and a tail without any.
+    tokens: Middle,
     /// Whether the last token takes any bytes.
     open_end: bool,
 }
@@ -36,7 +35,7 @@ impl Model for DirectoryGlob {
 
     ghost view = { λ g. record { mode = g.tokens.mode; pattern = g.source.pattern } };
 
-    ghost invariant = { λ g. IsReadFrom g.source.pattern g.tokens g.moves g.open_end };
+    ghost invariant = { λ g. IsReadFrom g.source.pattern g.tokens g.open_end };
 }
 
 impl fmt::Debug for DirectoryGlob {
@@ -48,7 +47,8 @@ impl fmt::Debug for DirectoryGlob {
 }
 
 impl DirectoryGlob {
-    /// The glob of a pattern. Every byte string is one. The cost is linear in the pattern, and so is the memory.
+    /// The glob of a pattern. Every byte string is one. The cost is linear in the pattern, and so is the memory; where it has 1
+    /// to 63 tokens for one byte, each of them is tested on each byte, for a table of 4 kB.
     ///
     /// # Errors
     /// Memory runs out.
@@ -56,12 +56,10 @@ impl DirectoryGlob {
         ensures { IfOk result (λ glob. glob ≡ record { mode = mode; pattern = pattern.now }) }
     {
         let tokens = Tokens::of_pattern(alloc, pattern, mode)?;
-        let moves = EmptyMoves::of_tokens(alloc, &tokens)?;
         let open_end = tokens.has_open_end();
         Ok(DirectoryGlob {
             source: Source::of(pattern),
-            tokens: tokens.counted(),
-            moves,
+            tokens: Middle::of_tokens(alloc, tokens)?,
             open_end,
         })
     }
@@ -107,6 +105,7 @@ impl DirectoryGlob {
         let places = &mut scratch.places;
         let steps = &mut scratch.steps;
         steps.begin();
-        places.run_directory(&self.tokens, &self.moves, directory, case, steps)
+        self.tokens
+            .matches_directory(directory, case, places, steps)
     }
 }

@@ -1,5 +1,6 @@
 //! What stands between the head and the tail of a glob, and the sets of places that it is matched by.
-ghost use Rattle.std.specs.Prelude.{◌≡◌, ◌≤◌, ◌<◌, ◌+◌, ◌*◌, ◌^◌, false, length, true, IfOk, IsTrue};
+ghost use Rattle.std.specs.Prelude.{◌≡◌, ◌≤◌, ◌<◌, ◌+◌, ◌*◌, ◌^◌, [], ◌∷◌, ◌++◌, false, length, true, IfOk, IsTrue};
+ghost use Rattle.pathspec_glob.specs.Bytes.{slash};
 ghost use Rattle.pathspec_glob.specs.Counts.{KeepsCount};
 ghost use Rattle.pathspec_glob.specs.GlobRelation.{matches};
 ghost use Rattle.pathspec_glob.specs.GlobCells.{alternates_behind};
@@ -90,6 +91,39 @@ impl Middle {
                 accepted
             }
             Way::Sets(moves) => places.run(&self.tokens, moves, text, case, steps),
+        }
+    }
+
+    /// Whether the tokens match a directory's path with a slash behind it, in the same way. It takes no memory.
+    pub fn matches_directory(
+        &self,
+        directory: &[u8],
+        case: Case,
+        places: &mut Places,
+        steps: &mut Steps,
+    ) -> bool
+        requires room { HasRoom (length self.now.tokens) places.old }
+        requires steps { steps.old.last + length self.now.tokens * (length directory.now + 1)
+            < 2 ^ 128 }
+        ensures answer { result
+            ≡ matches self.now.mode case self.now.tokens (directory.now ++ slash ∷ []) }
+        ensures most { steps.new.last
+            ≤ steps.old.last + length self.now.tokens * (length directory.now + 1) }
+        ensures least { IsTrue result
+            → steps.old.last + (length directory.now + 1) ≤ steps.new.last }
+        ensures counted { KeepsCount steps.old steps.new }
+        ensures room { KeepsRoom places.old places.new }
+    {
+        match &self.way {
+            Way::First => {
+                test_first(&self.tokens, directory, steps) && test_first(&self.tokens, b"/", steps)
+            }
+            Way::Word(word) => {
+                let Answer { accepted, tests } = word.run_directory(directory, case);
+                steps.add(tests);
+                accepted
+            }
+            Way::Sets(moves) => places.run_directory(&self.tokens, moves, directory, case, steps),
         }
     }
 }

@@ -4,6 +4,7 @@ pub mod SearchProofs
 pub mod PlacedProofs
 pub mod GroupProofs
 pub mod NextProofs
+pub mod WordProofs
 pub mod CandidateProofs
 pub mod StemProofs
 pub mod TableProofs

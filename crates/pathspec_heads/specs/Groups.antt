@@ -1,6 +1,7 @@
 -- Places in groups: those that have one head.
 use Rattle.std.specs.Prelude.{◌≡◌, ℕ, ◌+◌, ◌-◌, ◌<◌, ◌≤◌, Bool, true, false, not, ◌&&◌, List, [], ◌∷◌, ◌++◌, length, get_or, bytes_eq, min, Option, Some, None, IfSome, IsSomeAnd}
 use Rattle.pathspec_glob.specs.Bytes.{is_empty, begins_with}
+use Rattle.pathspec_glob.specs.GlobCells.{has}
 use Rattle.std.specs.Ordering.{nat_cmp, ordering_then, is_lt}
 use Rattle.std.specs.declared.cmp.Ordering.{Ordering}
 use Rattle.std.specs.Cmp.Lexicographic.{slice_cmp}
@@ -67,6 +68,15 @@ pub record GroupedPlaces : Type 0 where
   pub heads : List (List ℕ)
   pub starts : List ℕ
   pub order : List ℕ
+
+-- the bits of the word are just the numbers with this property
+pub record HasBitsOf (word : ℕ) (is_in : ℕ → Type 0) : Type 0 where
+  pub only : (p : ℕ) → has word p ≡ true → is_in p
+  pub all : (p : ℕ) → is_in p → has word p ≡ true
+
+-- the words have the places in the chains of the first heads
+abbrev pub AreWords : GroupedPlaces → List ℕ → Type 0
+AreWords places words = (k : ℕ) → k < length words → HasBitsOf (get_or words k 0) (IsInChain places.heads places.starts places.order k)
 
 -- the lesser of two numbers, of those that are there
 abbrev pub earlier : Option ℕ → Option ℕ → Option ℕ

@@ -207,7 +207,9 @@ pub fn linked(alloc: Global, heads: &Texts) -> Result<Vec<Option<usize>>, AllocE
     Ok(links)
 }
 
+// In line, since a match asks for it at each path.
 /// Whether the only head begins the text, as one search of all heads finds it.
+#[inline(always)]
 fn only_head(heads: &Heads, text: &[u8], scratch: &mut Scratch) -> Deepest
     requires { length heads.now ≡ 1 }
     ensures found { IsLastFront heads.now (length heads.now) text.now result.head }
@@ -236,11 +238,13 @@ impl Chains {
         Ok(Chains { heads, links })
     }
 
+    // In line, so that a match of one head makes no call.
     /// The last head that begins the text, if one does, and how many heads were compared with it. The heads that begin
     /// the text are those that begin this one.
     ///
     /// It compares at most as many heads as their count has binary digits, and two: where the texts of one scratch come
     /// in byte order often one or two, and of one head that one. It takes no memory.
+    #[inline(always)]
     pub fn deepest(&self, text: &[u8], scratch: &mut Scratch) -> Deepest
         ensures found { IsLastFront self.now (length self.now) text.now result.head }
         ensures chain { IfSome result.head (λ j. IsChainOf self.now text.now j) }

@@ -1,9 +1,10 @@
 //! Places, found by the heads that stand at them.
-ghost use Rattle.std.specs.Prelude.{◌≡◌, ℕ, ◌+◌, ◌^◌, ◌<◌, ◌≤◌, length, map, IfOk, IfSome, Contains};
+ghost use Rattle.std.specs.Prelude.{◌≡◌, ℕ, ◌+◌, ◌^◌, ◌<◌, ◌≤◌, true, length, map, IfOk, IfSome, Contains};
 ghost use Rattle.std.specs.List.Sorted.{IsNonDecreasing};
 ghost use Rattle.pathspec_glob.specs.Counts.{Counts};
+ghost use Rattle.pathspec_glob.specs.GlobCells.{has};
 ghost use Rattle.pathspec_heads.specs.Heads.{IsLastFront, IsChainOf};
-ghost use Rattle.pathspec_heads.specs.Groups.{GroupedPlaces, IsGrouped, IsInGroup, IsInChain, IsLeastFrom, earlier, end_of};
+ghost use Rattle.pathspec_heads.specs.Groups.{GroupedPlaces, IsGrouped, IsInGroup, IsInChain, IsLeastFrom, AreWords, HasBitsOf, earlier, end_of};
 
 use crate::chains::Chains;
 pub use crate::chains::Deepest;
@@ -15,7 +16,7 @@ use std::marker::Model;
 
 /// Places that each have a head, in groups: those of one head.
 #[derive(Debug, Drop)]
-pub struct PlacesByHead {
+struct GroupsByHead {
     chains: Chains,
     // Where the group of each head begins in `order`.
     starts: Vec<usize>,
@@ -23,7 +24,7 @@ pub struct PlacesByHead {
     order: Vec<usize>,
 }
 
-impl Model for PlacesByHead {
+impl Model for GroupsByHead {
     ghost use Rattle.pathspec_heads.specs.Groups.{GroupedPlaces, IsOrder};
 
     ghost Value = { GroupedPlaces };
@@ -31,6 +32,24 @@ impl Model for PlacesByHead {
     ghost view = { λ p. record { heads = p.chains; starts = p.starts.items; order = p.order.items } };
 
     ghost invariant = { λ p. IsOrder p.chains p.starts.items p.order.items };
+}
+
+/// Places that each have a head. Where there are few, the next place is a bit of a word, and no group is looked at.
+#[derive(Debug, Drop)]
+pub struct PlacesByHead {
+    groups: GroupsByHead,
+    // For the first heads, all the places whose heads begin each, as bits: up to a head with such a place that no word has.
+    words: Vec<u64>,
+}
+
+impl Model for PlacesByHead {
+    ghost use Rattle.pathspec_heads.specs.Groups.{GroupedPlaces, AreWords};
+
+    ghost Value = { GroupedPlaces };
+
+    ghost view = { λ p. p.groups };
+
+    ghost invariant = { λ p. AreWords p.groups p.words.items };
 }
 
 /// Up to so many numbers are gone through one by one, which takes less than halves of them do.
@@ -76,44 +95,45 @@ fn earlier(left: Option<usize>, right: Option<usize>) -> Option<usize>
     }
 }
 
-impl PlacesByHead {
-    /// Groups the places of these heads, of which each stands at its place in the list.
-    ///
-    /// It compares as many pairs of heads as a sort of them does, and is linear in their bytes besides.
+/// The least bit of a word from one on.
+#[inline(always)]
+fn next_bit(word: u64, from: usize) -> Option<usize>
+    ensures { IsLeastFrom (λ p. has word p ≡ true) from result }
+{
+    if from >= 64 {
+        return None;
+    }
+    let rest = word >> from;
+    if rest == 0 {
+        return None;
+    }
+    Some(from + rest.trailing_zeros() as usize)
+}
+
+impl GroupsByHead {
+    /// Groups the places of these heads.
     ///
     /// # Errors
     /// Memory runs out.
-    pub fn new(alloc: Global, heads: Vec<Vec<u8>>) -> Result<PlacesByHead, AllocError>
+    fn new(alloc: Global, heads: Vec<Vec<u8>>) -> Result<GroupsByHead, AllocError>
         ensures grouped { IfOk result (λ places. IsGrouped (map (λ head. head.items) heads.items)
             places.heads places.starts places.order) }
     {
         let entries = sorted(alloc, heads)?;
         let groups = grouped(alloc, entries)?;
         let chains = Chains::new(alloc, Heads::new(Texts::new(groups.heads)))?;
-        Ok(PlacesByHead {
+        Ok(GroupsByHead {
             chains,
             starts: groups.starts,
             order: groups.order,
         })
     }
 
-    /// What searches for these heads write to. Places may be shared by several walkers, each with a scratch of its own:
-    /// one calls `places.deepest(path, &mut mine)` where another calls `places.deepest(path, &mut other)`.
-    pub fn new_scratch(&self) -> Scratch
-        ensures { result ≡ 0 }
+    /// How many heads there are.
+    fn len(&self) -> usize
+        ensures { result ≡ length self.now.heads }
     {
-        Scratch::new(self)
-    }
-
-    /// The last head that begins the text, as [`Chains::deepest`] finds it.
-    pub fn deepest(&self, text: &[u8], scratch: &mut Scratch) -> Deepest
-        ensures found { IsLastFront self.now.heads (length self.now.heads) text.now result.head }
-        ensures chain { IfSome result.head (λ j. IsChainOf self.now.heads text.now j) }
-        ensures counted { Counts scratch.old result.compared scratch.new }
-        ensures cost { (b : ℕ) → length self.now.heads < 2 ^ b → result.compared ≤ b + 2 }
-        ensures asked { 0 < length self.now.heads → 1 ≤ result.compared }
-    {
-        self.chains.deepest(text, scratch)
+        self.starts.len()
     }
 
     /// Where the group of a head ends in the order of the places.
@@ -139,10 +159,7 @@ impl PlacesByHead {
     }
 
     /// The least place from one on whose head begins this one.
-    ///
-    /// For each head that begins it, it looks at as many places as their count has binary digits, or at up to eight. It takes no
-    /// memory.
-    pub fn next_place(&self, head: usize, from: usize) -> Option<usize>
+    fn next_place(&self, head: usize, from: usize) -> Option<usize>
         requires { head < length self.now.heads }
         ensures { IsLeastFrom (IsInChain self.now.heads self.now.starts self.now.order head)
             from result }
@@ -154,5 +171,94 @@ impl PlacesByHead {
             at = link;
         }
         next
+    }
+
+    /// The places whose heads begin this one, as bits; None where one of them is no bit of a word.
+    fn word_of(&self, head: usize) -> Option<u64>
+        requires { head < length self.now.heads }
+        ensures { IfSome result (λ word. HasBitsOf word
+            (IsInChain self.now.heads self.now.starts self.now.order head)) }
+    {
+        let mut word = 0;
+        let mut from = 0;
+        while let Some(place) = self.next_place(head, from) {
+            if place >= 64 {
+                return None;
+            }
+            word |= 1 << place;
+            from = place + 1;
+        }
+        Some(word)
+    }
+
+    /// The words of the first heads, up to one that has none. No more than 64 heads have one.
+    ///
+    /// # Errors
+    /// Memory runs out.
+    fn words(&self, alloc: Global) -> Result<Vec<u64>, AllocError>
+        ensures { IfOk result (λ words. AreWords self.now words.items) }
+    {
+        let mut words = Vec::new(alloc);
+        for head in 0..self.len() {
+            match self.word_of(head) {
+                Some(word) => words.push(word)?,
+                None => return Ok(words),
+            }
+        }
+        Ok(words)
+    }
+}
+
+impl PlacesByHead {
+    /// Groups the places of these heads, of which each stands at its place in the list.
+    ///
+    /// It compares as many pairs of heads as a sort of them does, and is linear in their bytes besides.
+    ///
+    /// # Errors
+    /// Memory runs out.
+    pub fn new(alloc: Global, heads: Vec<Vec<u8>>) -> Result<PlacesByHead, AllocError>
+        ensures grouped { IfOk result (λ places. IsGrouped (map (λ head. head.items) heads.items)
+            places.heads places.starts places.order) }
+    {
+        let groups = GroupsByHead::new(alloc, heads)?;
+        let words = groups.words(alloc)?;
+        Ok(PlacesByHead { groups, words })
+    }
+
+    /// What searches for these heads write to. Places may be shared by several walkers, each with a scratch of its own:
+    /// one calls `places.deepest(path, &mut mine)` where another calls `places.deepest(path, &mut other)`.
+    pub fn new_scratch(&self) -> Scratch
+        ensures { result ≡ 0 }
+    {
+        Scratch::new(self)
+    }
+
+    // In line, and so the next place, since a match asks for them at each path.
+    /// The last head that begins the text, as [`Chains::deepest`] finds it.
+    #[inline(always)]
+    pub fn deepest(&self, text: &[u8], scratch: &mut Scratch) -> Deepest
+        ensures found { IsLastFront self.now.heads (length self.now.heads) text.now result.head }
+        ensures chain { IfSome result.head (λ j. IsChainOf self.now.heads text.now j) }
+        ensures counted { Counts scratch.old result.compared scratch.new }
+        ensures cost { (b : ℕ) → length self.now.heads < 2 ^ b → result.compared ≤ b + 2 }
+        ensures asked { 0 < length self.now.heads → 1 ≤ result.compared }
+    {
+        self.groups.chains.deepest(text, scratch)
+    }
+
+    /// The least place from one on whose head begins this one.
+    ///
+    /// Where all such places are below 64 this takes constant time. Else, for each head that begins it, it looks at as many
+    /// places as their count has binary digits, or at up to eight. It takes no memory.
+    #[inline(always)]
+    pub fn next_place(&self, head: usize, from: usize) -> Option<usize>
+        requires { head < length self.now.heads }
+        ensures { IsLeastFrom (IsInChain self.now.heads self.now.starts self.now.order head)
+            from result }
+    {
+        match self.words.get(head) {
+            Some(word) => next_bit(*word, from),
+            None => self.groups.next_place(head, from),
+        }
     }
 }

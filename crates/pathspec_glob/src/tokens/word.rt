@@ -1,5 +1,6 @@
 //! Tokens as sets of places in one word: a bit for each token that takes one byte, and one for the end.
-ghost use Rattle.std.specs.Prelude.{◌≡◌, ◌<◌, ◌≤◌, false, length, true, IfOk, IfSome, IsTrue};
+ghost use Rattle.std.specs.Prelude.{◌≡◌, ◌<◌, ◌≤◌, ◌+◌, [], ◌∷◌, ◌++◌, false, length, true, IfOk, IfSome, IsTrue};
+ghost use Rattle.pathspec_glob.specs.Bytes.{slash};
 ghost use Rattle.pathspec_glob.specs.GlobCells.{alternates_behind, IsTable};
 ghost use Rattle.pathspec_glob.specs.GlobRelation.{matches};
 ghost use Rattle.pathspec_glob.specs.GlobSteps.{TokenList};
@@ -76,12 +77,8 @@ impl Word {
         ensures most { result.tests.count ≤ length text.now }
         ensures least { IsTrue result.accepted → result.tests.count ≡ length text.now }
     {
-        let table = match case {
-            Case::Sensitive => &self.exact,
-            Case::Fold => &self.folded,
-        };
         step::run(
-            table,
+            self.table(case),
             self.course,
             self.stays,
             self.stays_at_slash,
@@ -89,6 +86,37 @@ impl Word {
             self.last,
             text,
         )
+    }
+
+    /// Whether the tokens match a directory's path with a slash behind it, and the tests for that: of each byte that is read, and
+    /// of the slash, which of the tokens take it.
+    pub fn run_directory(&self, directory: &[u8], case: Case) -> Answer
+        ensures answer { (parts : TokenList) → IsWordOf parts self.now → result.accepted
+            ≡ matches parts.mode case parts.tokens (directory.now ++ slash ∷ []) }
+        ensures tokens { result.tests.tokens ≡ self.now.exact.tokens }
+        ensures most { result.tests.count ≤ length directory.now + 1 }
+        ensures least { IsTrue result.accepted → result.tests.count ≡ length directory.now + 1 }
+    {
+        step::run_directory(
+            self.table(case),
+            self.stays,
+            self.stays_at_slash,
+            self.overs,
+            self.last,
+            directory,
+        )
+    }
+
+    /// Which of the tokens don't take a byte.
+    fn table(&self, case: Case) -> &Table
+        ensures table { (parts : TokenList) → IsWordOf parts self.now
+            → IsTable parts case result.now.rows.items }
+        ensures tokens { result.now.tokens ≡ self.now.exact.tokens }
+    {
+        match case {
+            Case::Sensitive => &self.exact,
+            Case::Fold => &self.folded,
+        }
     }
 }
 

@@ -1,5 +1,5 @@
 //! The step by one byte.
-ghost use Rattle.std.specs.Prelude.{◌≡◌, ℕ, suc, List, ◌∷◌, ◌<◌, ◌≤◌, ◌/◌, ◌==◌, ◌&&◌, true, false, length, drop, IsTrue, if◌then◌else◌};
+ghost use Rattle.std.specs.Prelude.{◌≡◌, ℕ, suc, List, [], ◌∷◌, ◌++◌, ◌+◌, ◌<◌, ◌≤◌, ◌/◌, ◌==◌, ◌&&◌, true, false, length, drop, IsTrue, if◌then◌else◌};
 ghost use Rattle.pathspec_glob.specs.Bytes.{slash};
 ghost use Rattle.pathspec_glob.specs.declared.Mode.{Mode};
 ghost use Rattle.pathspec_glob.specs.declared.Case.{Case};
@@ -93,6 +93,41 @@ pub fn run(
         Course::Plain => reach(from, table, stays, stays_at_slash, 0, false, text),
         Course::Any => reach(from, table, stays, stays_at_slash, overs, true, text),
     };
+    Answer {
+        accepted: holds(places, last),
+        tests,
+    }
+}
+
+/// Runs through a directory's path and a slash behind it, up to a byte before which no place is active.
+pub fn run_directory(
+    table: &Table,
+    stays: u64,
+    stays_at_slash: u64,
+    overs: u64,
+    last: usize,
+    directory: &[u8],
+) -> Answer
+    requires { last < 64 }
+    ensures answer { (mode : Mode) (case : Case) (cells : List Cell) (end : Loop)
+        → Masked mode case cells end table.now.rows.items stays stays_at_slash overs
+        → length cells ≡ last
+        → result.accepted ≡ cells_match mode case cells end (directory.now ++ slash ∷ []) }
+    ensures tokens { result.tests.tokens ≡ table.now.tokens }
+    ensures most { result.tests.count ≤ length directory.now + 1 }
+    ensures least { IsTrue result.accepted → result.tests.count ≡ length directory.now + 1 }
+{
+    let from = enter(1, overs);
+    let reached = reach(from, table, stays, stays_at_slash, overs, true, directory);
+    let Progress { places, mut tests } = reached;
+    if places == 0 {
+        return Answer {
+            accepted: false,
+            tests,
+        };
+    }
+    let taken = !table.refused(b'/', &mut tests);
+    let places = advance(places, taken, stays_at_slash, overs);
     Answer {
         accepted: holds(places, last),
         tests,
@@ -199,10 +234,10 @@ fn reach(
     text: &[u8],
 ) -> Progress
     ensures leads { (mode : Mode) (case : Case) (cells : List Cell) (end : Loop) (all : ℕ)
-        → Masked mode case cells end table.now.rows.items stays stays_at_slash all
-        → overs / 2 ≡ all / 2
-        → set_leads mode case cells end (has result.places) (drop result.tests.count text.now)
-        ≡ set_leads mode case cells end (has from) text.now }
+        (rest : List ℕ) → Masked mode case cells end table.now.rows.items stays stays_at_slash all
+        → overs / 2 ≡ all / 2 → set_leads mode case cells end (has result.places)
+        (drop result.tests.count text.now ++ rest)
+        ≡ set_leads mode case cells end (has from) (text.now ++ rest) }
     ensures tokens { result.tests.tokens ≡ table.now.tokens }
     ensures most { result.tests.count ≤ length text.now }
     ensures halted { result.tests.count < length text.now → result.places ≡ 0 }

@@ -25,12 +25,12 @@ returns-clause-answer c =
     let pattern = c.self.inside.source.pattern in
     let parts_is = c.self.invariant.parts_is in
     let fit = fits-behind directory slash (λ k. omega (arith, c.type_inv.directory k)) (omega arith) in
-    let run = c.run_directory.ensures in
+    let run = c.matches_directory.ensures in
     let longer : length text ≡ length directory + 1 = length-append directory (slash ∷ []) in
     let read = ap (λ (parts : TokenList). length parts.tokens) parts_is in
     let few = few_listed mode pattern in
     let wider = mul-le-mul {n₁ = length c.self.inside.tokens.tokens} {m₁ = length directory + 1} {n₂ = length pattern + 1} {m₂ = length text} (omega arith) (omega arith) in
-    glob-answers mode pattern c.args.self.now c.args.case text c.run_directory.result c.run_directory.new.steps.last c.self.view_is
+    glob-answers mode pattern c.args.self.now c.args.case text c.matches_directory.result c.matches_directory.new.steps.last c.self.view_is
     (run.answer ∙ ap (λ (parts : TokenList). matches mode c.args.case parts.tokens text) parts_is ∙ matches-listed mode c.args.case (tokens mode pattern) text fit)
     (omega (arith, run.most, wider, c.begin.ensures.last))
     (λ found. omega (arith, run.least found, longer))

@@ -1,11 +1,9 @@
-use Rattle.std.proofs.Common.{◌≡◌, ◌<◌, List, [], ◌∷◌, sym, ◌∙◌, ap, arith, length}
+use Rattle.std.proofs.Common.{◌≡◌, ◌<◌, sym, ◌∙◌, ap, arith, length}
 use Rattle.std.proofs.Math.Nat.{mul-le-mul}
 use Rattle.pathspec_glob.specs.GlobWays.{GoesByFirst}
-use Rattle.pathspec_glob.proofs.PlaceProofs.{some-token}
-use Rattle.pathspec_glob.specs.GlobCells.{cell_count}
+use Rattle.pathspec_glob.proofs.PlaceProofs.{some-cell, some-token}
 use Rattle.pathspec_glob.specs.GlobSteps.{TokenList}
 use Rattle.pathspec_glob.specs.GlobWords.{IsWordOf}
-use Rattle.pathspec_glob.specs.Tokens.{Token}
 use Rattle.pathspec_glob.proofs.middle.Middle.matches.Goals.{After-add}
 use Rattle.pathspec_glob.proofs.middle.Middle.matches.Goals as goal
 
@@ -17,11 +15,6 @@ returns-in-First-clause-most c =
     let some = some-token c.self.inside.tokens.tokens way.wide in
     let once = mul-le-mul {n₁ = 1} {m₁ = size} {n₂ = length tokens} {m₂ = size} (rw (sym c.self.view_is) some) (omega arith) in
     omega (arith, c.test_first.ensures.most, once)
-
--- where a token takes one byte there is one
-some-cell : (ts : List Token) → 0 < cell_count ts → 0 < length ts
-some-cell [] h = absurd (let no : ⊥ = omega arith in no)
-some-cell (t ∷ ts) h = omega arith
 
 -- a question is as many steps as there are tokens
 each : (c : After-add) → c.run-accepted.result.tests.tokens ≡ length c.args.self.now.tokens

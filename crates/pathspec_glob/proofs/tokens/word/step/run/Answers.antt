@@ -1,4 +1,5 @@
-use Rattle.std.proofs.Common.{◌≡◌, ◌<◌, ◌*◌, ◌/◌, ◌%◌, true, not, refl, sym, ◌∙◌, arith, get_or, drop, length, bit_and}
+use Rattle.std.proofs.Common.{◌≡◌, ◌<◌, ◌*◌, ◌/◌, ◌%◌, ◌++◌, [], true, not, refl, sym, ◌∙◌, arith, get_or, drop, length, bit_and}
+use Rattle.std.proofs.lemmas.List.{append-nil}
 use Rattle.pathspec_glob.specs.GlobCells.{has, set_leads, StayAtEnds}
 use Rattle.pathspec_glob.proofs.BitProofs.{has-or}
 use Rattle.pathspec_glob.proofs.CellProofs.{leads-rest, set-begins}
@@ -23,14 +24,16 @@ returns-clause-answer c mode case cells end course masked size =
       | in-Plain-2 w ↦ rw w.places-is w.reach-in-Plain-2.ensures.halted
       | in-Any w ↦ rw w.places-is w.reach-in-Any.ensures.halted
     ] in
-    let leads : set_leads mode case cells end (has reached.places) (drop reached.tests.count text) ≡ set_leads mode case cells end (has c.enter-from.result) text = elim c.match-course.branch [
+    let leads_on : set_leads mode case cells end (has reached.places) (drop reached.tests.count text ++ []) ≡ set_leads mode case cells end (has c.enter-from.result) (text ++ []) = elim c.match-course.branch [
       | in-Plain w ↦
           let passed : c.args.overs / 2 ≡ 0 = rw w.in-Plain.is at course in
-          rw w.places-is (w.reach.ensures.leads mode case cells end c.args.overs (rw w.if-stays-stays_at_slash.true (rw w.if-stays-stays_at_slash.true at masked)) (sym passed))
+          rw w.places-is (w.reach.ensures.leads mode case cells end c.args.overs [] (rw w.if-stays-stays_at_slash.true (rw w.if-stays-stays_at_slash.true at masked)) (sym passed))
       | in-Plain-2 w ↦
           let passed : c.args.overs / 2 ≡ 0 = rw w.in-Plain-2.is at course in
-          rw w.places-is (w.reach-in-Plain-2.ensures.leads mode case cells end c.args.overs masked (sym passed))
-      | in-Any w ↦ rw w.places-is (w.reach-in-Any.ensures.leads mode case cells end c.args.overs masked refl)
+          rw w.places-is (w.reach-in-Plain-2.ensures.leads mode case cells end c.args.overs [] masked (sym passed))
+      | in-Any w ↦ rw w.places-is (w.reach-in-Any.ensures.leads mode case cells end c.args.overs [] masked refl)
     ] in
+    let leads : set_leads mode case cells end (has reached.places) (drop reached.tests.count text) ≡ set_leads mode case cells end (has c.enter-from.result) text =
+    rw (append-nil (drop reached.tests.count text), append-nil text) at leads_on in
     let begins = set-begins mode case cells end (λ i. not (has (get_or c.args.table.now.rows.items 0 0) i)) c.args.stays c.args.overs (bit_and 1 c.args.overs * 2 % 18446744073709551616) c.enter-from.result 0 text masked.few (masked.rules 0 (omega arith)) masked.apart refl c.enter-from.ensures in
     c.holds.ensures ∙ rw (sym size) (sym (leads-rest mode case cells end reached.places reached.tests.count text halted) ∙ leads ∙ begins)

@@ -4,7 +4,7 @@ use Rattle.pathspec_heads.specs.Groups.{GroupedPlaces, IsLeastFrom}
 use Rattle.pathspec_heads.proofs.AgreementProofs.{begins-through}
 use Rattle.pathspec_heads.proofs.HeadProofs.{begins-itself}
 use Rattle.pathspec_heads.proofs.NextProofs.{IsInChainFrom, chain-begun, chain-goes, chain-ends}
-use Rattle.pathspec_heads.proofs.places.PlacesByHead.next_place.Goals as goal
+use Rattle.pathspec_heads.proofs.places.GroupsByHead.next_place.Goals as goal
 
 pub loop-link-init : goal.loop-link-init
 loop-link-init c =

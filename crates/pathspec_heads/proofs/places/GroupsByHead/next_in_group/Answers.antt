@@ -2,7 +2,7 @@ use Rattle.std.proofs.Common.{◌≡◌, ◌<◌, ◌∙◌, ap, sym, subst, ari
 use Rattle.pathspec_heads.specs.Groups.{GroupedPlaces, IsInGroup, IsLeastFrom, start_of, end_of}
 use Rattle.pathspec_heads.proofs.PlacedProofs.{get_or-inside}
 use Rattle.pathspec_heads.proofs.NextProofs.{code-ascending, code-next}
-use Rattle.pathspec_heads.proofs.places.PlacesByHead.next_in_group.Goals as goal
+use Rattle.pathspec_heads.proofs.places.GroupsByHead.next_in_group.Goals as goal
 
 inside : (c : goal.After-next_in-arg-1) → c.args.head < length c.self.inside.chains
 inside c = subst (λ (v : GroupedPlaces). c.args.head < length v.heads) (sym c.self.view_is) c.requires

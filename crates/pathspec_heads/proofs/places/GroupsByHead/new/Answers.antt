@@ -1,7 +1,7 @@
 use Rattle.std.proofs.Common.{◌≡◌, sym, ◌∙◌, subst, map}
 use Rattle.pathspec_heads.specs.Groups.{IsOrder, IsGrouped}
 use Rattle.pathspec_heads.proofs.GroupProofs.{ordered, all-grouped, counted-view}
-use Rattle.pathspec_heads.proofs.places.PlacesByHead.new.Goals as goal
+use Rattle.pathspec_heads.proofs.places.GroupsByHead.new.Goals as goal
 
 -- the heads of the chains are those of the groups
 heads_are : (c : goal.In_ok-chains) → c.in_ok-chains.chains ≡ map (λ head. head.items) c.in_ok-groups.groups.heads.items

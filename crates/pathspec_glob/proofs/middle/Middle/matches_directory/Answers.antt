@@ -1,0 +1,47 @@
+use Rattle.std.proofs.Common.{◌≡◌, ◌<◌, ◌≤◌, ◌+◌, ◌*◌, sym, ◌∙◌, ap, arith, length}
+use Rattle.std.proofs.Math.Nat.{mul-le-mul}
+use Rattle.pathspec_glob.specs.GlobWays.{GoesByFirst}
+use Rattle.pathspec_glob.proofs.PlaceProofs.{some-cell, some-token}
+use Rattle.pathspec_glob.specs.GlobSteps.{TokenList}
+use Rattle.pathspec_glob.specs.GlobWords.{IsWordOf}
+use Rattle.pathspec_glob.proofs.middle.Middle.matches_directory.Goals.{After-add, After-test_first}
+use Rattle.pathspec_glob.proofs.middle.Middle.matches_directory.Goals as goal
+
+-- a step a byte is within the bound
+once : (c : After-test_first) → length c.args.directory.now + 1 ≤ length c.args.self.now.tokens * (length c.args.directory.now + 1)
+once c =
+    let tokens = c.args.self.now.tokens in
+    let size = length c.args.directory.now + 1 in
+    let way : GoesByFirst c.self.inside.tokens = rw c.in-First.is at c.self.invariant in
+    let some = some-token c.self.inside.tokens.tokens way.wide in
+    let once = mul-le-mul {n₁ = 1} {m₁ = size} {n₂ = length tokens} {m₂ = size} (rw (sym c.self.view_is) some) (omega arith) in
+    omega (arith, once)
+
+pub returns-then-test_first-clause-most : goal.returns-then-test_first-clause-most
+returns-then-test_first-clause-most c = omega (arith, c.test_first.ensures.most, c.test_first-then-test_first.ensures.most, once (goal.at.returns-then-test_first-clause-most c).After-test_first)
+
+pub returns-else-test_first-clause-most : goal.returns-else-test_first-clause-most
+returns-else-test_first-clause-most c = omega (arith, c.test_first.ensures.most, once (goal.at.returns-else-test_first-clause-most c).After-test_first)
+
+-- a question is as many steps as there are tokens
+each : (c : After-add) → c.run_directory-accepted.result.tests.tokens ≡ length c.args.self.now.tokens
+each c =
+    let way : IsWordOf c.self.inside.tokens c.in-Word.word = rw c.in-Word.is at c.self.invariant in
+    c.run_directory-accepted.ensures.tokens ∙ way.tokens ∙ ap (λ (t : TokenList). length t.tokens) c.self.view_is
+
+pub returns-in-Word-clause-most : goal.returns-in-Word-clause-most
+returns-in-Word-clause-most c =
+    let asked = c.run_directory-accepted.result.tests in
+    let same = each (goal.at.returns-in-Word-clause-most c).After-add in
+    let most = mul-le-mul {n₁ = asked.tokens} {m₁ = asked.count} {n₂ = length c.args.self.now.tokens} {m₂ = length c.args.directory.now + 1}
+    (omega (arith, same)) c.run_directory-accepted.ensures.most in
+    omega (arith, c.add.ensures.steps, most)
+
+pub returns-in-Word-clause-least : goal.returns-in-Word-clause-least
+returns-in-Word-clause-least c accepted =
+    let asked = c.run_directory-accepted.result.tests in
+    let way : IsWordOf c.self.inside.tokens c.in-Word.word = rw c.in-Word.is at c.self.invariant in
+    let some : 0 < asked.tokens = omega (arith, some-cell c.self.inside.tokens.tokens way.some, c.run_directory-accepted.ensures.tokens, way.tokens) in
+    let least = mul-le-mul {n₁ = 1} {m₁ = length c.args.directory.now + 1} {n₂ = asked.tokens} {m₂ = asked.count}
+    some (omega (arith, c.run_directory-accepted.ensures.least accepted)) in
+    omega (arith, c.add.ensures.steps, least)
