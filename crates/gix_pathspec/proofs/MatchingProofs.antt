@@ -1,5 +1,5 @@
 -- What lies below a path, byte by byte, and the ways in which a spec fits.
-use Rattle.std.proofs.Common.{◌≡◌, ◌≢◌, ℕ, ◌+◌, ◌<◌, ◌≤◌, Bool, true, false, ◌&&◌, inl, inr, refl, sym, ◌∙◌, ap, List, [], ◌∷◌, length, take, get_or, arith, ◌==◌, Some, None, Option, is_some}
+use Rattle.std.proofs.Common.{◌≡◌, ◌≢◌, ℕ, ◌+◌, ◌<◌, ◌≤◌, Bool, true, false, ◌&&◌, inl, inr, refl, sym, ◌∙◌, ap, List, [], ◌∷◌, length, take, get_or, arith, ◌==◌, if◌then◌else◌, Some, None, Option, is_some}
 use Rattle.std.proofs.lemmas.Bool.{ne_eqb, cases_lt, lt-ltb, le-ltb}
 use Rattle.std.proofs.lemmas.List.{length-map, take-map, get_or-map}
 use Rattle.std.proofs.Math.Bool.{and-false, and-true}
@@ -94,14 +94,9 @@ module _ (s : Spec) (path : List ℕ) (is_dir : Bool) (kept : is_in_prefix_direc
   pub fit-globbed : always_matches s ≡ false → is_glob_match s path is_dir ≡ true → Some WildcardMatch ≡ fit s path is_dir
   fit-globbed a g = sym (fit-kept ∙ (rw (a, g) refl))
 
-  pub fit-verbatim : always_matches s ≡ false → is_glob_match s path is_dir ≡ false → is_verbatim_match s path is_dir ≡ true → Some Verbatim ≡ fit s path is_dir
-  fit-verbatim a g v = sym (fit-kept ∙ (rw (a, g, v) refl))
-
-  pub fit-prefixed : always_matches s ≡ false → is_glob_match s path is_dir ≡ false → is_verbatim_match s path is_dir ≡ false → is_prefix_match s path ≡ true → Some Prefix ≡ fit s path is_dir
-  fit-prefixed a g v p = sym (fit-kept ∙ (rw (a, g, v, p) refl))
-
-  pub fit-none : always_matches s ≡ false → is_glob_match s path is_dir ≡ false → is_verbatim_match s path is_dir ≡ false → is_prefix_match s path ≡ false → None ≡ fit s path is_dir
-  fit-none a g v p = sym (fit-kept ∙ (rw (a, g, v, p) refl))
+  pub fit-text : always_matches s ≡ false → is_glob_match s path is_dir ≡ false
+      → (if is_verbatim_match s path is_dir then Some Verbatim else if is_prefix_match s path then Some Prefix else None) ≡ fit s path is_dir
+  fit-text a g = sym (fit-kept ∙ (rw (a, g) refl))
 
 -- a spec that lists no attributes means what it fits
 pub spec_matches-fits : (s : Spec) (path : List ℕ) (is_dir : Bool) (kind : Option MatchKind) → is_empty s.attributes ≡ true → kind ≡ fit s path is_dir → (table : Table) → is_some kind ≡ spec_matches table s path is_dir

@@ -47,8 +47,8 @@ impl fmt::Debug for DirectoryGlob {
 }
 
 impl DirectoryGlob {
-    /// The glob of a pattern. Every byte string is one. The cost is linear in the pattern, and so is the memory; where it has 1
-    /// to 63 tokens for one byte, each of them is tested on each byte, for a table of 4 kB.
+    /// The glob of a pattern. Every byte string is one. The cost is linear in the pattern, and so is the memory; where it begins
+    /// with a star, has an open end and 1 to 63 tokens for one byte, each of them is tested on each byte, for a table of 4 kB.
     ///
     /// # Errors
     /// Memory runs out.
@@ -57,9 +57,15 @@ impl DirectoryGlob {
     {
         let tokens = Tokens::of_pattern(alloc, pattern, mode)?;
         let open_end = tokens.has_open_end();
+        // One that begins with bytes mostly fails at the first, and one without an open end is rarely asked.
+        let tokens = if open_end && tokens.head_size() == 0 {
+            Middle::of_tokens(alloc, tokens)?
+        } else {
+            Middle::by_sets(alloc, tokens)?
+        };
         Ok(DirectoryGlob {
             source: Source::of(pattern),
-            tokens: Middle::of_tokens(alloc, tokens)?,
+            tokens,
             open_end,
         })
     }

@@ -63,6 +63,20 @@ impl Middle {
         })
     }
 
+    /// These tokens by bit vectors, whatever they are: nothing is asked of each byte.
+    ///
+    /// # Errors
+    /// Memory runs out.
+    pub fn by_sets(alloc: Global, tokens: Tokens) -> Result<Middle, AllocError>
+        ensures { IfOk result (λ middle. middle ≡ tokens) }
+    {
+        let moves = EmptyMoves::of_tokens(alloc, &tokens)?;
+        Ok(Middle {
+            tokens: tokens.counted(),
+            way: Way::Sets(moves),
+        })
+    }
+
     /// How many tokens they are.
     pub fn len(&self) -> usize
         ensures { result ≡ length self.now.tokens }

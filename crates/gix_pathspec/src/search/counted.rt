@@ -101,7 +101,9 @@ impl CountedHeads {
         self.places.new_scratch()
     }
 
+    // In line, and so the next place, since a match asks for them at each path.
     /// The last head that begins the text, as [`PlacesByHead::deepest`] finds it.
+    #[inline(always)]
     pub(crate) fn deepest(&self, text: &[u8], scratch: &mut places::Scratch) -> Deepest
         ensures chain { IfSome result.head (λ j. IsChainOf self.now.heads text.now j) }
         ensures found { IsLastFront self.now.heads (length self.now.heads) text.now result.head }
@@ -113,6 +115,7 @@ impl CountedHeads {
     }
 
     /// The least place from one on whose head begins this one.
+    #[inline(always)]
     pub(crate) fn next_place(&self, head: usize, from: usize) -> Option<usize>
         requires { head < length self.now.heads }
         ensures { IsLeastFrom (IsInChain self.now.heads self.now.starts self.now.order head)

@@ -1,9 +1,10 @@
 //! Whether a spec matches a path, and how (gitglossary, "pathspec").
-ghost use Rattle.std.specs.Prelude.{◌≡◌, ◌≤◌, length, map};
+ghost use Rattle.std.specs.Prelude.{◌≡◌, ◌≤◌, length, map, Some, None, if◌then◌else◌};
 ghost use Rattle.bstr.specs.BStr.{bstr_bytes};
 ghost use Rattle.pathspec_parts.specs.AttributeStates.{state_ref_view, assignment_view};
 ghost use Rattle.pathspec_parts.specs.Outcomes.{names_of, states_of};
 ghost use Rattle.gix_pathspec.specs.Specs.{ignores_case};
+ghost use Rattle.gix_pathspec.specs.declared.search.MatchKind.TheVariants.{Verbatim, Prefix};
 ghost use Rattle.gix_pathspec.specs.Matching.{fit, is_in_prefix_directory, is_glob_match, is_verbatim_match, is_prefix_match, takes_kind, case_of, same_state, have_states};
 ghost use Rattle.gix_pathspec.specs.Patterns.{pattern_spec};
 ghost use Rattle.gix_pathspec.specs.Room.{glob_of, tokens_of};
@@ -46,17 +47,29 @@ fn match_kind(
         Some(MatchKind::Always)
     } else if is_glob_match(pattern, glob, globs, path, is_dir) {
         Some(MatchKind::WildcardMatch)
-    } else if is_verbatim_match(pattern, path, is_dir) {
-        Some(MatchKind::Verbatim)
-    } else if is_prefix_match(pattern, path) {
-        Some(MatchKind::Prefix)
     } else {
-        None
+        text_kind(pattern, path, is_dir)
+    }
+}
+
+// In line, as the next ones, since a match asks this of each spec whose head begins the path.
+/// How the path is the pattern's or lies below it, if it does. Only one that is as long can be the pattern's.
+#[inline(always)]
+fn text_kind(pattern: &Pattern, path: BStr<'_>, is_dir: bool) -> Option<MatchKind>
+    ensures { let spec = pattern_spec pattern.now in let text = bstr_bytes path.entry in
+        result ≡ (if is_verbatim_match spec text is_dir then Some Verbatim
+        else if is_prefix_match spec text then Some Prefix else None) }
+{
+    if path.as_bytes().len() == pattern.path().as_bytes().len() {
+        is_verbatim_match(pattern, path, is_dir).then_some(MatchKind::Verbatim)
+    } else {
+        is_prefix_match(pattern, path).then_some(MatchKind::Prefix)
     }
 }
 
 /// Whether the path lies below the prefix directory or is that directory, compared with case; nothing is asked where
 /// case counts throughout or there is no such directory.
+#[inline(always)]
 pub(super) fn is_in_prefix_directory(pattern: &Pattern, path: BStr<'_>, is_dir: bool) -> bool
     ensures { result ≡ is_in_prefix_directory (pattern_spec pattern.now)
         (bstr_bytes path.entry) is_dir }
@@ -94,6 +107,7 @@ fn is_glob_match(
 }
 
 /// Whether the path is the pattern's, and a directory where the pattern wants one.
+#[inline(always)]
 pub(super) fn is_verbatim_match(pattern: &Pattern, path: BStr<'_>, is_dir: bool) -> bool
     ensures { result ≡ is_verbatim_match (pattern_spec pattern.now) (bstr_bytes path.entry) is_dir }
 {
@@ -106,6 +120,7 @@ pub(super) fn is_verbatim_match(pattern: &Pattern, path: BStr<'_>, is_dir: bool)
 }
 
 /// Whether the path lies below the pattern's.
+#[inline(always)]
 pub(super) fn is_prefix_match(pattern: &Pattern, path: BStr<'_>) -> bool
     ensures { result ≡ is_prefix_match (pattern_spec pattern.now) (bstr_bytes path.entry) }
 {

@@ -1,6 +1,6 @@
 -- The prefix directory is lost or kept, and then the ways to fit, one after the other.
-use Rattle.std.proofs.Common.{sym}
-use Rattle.gix_pathspec.proofs.MatchingProofs.{fit-lost, fit-always, fit-globbed, fit-verbatim, fit-prefixed, fit-none}
+use Rattle.std.proofs.Common.{sym, ◌∙◌}
+use Rattle.gix_pathspec.proofs.MatchingProofs.{fit-lost, fit-always, fit-globbed, fit-text}
 use Rattle.gix_pathspec.proofs.search.matching.match_kind.Goals as goal
 
 pub returns-then-not-is_in_prefix_directory-clause-kind : goal.returns-then-not-is_in_prefix_directory-clause-kind
@@ -12,11 +12,5 @@ returns-then-always_matches-clause-kind c = fit-always _ _ _ (sym c.if-not-is_in
 pub returns-then-is_glob_match-clause-kind : goal.returns-then-is_glob_match-clause-kind
 returns-then-is_glob_match-clause-kind c = fit-globbed _ _ _ (sym c.if-not-is_in_prefix_directory.ensures) (sym c.if-always_matches.ensures) (sym c.if-is_glob_match.ensures.answer)
 
-pub returns-then-is_verbatim_match-clause-kind : goal.returns-then-is_verbatim_match-clause-kind
-returns-then-is_verbatim_match-clause-kind c = fit-verbatim _ _ _ (sym c.if-not-is_in_prefix_directory.ensures) (sym c.if-always_matches.ensures) (sym c.if-is_glob_match.ensures.answer) (sym c.if-is_verbatim_match.ensures)
-
-pub returns-then-is_prefix_match-clause-kind : goal.returns-then-is_prefix_match-clause-kind
-returns-then-is_prefix_match-clause-kind c = fit-prefixed _ _ _ (sym c.if-not-is_in_prefix_directory.ensures) (sym c.if-always_matches.ensures) (sym c.if-is_glob_match.ensures.answer) (sym c.if-is_verbatim_match.ensures) (sym c.if-is_prefix_match.ensures)
-
-pub returns-else-is_prefix_match-clause-kind : goal.returns-else-is_prefix_match-clause-kind
-returns-else-is_prefix_match-clause-kind c = fit-none _ _ _ (sym c.if-not-is_in_prefix_directory.ensures) (sym c.if-always_matches.ensures) (sym c.if-is_glob_match.ensures.answer) (sym c.if-is_verbatim_match.ensures) (sym c.if-is_prefix_match.ensures)
+pub returns-else-is_glob_match-clause-kind : goal.returns-else-is_glob_match-clause-kind
+returns-else-is_glob_match-clause-kind c = c.text_kind.ensures ∙ fit-text _ _ _ (sym c.if-not-is_in_prefix_directory.ensures) (sym c.if-always_matches.ensures) (sym c.if-is_glob_match.ensures.answer)
