@@ -44,11 +44,21 @@ const NO_EFFORT: Effort = Effort {
 ///
 /// [`Search::new_scratch`](crate::search::Search::new_scratch) makes one. Walkers that share a search have one each. The
 /// totals are never set back.
-#[derive(Drop)]
 pub struct Scratch {
     specs: SpecScratch,
     heads: places::Scratch,
     effort: Effort,
+}
+
+// Written out, so that whoever drops a scratch needn't prove anew what becomes of its lists.
+impl Drop for Scratch {
+    fn drop(self) {
+        let Scratch {
+            specs: _specs,
+            heads: _heads,
+            effort: _effort,
+        } = self;
+    }
 }
 
 impl fmt::Debug for Scratch {

@@ -45,7 +45,6 @@ pub enum MatchKind {
 ///
 /// A match that is lent a [`Scratch`] only reads it ([`Search::settle`]), so walkers can share a search. No call on it but
 /// [`Search::try_clone`] and [`Search::new_scratch`] takes memory.
-#[derive(Drop)]
 pub struct Search {
     specs: SpecsByHead,
     /// The room for the matches of [`Search::pattern_matching_relative_path`].
@@ -72,6 +71,20 @@ impl Model for Search {
     ghost view = { λ s. record { specs = s.specs; source = option_map bstring_bytes s.source; counts = (box_value s.scratch).counts } };
 
     ghost invariant = { λ s. IsSearch s.specs s.reach s.takers s.nil (box_value s.scratch) };
+}
+
+// Written out, so that whoever drops a search needn't prove anew what becomes of its parts.
+impl Drop for Search {
+    fn drop(self) {
+        let Search {
+            specs: _specs,
+            scratch: _scratch,
+            reach: _reach,
+            takers: _takers,
+            nil: _nil,
+            source: _source,
+        } = self;
+    }
 }
 
 impl fmt::Debug for Search {

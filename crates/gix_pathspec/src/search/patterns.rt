@@ -68,8 +68,16 @@ impl Search {
     pub fn into_patterns(self) -> IntoPatterns
         ensures { result ≡ specs_of self.specs }
     {
+        let Search {
+            specs,
+            scratch: _scratch,
+            reach: _reach,
+            takers: _takers,
+            nil: _nil,
+            source: _source,
+        } = self;
         IntoPatterns {
-            rest: self.specs.into_counted().into_specs().into_iter(),
+            rest: specs.into_counted().into_specs().into_iter(),
         }
     }
 
