@@ -13,10 +13,9 @@ use Rattle.gix_pathspec.specs.Faults.{Fault}
 use Rattle.gix_pathspec.specs.Errors.{fault_of, IsMemoryOr}
 use Rattle.gix_pathspec.specs.Specs.{Spec, is_exclude, is_include}
 use Rattle.gix_pathspec.specs.Patterns.{pattern_spec}
-use Rattle.gix_pathspec.specs.Reading.{nil_spec}
 use Rattle.gix_pathspec.specs.NormalForm.{normal_form}
 use Rattle.gix_pathspec.specs.Prefixes.{heads, common_front, common_prefix}
-use Rattle.gix_pathspec.specs.Search.{Numbered, specs_of, at_number, numbered_from, default_to_prefix, in_search_order, search_of}
+use Rattle.gix_pathspec.specs.Search.{Numbered, at_number, numbered_from, default_to_prefix, in_search_order, search_of}
 use Rattle.gix_pathspec.specs.Building.{numbered_normal_form, TellsFault, IsErrorAt}
 
 -- ---- faults

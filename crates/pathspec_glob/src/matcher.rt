@@ -157,11 +157,7 @@ impl Parts {
 ///
 /// # Errors
 /// Memory runs out.
-fn ends_of_tokens(
-    alloc: Global,
-    head: Tokens,
-    tail: Tokens,
-) -> Result<(End, End), AllocError>
+fn ends_of_tokens(alloc: Global, head: Tokens, tail: Tokens) -> Result<(End, End), AllocError>
     ensures head { IfOk result (λ ends. ends.0 ≡ head) }
     ensures tail { IfOk result (λ ends. ends.1 ≡ tail) }
 {

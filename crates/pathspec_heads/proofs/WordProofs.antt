@@ -1,12 +1,11 @@
 -- Words whose bits are places.
-use Rattle.std.proofs.Common.{◌≡◌, ℕ, ◌+◌, ◌-◌, ◌*◌, ◌^◌, ◌%◌, ◌/◌, ◌<◌, ◌≤◌, ◌==◌, true, false, inl, inr, sym, ◌∙◌, ap, subst, arith, Option, Some, None, bit_or, w64}
+use Rattle.std.proofs.Common.{◌≡◌, ℕ, ◌+◌, ◌-◌, ◌*◌, ◌^◌, ◌%◌, ◌/◌, ◌<◌, ◌≤◌, ◌==◌, true, false, inl, inr, sym, ◌∙◌, ap, subst, arith, Some, None, bit_or, w64}
 use Rattle.std.specs.Int.Count.{count_trailing_zeros}
 use Rattle.std.proofs.lemmas.Bool.{cases_eq, cases_lt}
 use Rattle.std.proofs.lemmas.Nat.Bits.{bit_at_above, bit_at_set_same, bit_at_set_other}
 use Rattle.pathspec_glob.specs.GlobCells.{has}
 use Rattle.pathspec_glob.proofs.BitProofs.{below-lowest, has-shr, has-zero, lowest-stands}
 use Rattle.pathspec_heads.specs.Groups.{HasBitsOf, IsLeastFrom}
-use Rattle.pathspec_heads.proofs.NextProofs.{next-map}
 
 -- ---- the next bit
 
@@ -76,7 +75,3 @@ all-placed P word from only all next = record {
     | inr g ↦ absurd (next.first p g there)
   ];
 }
-
--- The next bit of a word of places is the next place.
-pub next-bit-of : (P : ℕ → Type 0) (word from : ℕ) (next : Option ℕ) → HasBitsOf word P → IsLeastFrom (λ p. has word p ≡ true) from next → IsLeastFrom P from next
-next-bit-of P word from next bits least = next-map (λ p. has word p ≡ true) P from next bits.only bits.all least

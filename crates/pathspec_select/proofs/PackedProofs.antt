@@ -99,9 +99,6 @@ module _ (packed : List Packed) (bounds : List Bounds) (spans : List Span) (h : 
       ∙ (ap (λ xs. xs ++ span_of more_bounds more_spans x ∷ []) (map_at (span_of more_bounds more_spans) (span_of bounds spans) packed kept) ∙ ap (λ s. map (span_of bounds spans) packed ++ s ∷ []) is)
 
   -- a file
-  pub view-file : (x : Packed) → IsFile span x → map (span_of bounds spans) (packed ++ x ∷ []) ≡ map (span_of bounds spans) packed ++ span ∷ []
-  view-file x is = view_more x bounds spans (λ i y e. refl) (ap (span_of bounds spans) is.0 ∙ ap (λ e. record span { end = e }) (sym is.1))
-
   pub more-file : (x : Packed) → IsFile span x → ArePacked (packed ++ x ∷ []) bounds spans
   more-file x is = are_more x bounds spans (record {
     fewer_bounds = omega arith;

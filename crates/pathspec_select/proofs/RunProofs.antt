@@ -301,8 +301,8 @@ module _ (ps : List (List ℕ)) (h : IsIndex ps) where
           let behind = drop q.length (path_at ps q.path) in (
             rest ++ behind,
             sym (take-append-drop q.length (path_at ps q.path)) ∙ (ap (λ t. t ++ behind) path
-            ∙ (append_assoc (take place.length (path_at ps place.path)) (slash ∷ rest) behind
-            ∙ (sym (append_assoc (take place.length (path_at ps place.path)) (slash ∷ []) (rest ++ behind)) ∙ ap (λ t. t ++ (rest ++ behind)) (sym (front-slash place p lt))))),
+                ∙ (append_assoc (take place.length (path_at ps place.path)) (slash ∷ rest) behind
+                ∙ (sym (append_assoc (take place.length (path_at ps place.path)) (slash ∷ []) (rest ++ behind)) ∙ ap (λ t. t ++ (rest ++ behind)) (sym (front-slash place p lt))))),
           )
 
       -- a path that begins so stands before the end
