@@ -1,10 +1,10 @@
 -- The number of a place, as it is defined, is that of the place's entry.
 use Rattle.std.proofs.Common.{◌≡◌, ℕ, zero, suc, ◌+◌, ◌<◌, ◌≤◌, Bool, true, false, refl, sym, ◌∙◌, ap, subst, List, [], ◌∷◌, ◌++◌, length, get_or, take, drop, ◌==◌, arith, append_assoc, inl, inr, Option, Some, None, not, ◌&&◌}
-use Rattle.std.proofs.lemmas.Bool.{cases_Bool, both_ways, eqb-true, eq-eqb, ne_eqb, lt-ltb}
+use Rattle.std.proofs.lemmas.Bool.{cases_Bool, both_ways, eqb-true, eq-eqb, ne_eqb, lt-ltb, le-ltb, le-leb, lt-leb}
 use Rattle.std.proofs.lemmas.List.{take_all, take_at, take-append-drop, length-append, length-take-le}
 use Rattle.std.proofs.lemmas.List.Elements.{Contains-append_left, Contains-push, Contains-push_cases}
 use Rattle.std.proofs.lemmas.Option.{same_Some, slice_get_within}
-use Rattle.std.specs.Prelude.{◌⊎◌, slice_get, Contains, unwrap_or, option_map, option_and_then}
+use Rattle.std.specs.Prelude.{◌⊎◌, ◌&&◌, nat_lt, nat_le, if◌then◌else◌, Option, Some, None, slice_get, Contains, unwrap_or, option_map, option_and_then}
 use Rattle.std.specs.List.{AllByRecursion, find}
 use Rattle.pathspec_parts.specs.Bytes.{slash}
 use Rattle.pathspec_parts.specs.Paths.{IsBelow, ends_with_slash}
@@ -14,7 +14,7 @@ use Rattle.pathspec_parts.specs.Cursors.{IsEndOf}
 use Rattle.pathspec_parts.proofs.EntryProofs.{Contains-here, Contains-later}
 use Rattle.pathspec_select.specs.declared.index.paths.IndexPlace.{IndexPlace}
 use Rattle.pathspec_select.specs.Listing.{listing_entries}
-use Rattle.pathspec_select.specs.Index.{path_at, common_length, slashes_in, file_numbers, path_of_number, numbers_to, number_of, IsIndex, IsPlace, entries_before, path_after, is_whole}
+use Rattle.pathspec_select.specs.Index.{path_at, common_length, slashes_in, file_numbers, path_of_number, numbers_to, number_of, IsIndex, IsPlace, entries_before, path_after, is_whole, front_at}
 use Rattle.pathspec_select.proofs.AboveProofs.{NoSlash, AreNames, ArePlain, no_slashes, fronts_above}
 use Rattle.pathspec_select.proofs.IndexEntryProofs.{base, implies, file-number, file-count, file-path, number_at, entry-of, entry-at, place-of}
 use Rattle.pathspec_select.proofs.RunProofs.{plain, front-slash, one-place, place-ends}
@@ -47,6 +47,27 @@ find-one p (x ∷ xs) m c t one = elim (cases_Bool (p x)) [
     behind : (m : ℕ) → Contains (x ∷ xs) m → p m ≡ true → p x ≡ false → Contains xs m
     behind m (zero, l, q) t f = absurd (both_ways (p x) f (ap p q ∙ t))
     behind m (suc k, l, q) t f = (k, omega (arith, l), q)
+
+-- ---- what a place names
+
+module _ (ps : List (List ℕ)) (place : IndexPlace) where
+  abbrev size : ℕ
+  size = length (path_at ps place.path)
+
+  abbrev named : Bool → Option (List ℕ)
+  named b = if b then Some (take place.length (path_at ps place.path)) else None
+
+  pub front-there : place.path < length ps → place.length ≤ size → front_at ps place ≡ Some (take place.length (path_at ps place.path))
+  unfolding front_at
+  front-there inside fits = ap (λ b. named (b && nat_le place.length size)) (lt-ltb place.path (length ps) inside) ∙ ap named (le-leb place.length size fits)
+
+  pub front-nowhere : length ps ≤ place.path → front_at ps place ≡ None
+  unfolding front_at
+  front-nowhere past = ap (λ b. named (b && nat_le place.length size)) (le-ltb place.path (length ps) past)
+
+  pub front-short : place.path < length ps → size < place.length → front_at ps place ≡ None
+  unfolding front_at
+  front-short inside short = ap (λ b. named (b && nat_le place.length size)) (lt-ltb place.path (length ps) inside) ∙ ap named (lt-leb place.length size short)
 
 module _ (ps : List (List ℕ)) (h : IsIndex ps) (nested : IsNested (listing_entries ps)) where
   abbrev es : List Entry
@@ -229,6 +250,11 @@ module _ (ps : List (List ℕ)) (h : IsIndex ps) (nested : IsNested (listing_ent
   place-path place e s =
       let n = named-by place (number_of es place) refl (slice_get_within es (number_of es place) e s) in
       (n.0, n.1.fits, sym n.1.path ∙ ap (λ (x : Entry). x.path) (same_Some n.1.entry e (sym n.1.stands ∙ s)))
+
+  pub place-front : (place : IndexPlace) (e : Entry) → slice_get es (number_of es place) ≡ Some e → front_at ps place ≡ Some e.path
+  place-front place e s =
+      let p = place-path place e s in
+      front-there ps place p.0 p.1 ∙ ap Some p.2
 
   -- and a file just where that is whole
   pub place-kind : (place : IndexPlace) (e : Entry) → slice_get es (number_of es place) ≡ Some e → is_whole ps place ≡ not e.is_dir

@@ -1,5 +1,5 @@
 -- Paths in byte order, as a git index has them, and where a walk over them stands.
-use Rattle.std.specs.Prelude.{◌≡◌, ◌≢◌, ◌⊎◌, ◌↔◌, ℕ, ◌+◌, ◌-◌, ◌<◌, ◌≤◌, ◌^◌, Bool, true, false, not, ◌&&◌, ◌||◌, List, [], ◌∷◌, ◌++◌, ◌==◌, length, take, drop, map, min, nat_eq, nat_lt, count_by, slice_get, slice_index_or, if◌then◌else◌, Option, Some, None, option_map, option_and_then, unwrap_or, Contains}
+use Rattle.std.specs.Prelude.{◌≡◌, ◌≢◌, ◌⊎◌, ◌↔◌, ℕ, ◌+◌, ◌-◌, ◌<◌, ◌≤◌, ◌^◌, Bool, true, false, not, ◌&&◌, ◌||◌, List, [], ◌∷◌, ◌++◌, ◌==◌, length, take, drop, map, min, nat_eq, nat_lt, nat_le, count_by, slice_get, slice_index_or, if◌then◌else◌, Option, Some, None, option_map, option_and_then, unwrap_or, Contains}
 use Rattle.std.specs.Ordering.{nat_cmp}
 use Rattle.std.specs.Cmp.Lexicographic.{slice_cmp}
 use Rattle.std.specs.declared.cmp.Ordering.TheVariants.{Less}
@@ -78,6 +78,10 @@ is_front paths place = nat_lt place.length (length (path_at paths place.path))
 -- whether a place is that of a whole path
 abbrev pub is_whole : List (List ℕ) → IndexPlace → Bool
 is_whole paths place = nat_lt place.path (length paths) && length (path_at paths place.path) == place.length
+
+-- the first bytes of its path that a place names; nothing where there is no such path, or it has fewer
+unfoldable pub front_at : List (List ℕ) → IndexPlace → Option (List ℕ)
+front_at paths place = if nat_lt place.path (length paths) && nat_le place.length (length (path_at paths place.path)) then Some (take place.length (path_at paths place.path)) else None
 
 -- The numbers of the paths that pass, each once, in order.
 pub record AreNumbersOf (passes : List ℕ → Bool) (paths : List (List ℕ)) (numbers : List ℕ) : Type 0 where

@@ -1,5 +1,4 @@
 //! Walks over sorted paths, as a git index has them, beside a cursor over the tree of the same paths.
-use bstr::BStr;
 use gix_pathspec::Search;
 use pathspec_parts::tree::Walk as _;
 use pathspec_select::index::{IndexError, IndexPlace, IndexWalk, SortedPaths, chosen_paths};
@@ -113,13 +112,25 @@ impl Row for Choice {
             return Ok(false);
         };
         let lines = lines_of(alloc, self.2)?;
-        let chosen = chosen_paths(alloc, &sorted, &search, &mut Marks::new())?;
         Ok(
-            are_same(&chosen, self.5)
+            is_chosen(alloc, &sorted, &search, self.5)?
                 && is_by_tree(alloc, &lines, &search, self.3)?
                 && is_by_paths(alloc, &sorted, &search, self.4)?,
         )
     }
+}
+
+/// Whether a search chooses just the paths with these numbers.
+fn is_chosen(
+    alloc: Global,
+    sorted: &SortedPaths<'_>,
+    search: &Search,
+    wanted: &[usize],
+) -> Result<bool, Fail> {
+    Ok(are_same(
+        &chosen_paths(alloc, sorted, search, &mut Marks::new())?,
+        wanted,
+    ))
 }
 
 /// Whether a cursor over the tree of a listing gives and enters the entries with these numbers.
@@ -208,35 +219,46 @@ fn paths_that_are_no_index_are_refused(rt: HostRuntime) -> Result<(), Fail> {
     assert_each(rt.alloc(), ROWS)
 }
 
+/// Whether a walk goes over `a`, which it doesn't enter, and `d`, and stands nowhere before and after them.
+fn goes_over_two(walk: &mut IndexWalk<'_>) -> bool {
+    let is_nowhere = walk.is_new() && is_at(walk, "") && !walk.is_dir() && !walk.enter();
+    let is_first = walk.next().is_some() && is_at(walk, "a") && !walk.is_new();
+    let is_last = walk.next().is_some() && is_at(walk, "d") && !walk.enter();
+    let is_after = walk.next().is_none() && is_at(walk, "") && !walk.enter();
+    let is_still = walk.next().is_none() && !walk.is_new() && walk.entered().is_empty();
+    is_nowhere && is_first && is_last && is_after && is_still
+}
+
 #[test]
 fn a_walk_stands_nowhere_before_its_first_entry_and_after_its_last(
     rt: HostRuntime,
 ) -> Result<(), Fail> {
     let paths = bytes_of(rt.alloc(), &["a/b", "a/c", "d"])?;
     let sorted = SortedPaths::new(&paths)?;
-    assert_eq!(rt; sorted.len(), 3);
-    let mut walk = IndexWalk::new(rt.alloc(), &sorted)?;
-    assert!(rt; walk.is_new() && is_at(&walk, ""));
-    assert!(rt; !walk.is_dir() && !walk.enter());
-    assert!(rt; walk.next().is_some() && is_at(&walk, "a") && !walk.is_new());
-    assert!(rt; walk.next().is_some() && is_at(&walk, "d"));
-    assert!(rt; !walk.enter() && walk.entered().is_empty());
-    assert!(rt; walk.next().is_none() && is_at(&walk, "") && !walk.enter());
-    assert!(rt; walk.next().is_none() && !walk.is_new());
+    assert!(rt; sorted.len() == 3 && goes_over_two(&mut IndexWalk::new(rt.alloc(), &sorted)?));
     Ok(())
+}
+
+/// Whether a walk that enters `a` twice has it once on its trail, and then comes to what lies in it and after it.
+fn enters_once(walk: &mut IndexWalk<'_>) -> bool {
+    let is_entered = walk.next().is_some() && walk.enter() && walk.enter();
+    let is_on_trail = are_places(walk.entered(), &[(0, 1)]);
+    let is_file = walk.next().is_some() && is_at(walk, "a/b") && !walk.enter();
+    let is_directory = walk.next().is_some() && is_at(walk, "a/c") && walk.is_dir();
+    let is_after = walk.next().is_some() && is_at(walk, "e");
+    is_entered
+        && is_on_trail
+        && is_file
+        && is_directory
+        && is_after
+        && are_places(walk.entered(), &[(0, 1)])
 }
 
 #[test]
 fn a_directory_is_entered_once(rt: HostRuntime) -> Result<(), Fail> {
     let paths = bytes_of(rt.alloc(), &["a/b", "a/c/d", "e"])?;
     let sorted = SortedPaths::new(&paths)?;
-    let mut walk = IndexWalk::new(rt.alloc(), &sorted)?;
-    assert!(rt; walk.next().is_some() && walk.enter() && walk.enter());
-    assert!(rt; are_places(walk.entered(), &[(0, 1)]));
-    assert!(rt; walk.next().is_some() && is_at(&walk, "a/b") && !walk.enter());
-    assert!(rt; walk.next().is_some() && is_at(&walk, "a/c") && walk.is_dir());
-    assert!(rt; walk.next().is_some() && is_at(&walk, "e"));
-    assert!(rt; are_places(walk.entered(), &[(0, 1)]));
+    assert!(rt; enters_once(&mut IndexWalk::new(rt.alloc(), &sorted)?));
     Ok(())
 }
 
@@ -255,40 +277,64 @@ fn count_without(walk: &mut IndexWalk<'_>, path: &str) -> usize {
     count
 }
 
-/// Whether a path is there and is this.
-fn is_path(found: Option<BStr<'_>>, path: &str) -> bool {
-    match found {
-        Some(found) => found.as_bytes() == path.as_bytes(),
-        None => false,
+/// The paths of the example for callers.
+const EXAMPLE: &[&str] = &["README.md", "doc/a.md", "src/gen/x.rs", "src/lib.rs"];
+
+#[test]
+fn the_example_for_callers_does_what_it_says(rt: HostRuntime) -> Result<(), Fail> {
+    let search = search_of(rt.alloc(), &["src/*.rs", ":!src/gen"], "")?;
+    let names = bytes_of(rt.alloc(), EXAMPLE)?;
+    let paths = SortedPaths::new(&names)?;
+    let is_chosen = is_chosen(rt.alloc(), &paths, &search, &[3])?;
+    let wanted: (&[(usize, usize)], &[(usize, usize)]) = (&[(3, 10)], &[(2, 3)]);
+    assert!(rt; is_chosen && is_by_paths(rt.alloc(), &paths, &search, wanted)?);
+    Ok(())
+}
+
+/// Whether a walk that doesn't enter `doc` comes to six entries.
+fn goes_around_doc(walk: &mut IndexWalk<'_>) -> bool {
+    count_without(walk, "doc") == 6 && are_places(walk.entered(), &[(2, 3), (2, 7)])
+}
+
+#[test]
+fn a_directory_that_is_not_entered_is_gone_around(rt: HostRuntime) -> Result<(), Fail> {
+    let names = bytes_of(rt.alloc(), EXAMPLE)?;
+    let paths = SortedPaths::new(&names)?;
+    assert!(rt; goes_around_doc(&mut IndexWalk::new(rt.alloc(), &paths)?));
+    Ok(())
+}
+
+/// A place among the paths of the example: a path's number and a length, the entry's path, if there is one, and whether
+/// it is that of a file.
+struct Place((usize, usize), Option<&'static str>, bool);
+
+impl Row for Place {
+    fn holds(&self, alloc: Global) -> Result<bool, Fail> {
+        let names = bytes_of(alloc, EXAMPLE)?;
+        let paths = SortedPaths::new(&names)?;
+        let (path, length) = self.0;
+        let place = IndexPlace { path, length };
+        let is_path = match (paths.entry_path(place), self.1) {
+            (Some(found), Some(wanted)) => found.as_bytes() == wanted.as_bytes(),
+            (None, None) => true,
+            _ => false,
+        };
+        Ok(is_path && paths.is_file(place) == self.2)
     }
 }
 
 #[test]
-fn the_example_for_callers_does_what_it_says(rt: HostRuntime) -> Result<(), Fail> {
-    let alloc = rt.alloc();
-    let search = search_of(alloc, &["src/*.rs", ":!src/gen"], "")?;
-    let texts = ["README.md", "doc/a.md", "src/gen/x.rs", "src/lib.rs"];
-    let names = bytes_of(alloc, &texts)?;
-    let paths = SortedPaths::new(&names)?;
-    let numbers = chosen_paths(alloc, &paths, &search, &mut Marks::new())?;
-    assert!(rt; are_same(&numbers, &[3]));
-    let mut walk = IndexWalk::new(alloc, &paths)?;
-    let places = select(alloc, &mut walk, &search, &mut Marks::new())?;
-    assert!(rt; are_places(&places, &[(3, 10)]) && are_places(walk.entered(), &[(2, 3)]));
-    for place in &places {
-        assert!(rt; paths.is_file(*place));
-    }
-    let directory = IndexPlace { path: 2, length: 3 };
-    let nowhere = IndexPlace { path: 4, length: 0 };
-    let past_the_path = IndexPlace {
-        path: 3,
-        length: 11,
-    };
-    assert!(rt; !paths.is_file(directory) && is_path(paths.entry_path(directory), "src"));
-    assert!(rt; !paths.is_file(nowhere) && paths.entry_path(nowhere).is_none());
-    assert!(rt; !paths.is_file(past_the_path) && paths.entry_path(past_the_path).is_none());
-    let mut walk = IndexWalk::new(alloc, &paths)?;
-    assert_eq!(rt; count_without(&mut walk, "doc"), 6);
-    assert!(rt; are_places(walk.entered(), &[(2, 3), (2, 7)]));
-    Ok(())
+fn a_place_names_the_first_bytes_of_its_path(rt: HostRuntime) -> Result<(), Fail> {
+    const ROWS: &[Place] = &[
+        Place((0, 9), Some("README.md"), true),
+        Place((3, 10), Some("src/lib.rs"), true),
+        Place((2, 3), Some("src"), false),
+        Place((2, 7), Some("src/gen"), false),
+        // No entry is there, but the path has so many bytes.
+        Place((2, 0), Some(""), false),
+        Place((2, 5), Some("src/g"), false),
+        Place((3, 11), None, false),
+        Place((4, 0), None, false),
+    ];
+    assert_each(rt.alloc(), ROWS)
 }

@@ -62,20 +62,29 @@ fn goes_on(search: &Search, scratch: &mut Scratch, path: &str, left: u64) -> Res
     Ok(true)
 }
 
+/// Whether a match in a new scratch answers what is wanted.
+fn answers_anew(alloc: Global, search: &Search, asked: &Asked) -> Result<bool, Fail> {
+    answers(search, &mut *scratch_of(alloc, search)?, asked)
+}
+
+/// Whether the scratch goes on after each fault that the look-up may have for a path.
+fn goes_on_after_each(search: &Search, scratch: &mut Scratch, asked: &Asked) -> Result<bool, Fail> {
+    for left in 0..asked.2 {
+        if !goes_on(search, scratch, asked.0, left)? {
+            return Ok(false);
+        }
+    }
+    Ok(true)
+}
+
 #[test]
 fn a_fault_changes_no_later_answer_in_its_scratch(rt: HostRuntime) -> Result<(), Fail> {
     let search = search_of(rt.alloc(), TEXTS, "")?;
     let mut scratch = scratch_of(rt.alloc(), &search)?;
     for asked in ASKED {
-        let mut fresh = scratch_of(rt.alloc(), &search)?;
-        assert!(rt; answers(&search, &mut fresh, asked)?, "{}", asked.0);
-        for left in 0..asked.2 {
-            assert!(rt;
-                goes_on(&search, &mut scratch, asked.0, left)?,
-                "{} after {left}",
-                asked.0
-            );
-        }
+        let is_answered = answers_anew(rt.alloc(), &search, asked)?;
+        let goes_on = goes_on_after_each(&search, &mut scratch, asked)?;
+        assert!(rt; is_answered && goes_on, "{}", asked.0);
     }
     Ok(())
 }
@@ -101,25 +110,27 @@ fn answers_beside(
     Ok(answers(search, scratch, asked)? && counts(other) == before)
 }
 
+/// Whether matches in two scratches answer what is wanted in turn. The second comes to each path from another one.
+fn answer_in_turn(
+    search: &Search,
+    first: &mut Scratch,
+    second: &mut Scratch,
+) -> Result<bool, Fail> {
+    for (asked, other) in ASKED.iter().zip(ASKED.iter().rev()) {
+        let is_answered = answers_beside(search, first, second, asked)?;
+        if !is_answered || !answers_beside(search, second, first, other)? {
+            return Ok(false);
+        }
+    }
+    Ok(search.total_tested() == 0 && search.total_compared() == 0)
+}
+
 #[test]
 fn scratches_that_are_used_in_turn_answer_alike(rt: HostRuntime) -> Result<(), Fail> {
     let search = search_of(rt.alloc(), TEXTS, "")?;
     let mut first = scratch_of(rt.alloc(), &search)?;
     let mut second = scratch_of(rt.alloc(), &search)?;
-    // The second comes to each path from another one.
-    for (asked, other) in ASKED.iter().zip(ASKED.iter().rev()) {
-        assert!(rt;
-            answers_beside(&search, &mut first, &second, asked)?,
-            "{}",
-            asked.0
-        );
-        assert!(rt;
-            answers_beside(&search, &mut second, &first, other)?,
-            "{}",
-            other.0
-        );
-    }
-    assert!(rt; search.total_tested() == 0 && search.total_compared() == 0);
+    assert!(rt; answer_in_turn(&search, &mut first, &mut second)?);
     Ok(())
 }
 
@@ -133,6 +144,9 @@ const PARTS: &[&[&str]] = &[
 
 /// The numbers of the entries that [`TEXTS`] choose of the whole tree: `a`, `a/x`, `x`, `c/d/y` and `y`.
 const CHOSEN: &[usize] = &[0, 1, 7, 10, 14];
+
+/// How many entries the whole tree has.
+const ENTRIES: usize = 16;
 
 /// The tree of all parts, one after the other.
 fn whole_tree(alloc: Global) -> Result<Tree, TreeError> {
@@ -194,33 +208,53 @@ fn walkers<'t>(
     Ok(walkers)
 }
 
-/// The numbers of the entries that walkers of the parts select, who go in turn.
-fn selected_in_turn(alloc: Global, search: &Search) -> Result<Vec<usize>, Fail> {
+/// The parts of the tree.
+fn parts(alloc: Global) -> Result<Vec<Tree>, Fail> {
     let mut parts = Vec::new(alloc);
     for words in PARTS {
         parts.push(tree_of(alloc, words)?)?;
     }
-    let mut walkers = walkers(alloc, search, &parts)?;
-    for _ in 0..whole_tree(alloc)?.len() {
-        for walker in &mut walkers {
+    Ok(parts)
+}
+
+/// Has each walker in turn come to its next entry, as often as the whole tree has entries.
+fn step_in_turn(walkers: &mut [Walker<'_>], search: &Search) -> Result<(), Fail> {
+    for _ in 0..ENTRIES {
+        for walker in &mut *walkers {
             walker.step(search)?;
         }
     }
+    Ok(())
+}
+
+/// The numbers of the entries that walkers select.
+fn selected_by(alloc: Global, walkers: &[Walker<'_>]) -> Result<Vec<usize>, AllocError> {
     let mut selected = Vec::new(alloc);
-    for walker in &walkers {
+    for walker in walkers {
         selected.extend_from_slice(&walker.selected)?;
     }
     Ok(selected)
 }
 
+/// Whether walkers of the parts, who go in turn, select what is chosen.
+fn walkers_choose(alloc: Global, search: &Search, parts: &[Tree]) -> Result<bool, Fail> {
+    let mut walkers = walkers(alloc, search, parts)?;
+    step_in_turn(&mut walkers, search)?;
+    Ok(are_same(&selected_by(alloc, &walkers)?, CHOSEN))
+}
+
+/// Whether one walk over a tree of so many entries gives what is chosen.
+fn walk_chooses(alloc: Global, search: &Search, tree: &Tree) -> Result<bool, Fail> {
+    let mut cursor = Cursor::new(alloc, tree)?;
+    let given = select(alloc, &mut cursor, search, &mut Marks::new())?;
+    Ok(tree.len() == ENTRIES && are_same(&given, CHOSEN))
+}
+
 #[test]
 fn walkers_of_four_parts_select_what_one_walk_gives(rt: HostRuntime) -> Result<(), Fail> {
     let search = search_of(rt.alloc(), TEXTS, "")?;
-    let tree = whole_tree(rt.alloc())?;
-    let mut cursor = Cursor::new(rt.alloc(), &tree)?;
-    let given = select(rt.alloc(), &mut cursor, &search, &mut Marks::new())?;
-    assert!(rt; are_same(&given, CHOSEN));
-    assert!(rt; are_same(&selected_in_turn(rt.alloc(), &search)?, CHOSEN));
+    let is_chosen = walk_chooses(rt.alloc(), &search, &whole_tree(rt.alloc())?)?;
+    assert!(rt; is_chosen && walkers_choose(rt.alloc(), &search, &parts(rt.alloc())?)?);
     Ok(())
 }
 

@@ -67,7 +67,7 @@ impl<'a> Model for SortedPaths<'a> {
 }
 
 impl<'a> SortedPaths<'a> {
-    ghost use Rattle.pathspec_select.specs.Index.{IsIndex, RefusesPaths, path_at, path_before, IsPlace, IsAround, is_whole, number_of, entries_before, path_after};
+    ghost use Rattle.pathspec_select.specs.Index.{IsIndex, RefusesPaths, path_at, path_before, IsPlace, IsAround, is_whole, front_at, number_of, entries_before, path_after};
 
     /// Checks paths. Each has to be a file's, and greater in byte order than the one before it. A path may lie below
     /// another one, as `a/b` below `a`: that is then a file beside a directory of the same name. `dir/`, as a sparse
@@ -128,7 +128,9 @@ impl<'a> SortedPaths<'a> {
 
     /// The path of the entry of a place; nothing where there is no such path, or it has fewer bytes.
     pub fn entry_path(&self, place: IndexPlace) -> Option<BStr<'a>>
-        ensures { let es = listing_entries self.now in (e : Entry)
+        ensures front { option_map bstr_bytes result ≡ front_at self.now place }
+        // At the number of an entry, it is the entry's path.
+        ensures entry { let es = listing_entries self.now in (e : Entry)
             → slice_get es (number_of es place) ≡ Some e → option_map bstr_bytes result ≡ Some e.path }
     {
         if place.path >= self.len() {

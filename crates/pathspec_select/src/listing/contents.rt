@@ -98,7 +98,7 @@ impl<'a> Listing<'a> {
 /// It looks at each byte of the listing a fixed number of times.
 ///
 /// # Errors
-/// [`ListingError`]. Memory is told to have run out also where 2^32 entries take 32 bytes each and one more would.
+/// [`ListingError`].
 pub fn read(alloc: Global, bytes: &[u8], separator: u8) -> Result<Listing<'_>, ListingError>
     ensures contents { IfOk result (λ l. l ≡ listing_of (records separator bytes.now)) }
     ensures answers { AnswersRecords (records separator bytes.now) result }

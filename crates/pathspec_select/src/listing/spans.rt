@@ -1,10 +1,13 @@
 //! The entries of a listing in numbers, of a file mostly in eight bytes.
-ghost use Rattle.std.specs.Prelude.{◌≡◌, ◌≢◌, ◌+◌, ◌<◌, ◌==◌, ◌∷◌, ◌++◌, [], length, set, slice_get, get_or, if◌then◌else◌, Some, None, IfSome, OnOk, OnErr};
+ghost use Rattle.std.specs.Prelude.{◌≡◌, ◌≢◌, ◌+◌, ◌<◌, ◌≤◌, ◌^◌, ◌==◌, ◌∷◌, ◌++◌, [], length, set, slice_get, get_or, if◌then◌else◌, Some, None, IfSome, MatchOption, OnOk, OnErr};
 ghost use Rattle.pathspec_parts.specs.TreeLayout.{open_end};
-ghost use Rattle.pathspec_select.specs.PackedSpans.{no_span, IsFile, IsShort};
+ghost use Rattle.pathspec_select.specs.PackedSpans.{no_span, IsFile, IsShort, IsLong, long_number};
 
 use std::alloc::{AllocError, Global};
 use std::marker::Model;
+
+/// What the higher part of a span's number counts.
+const HALF: usize = 1 << 32;
 
 /// An entry in numbers.
 #[derive(Clone, Copy, Debug)]
@@ -32,8 +35,8 @@ enum Packed {
     File { length: u16, start: u32 },
     /// Another entry with a short path, by the number of its bounds.
     Short { length: u16, number: u32 },
-    /// Any other, by the number of its span.
-    Long(u32),
+    /// Any other, by the number of its span, whose bits from the 32nd on are `high`.
+    Long { high: u16, low: u32 },
 }
 
 /// Entries in numbers: a file mostly takes eight bytes, and a directory 24.
@@ -105,14 +108,14 @@ impl Spans {
                     end: bounds.end,
                 }
             }
-            Packed::Long(number) => self.spans[number as usize],
+            Packed::Long { high, low } => self.spans[long_number(high, low)],
         }
     }
 
     /// Adds one after the others.
     ///
     /// # Errors
-    /// Memory runs out, or 2^32 of them have a span. All is then as it was.
+    /// Memory runs out, as it has long before 2^48 of them have a span. All is then as it was.
     #[inline(always)]
     pub(super) fn push(&mut self, span: Span) -> Result<(), AllocError>
         ensures ok { OnOk result (self.new ≡ self.old ++ span ∷ []) }
@@ -161,12 +164,12 @@ impl Spans {
         ensures room { OnOk result (length self.new + 1 < open_end) }
         ensures err { OnErr result (self.new ≡ self.old) }
     {
-        let Ok(number) = u32::try_from(self.spans.len()) else {
+        let Some(packed) = pack_long(self.spans.len()) else {
             return Err(AllocError);
         };
         self.packed.reserve(1)?;
         self.spans.push(span)?;
-        self.packed.push(Packed::Long(number))?;
+        self.packed.push(packed)?;
         Ok(())
     }
 
@@ -180,7 +183,7 @@ impl Spans {
         match self.packed[number] {
             Packed::File { .. } => {}
             Packed::Short { number, .. } => self.bounds[number as usize].end = end,
-            Packed::Long(number) => self.spans[number as usize].end = end,
+            Packed::Long { high, low } => self.spans[long_number(high, low)].end = end,
         }
     }
 }
@@ -204,4 +207,20 @@ fn pack_short(span: Span, number: usize) -> Option<Packed>
     let length = u16::try_from(span.length).ok()?;
     let number = u32::try_from(number).ok()?;
     Some(Packed::Short { length, number })
+}
+
+/// An entry by the number of its span, if that is less than 2^48.
+fn pack_long(number: usize) -> Option<Packed>
+    ensures { MatchOption result (2 ^ 48 ≤ number) (IsLong number) }
+{
+    let high = u16::try_from(number / HALF).ok()?;
+    let low = u32::try_from(number % HALF).ok()?;
+    Some(Packed::Long { high, low })
+}
+
+/// The number of a span.
+fn long_number(high: u16, low: u32) -> usize
+    ensures { result ≡ long_number high low }
+{
+    usize::from(high) * HALF + low as usize
 }
