@@ -2,15 +2,20 @@
 #   make           prove, build and run the program once
 #   make quick     run the program before any proof
 #   make check     the gate: every proof, must-fail edit, test and program; two checks at a time, or RT_JOBS
-#   make install   the program and its manual page below PREFIX (and DESTDIR)
+#   make install   the program and its manual page below PREFIX (and DESTDIR), and the library where it is built
+#   make library   prove and build the library for C, and compare its names with the header's
+#   make examples  build and run the callers of the library, and compare the walkers with git
 PREFIX ?= /usr/local
 BINDIR ?= $(PREFIX)/bin
 MANDIR ?= $(PREFIX)/share/man
+LIBDIR ?= $(PREFIX)/lib
+INCLUDEDIR ?= $(PREFIX)/include
 
 folder := crates/pathspec_select_cli
 program := $(folder)/out/pathspec_select_cli
+library := target/library
 
-.PHONY: all quick check install
+.PHONY: all quick check install library examples
 
 all:
 	cd $(folder) && rt run -- ':(glob)src/*.c' < stdin
@@ -26,3 +31,19 @@ install:
 	install -d $(DESTDIR)$(BINDIR) $(DESTDIR)$(MANDIR)/man1
 	install $(program) $(DESTDIR)$(BINDIR)/pathspec-select
 	install -m 644 docs/pathspec-select.1 $(DESTDIR)$(MANDIR)/man1/pathspec-select.1
+	@if test -f $(library)/libpathspec.a; then $(MAKE) --no-print-directory install-library; fi
+
+.PHONY: install-library
+install-library:
+	install -d $(DESTDIR)$(LIBDIR)/pkgconfig $(DESTDIR)$(INCLUDEDIR)
+	install -m 644 $(library)/libpathspec.a $(DESTDIR)$(LIBDIR)/libpathspec.a
+	install $(library)/libpathspec.so $(DESTDIR)$(LIBDIR)/libpathspec.so.1
+	ln -sf libpathspec.so.1 $(DESTDIR)$(LIBDIR)/libpathspec.so
+	sed 's|@LIBDIR@|$(LIBDIR)|; s|@INCLUDEDIR@|$(INCLUDEDIR)|' include/pathspec.pc.in > $(DESTDIR)$(LIBDIR)/pkgconfig/pathspec.pc
+	install -m 644 include/pathspec.h $(DESTDIR)$(INCLUDEDIR)/pathspec.h
+
+library:
+	bash examples/library
+
+examples:
+	bash examples/run

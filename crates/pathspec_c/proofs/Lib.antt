@@ -1,0 +1,3 @@
+mod RawBoxValues
+mod HandleValues
+mod BitProofs

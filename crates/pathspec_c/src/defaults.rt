@@ -1,0 +1,126 @@
+//! What specs get that say nothing of it, as bits: 1 literal, 2 without case, 4 globs aware of paths, 8 no globs.
+ghost use Rattle.std.specs.Prelude.{◌≡◌, [], None, Some, Ok, MatchResult, if◌then◌else◌};
+ghost use Rattle.pathspec_pattern.specs.Environment.{case_signature, defaults_of, flag_of};
+ghost use Rattle.pathspec_c.specs.Calls.{HasKind, defaults_by, defaults_from, mode_from, words_from};
+
+use crate::reports::PsFault;
+use bitflags::Flags;
+use gix_pathspec::{Defaults, MagicSignature, SearchMode};
+use pathspec_parts::truth::parse_truth;
+
+/// The bits that the words of git's variables for pathspecs ask for. An empty word says the same as a variable that isn't
+/// set. The status is 0, or 5 where a word is none of truth, or globs are both asked for and not.
+#[unsafe(no_mangle)]
+pub extern "C" fn ps_defaults_from_words(
+    literal: &[u8],
+    icase: &[u8],
+    glob: &[u8],
+    noglob: &[u8],
+    defaults: &mut u32,
+    fault: &mut PsFault,
+) -> u32
+    ensures read { result ≡ 0 → defaults_of (words_from literal.now icase.now glob.now noglob.now)
+        ≡ Ok (defaults_from defaults.new) }
+    ensures fault { result ≡ 5 → HasKind fault.new.kind
+        (defaults_of (words_from literal.now icase.now glob.now noglob.now)) }
+    ensures unset { flag_of (Some []) ≡ flag_of None }
+{
+    match bits_of_words(literal, icase, glob, noglob) {
+        Ok(bits) => {
+            *defaults = bits;
+            0
+        }
+        Err(kind) => {
+            fault.number = 0;
+            fault.kind = kind;
+            5
+        }
+    }
+}
+
+/// The bits that words ask for.
+///
+/// # Errors
+/// The number of the first fault.
+fn bits_of_words(literal: &[u8], icase: &[u8], glob: &[u8], noglob: &[u8]) -> Result<u32, u32>
+    ensures { let said = defaults_of (words_from literal.now icase.now glob.now noglob.now) in
+        MatchResult result (λ bits. said ≡ Ok (defaults_from bits)) (λ kind. HasKind kind said) }
+{
+    let literal = flag_of(literal)?;
+    let ignore_case = flag_of(icase)?;
+    if literal {
+        return Ok(bits_of(true, ignore_case, false, false));
+    }
+    let glob = flag_of(glob)?;
+    let noglob = flag_of(noglob)?;
+    if glob && noglob {
+        return Err(15);
+    }
+    Ok(bits_of(false, ignore_case, glob, noglob))
+}
+
+/// What a word of truth says.
+///
+/// # Errors
+/// The number of the fault of a word that is none.
+fn flag_of(word: &[u8]) -> Result<bool, u32>
+    ensures { MatchResult result (λ flag. flag_of (Some word.now) ≡ Ok flag)
+        (λ kind. HasKind kind (flag_of (Some word.now))) }
+{
+    match parse_truth(word) {
+        Some(flag) => Ok(flag),
+        None => Err(14),
+    }
+}
+
+/// The bits of these settings.
+fn bits_of(literal: bool, ignore_case: bool, glob: bool, noglob: bool) -> u32
+    ensures { defaults_from result ≡ defaults_by literal ignore_case glob noglob }
+{
+    bit(literal, 1) | bit(ignore_case, 2) | bit(glob, 4) | bit(noglob, 8)
+}
+
+/// A bit, where it is set.
+fn bit(is_set: bool, value: u32) -> u32
+    ensures { result ≡ (if is_set then value else 0) }
+{
+    if is_set { value } else { 0 }
+}
+
+/// What bits say of texts that say nothing of it.
+pub(crate) fn defaults_from(bits: u32) -> Defaults
+    ensures { result ≡ defaults_from bits }
+{
+    let literal = bits & 1 != 0;
+    Defaults {
+        signature: case_signature(bits & 2 != 0),
+        search_mode: mode_from(literal, bits & 4 != 0, bits & 8 != 0),
+        literal,
+    }
+}
+
+/// The signature where case counts or not.
+fn case_signature(ignore_case: bool) -> MagicSignature
+    ensures { result ≡ case_signature ignore_case }
+{
+    if ignore_case {
+        MagicSignature::ICASE
+    } else {
+        MagicSignature::empty()
+    }
+}
+
+/// The mode that three bits ask for.
+fn mode_from(literal: bool, glob: bool, noglob: bool) -> SearchMode
+    ensures { result ≡ mode_from literal glob noglob }
+{
+    if literal {
+        SearchMode::Literal
+    } else if glob {
+        SearchMode::PathAwareGlob
+    } else if noglob {
+        SearchMode::Literal
+    } else {
+        SearchMode::ShellGlob
+    }
+}

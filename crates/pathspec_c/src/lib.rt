@@ -1,0 +1,23 @@
+//! The search of `gix_pathspec`, for C and what calls C.
+//!
+//! C keeps a [`PsSearch`], makes it of zero bytes, and hands its address to each call. [`searches`] has the calls that put a
+//! search into it and take it out, [`questions`] those that ask it about paths, [`texts`] those that copy texts to room of
+//! the caller's, [`messages`] those that say a fault in words, and [`defaults`] the one that reads the environment's words.
+//! An empty handle is answered with the status 2, and is never followed. No call wants more of what it is given than its
+//! types say.
+#![tactic(auto)]
+
+mod build;
+pub mod defaults;
+mod empty_rows;
+mod handle;
+pub mod messages;
+pub mod questions;
+mod raw_box;
+mod reports;
+mod searcher;
+pub mod searches;
+pub mod texts;
+
+pub use handle::PsSearch;
+pub use reports::{PsFault, PsMatch};

@@ -1,0 +1,95 @@
+//! What calls report to C: the spec that settles a path, and why a search was not made.
+ghost use Rattle.std.specs.Prelude.{◌≡◌, MatchOption};
+ghost use Rattle.std.specs.Option.{option_map};
+ghost use Rattle.gix_pathspec.specs.Errors.{fault_of};
+ghost use Rattle.gix_pathspec.specs.Found.{match_view};
+ghost use Rattle.gix_pathspec.specs.Search.{selects};
+ghost use Rattle.pathspec_c.specs.Calls.{yes_no, kind_number, fault_number};
+
+use gix_pathspec::Error;
+use gix_pathspec::search::{Match, MatchKind};
+
+/// The spec that settles a path.
+#[repr(C)]
+#[derive(Drop)]
+pub struct PsMatch {
+    /// Its place in the list that the search was made from.
+    pub number: usize,
+    /// How it came to match: 1 always, 2 by its prefix, 3 by its glob, 4 verbatim; 0 where no spec settles the path.
+    pub kind: u32,
+    /// 1 where it takes the path out, and else 0. It is no `bool`, so that a caller may hand in what the memory holds.
+    pub is_excluded: u32,
+}
+
+/// Why no search was made.
+#[repr(C)]
+#[derive(Drop)]
+pub struct PsFault {
+    /// The place of the spec in the list.
+    pub number: usize,
+    /// The number of the error.
+    pub kind: u32,
+}
+
+impl PsMatch {
+    ghost use Rattle.pathspec_c.specs.Reports.{TellsAnswer};
+
+    /// Tells what settles a path, and whether that selects it: 1 for yes and 0 for no.
+    pub(crate) fn tell(&mut self, settled: &Option<Match<'_>>) -> u32
+        ensures selects { result ≡ yes_no (selects (option_map match_view settled.now)) }
+        ensures report { TellsAnswer self.new (option_map match_view settled.now) }
+    {
+        match settled {
+            Some(found) => {
+                self.number = found.sequence_number;
+                self.kind = kind_number(found.kind);
+                let is_excluded = found.is_excluded();
+                self.is_excluded = u32::from(is_excluded);
+                u32::from(!is_excluded)
+            }
+            None => {
+                self.number = 0;
+                self.kind = 0;
+                self.is_excluded = 0;
+                0
+            }
+        }
+    }
+}
+
+/// The number of a kind.
+fn kind_number(kind: MatchKind) -> u32
+    ensures { result ≡ kind_number kind }
+{
+    match kind {
+        MatchKind::Always => 1,
+        MatchKind::Prefix => 2,
+        MatchKind::WildcardMatch => 3,
+        MatchKind::Verbatim => 4,
+    }
+}
+
+/// The number of an error.
+pub(crate) fn error_number(error: &Error) -> u32
+    ensures { MatchOption (fault_of error.now) (result ≡ 16)
+        (λ fault. result ≡ fault_number fault) }
+{
+    match error {
+        Error::Empty => 1,
+        Error::UnimplementedShort(_) => 2,
+        Error::MissingParen(_) => 3,
+        Error::InvalidKeyword(_) => 4,
+        Error::LiteralWithGlob(_) => 5,
+        Error::SecondAttributes(_) => 6,
+        Error::InvalidPrefix(_) => 7,
+        Error::EmptyAttributes => 8,
+        Error::InvalidName(_) => 9,
+        Error::InvalidValueByte(_) => 10,
+        Error::TrailingEscape(_) => 11,
+        Error::OutsideRoot(_) => 12,
+        Error::LeavesRepository(_) => 13,
+        Error::NotTruth(_) => 14,
+        Error::GlobAndNoGlob => 15,
+        Error::Memory => 16,
+    }
+}

@@ -1,0 +1,79 @@
+/* Refuses each allocation of a search in turn: the answer is PS_MEMORY and nothing is kept; and a match takes none. */
+#include "pathspec.h"
+
+#include <stdio.h>
+#include <stdlib.h>
+#include <string.h>
+
+#define BYTES(text) (const uint8_t *)(text), sizeof(text) - 1
+
+void *__libc_malloc(size_t size);
+void *__libc_realloc(void *block, size_t size);
+void __libc_free(void *block);
+
+static long left = -1, live, requests;
+
+static int is_refused(void)
+{
+    requests++;
+    return left >= 0 && left-- == 0;
+}
+
+void *malloc(size_t size)
+{
+    void *block = is_refused() ? NULL : __libc_malloc(size);
+    live += block != NULL;
+    return block;
+}
+
+void *realloc(void *old, size_t size)
+{
+    void *block = is_refused() ? NULL : __libc_realloc(old, size);
+    live += !old && block;
+    return block;
+}
+
+void free(void *block)
+{
+    live -= block != NULL;
+    __libc_free(block);
+}
+
+static uint32_t make(ps_search *search, ps_search *other, ps_fault *fault)
+{
+    static const char specs[] = "src/*.c\0:!gen\0:(icase)x*y*z\0:(glob,attr:a -b c=d)**/q\0:!a/**";
+    const uint8_t *texts = (const uint8_t *)specs;
+    uint32_t status = ps_search_new(search, texts, sizeof specs, BYTES("d/e"), BYTES("/r"), PS_ICASE, fault);
+    if (status == PS_OK)
+        status = ps_search_assign(search, BYTES("q"), BYTES("a -b c=d"), fault);
+    return status == PS_OK ? ps_search_share(search, other) : status;
+}
+
+int main(void)
+{
+    for (long refused = 0;; refused++) {
+        ps_search search = PS_SEARCH_INIT, other = PS_SEARCH_INIT;
+        ps_fault fault;
+        ps_match found;
+        long before = live;
+        left = refused;
+        uint32_t status = make(&search, &other, &fault);
+        int was_refused = left < 0;
+        left = -1;
+        if (was_refused ? status != PS_MEMORY || other.at : status != PS_OK)
+            return 1;
+        long asked = requests;
+        if (status == PS_OK)
+            ps_search_match(&other, BYTES("d/e/src/a.c"), false, &found);
+        if (requests != asked)
+            return 1;
+        ps_search_free(&search);
+        ps_search_free(&other);
+        if (live != before)
+            return 1;
+        if (!was_refused) {
+            printf("refusals: %ld, nothing kept; a match takes none\n", refused);
+            return 0;
+        }
+    }
+}
