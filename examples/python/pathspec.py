@@ -35,8 +35,8 @@ def _load(path):
     library.ps_search_match.restype = number
     library.ps_search_may_skip.argtypes = [handle, text, size]
     library.ps_search_may_skip.restype = number
-    library.ps_fault_name.argtypes = [number, text, size, ctypes.POINTER(ctypes.c_size_t)]
-    library.ps_fault_name.restype = number
+    library.ps_search_message.argtypes = [text, size, text, size, text, size, number, text, size, ctypes.POINTER(size)]
+    library.ps_search_message.restype = number
     library.ps_search_free.argtypes, library.ps_search_free.restype = [handle], None
     return library
 
@@ -58,18 +58,17 @@ class Pathspec:
             if b"\0" in spec:
                 raise PathspecError(f"spec {number}: it has the byte 0")
         texts = b"".join(spec + b"\0" for spec in specs)
-        status = self._library.ps_search_new(
-            self._handle, texts, len(texts), prefix, len(prefix), root, len(root), defaults, fault
-        )
+        given = texts, len(texts), prefix, len(prefix), root, len(root), defaults
+        status = self._library.ps_search_new(self._handle, *given, fault)
         if status == _MEMORY:
             raise MemoryError
         if status:
-            raise PathspecError("the prefix isn't clean" if status == _PREFIX else self._message(fault))
+            raise PathspecError("the prefix isn't clean" if status == _PREFIX else self._message(given))
 
-    def _message(self, fault):
-        room, length = ctypes.create_string_buffer(32), ctypes.c_size_t()
-        self._library.ps_fault_name(fault.kind, room, len(room), length)
-        return f"spec {fault.number}: {room.raw[:length.value].decode()}"
+    def _message(self, given):
+        room, length = ctypes.create_string_buffer(1024), ctypes.c_size_t()
+        self._library.ps_search_message(*given, room, len(room), length)
+        return room.raw[: min(length.value, len(room))].decode(errors="replace") or "out of memory"
 
     def match(self, path, is_dir=False):
         """Whether a path is selected."""

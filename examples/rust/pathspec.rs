@@ -1,4 +1,4 @@
-//! Git pathspecs, proved: a safe wrapper over libpathspec_c.a, with nothing but std.
+//! Git pathspecs, proved: a safe wrapper over libpathspec.a, with nothing but std.
 use std::fmt;
 use std::fs;
 use std::io;
