@@ -3,26 +3,32 @@ use Rattle.std.proofs.Common.{◌≡◌, ℕ, zero, suc, ◌+◌, ◌-◌, ◌�
 use Rattle.std.proofs.lemmas.Bool.{cases_Bool, cases_lt, eqb-true, false_from_ne_true, and_parts, not-true, or_right}
 use Rattle.std.proofs.Math.Bool.{or-false, and-false, and-true}
 use Rattle.std.proofs.Math.Seq.{drop-length}
-use Rattle.std.proofs.lemmas.List.{drop_more, take_all, drop-map, length-map}
+use Rattle.std.proofs.lemmas.List.{drop_more, take_all}
+use Rattle.std.specs.Prelude.{bytes_eq, nat_eq}
+use Rattle.std.specs.Char.{to_ascii_lowercase}
+use Rattle.std.specs.Cmp.Lexicographic.{pointwise}
+use Rattle.std.specs.Cmp.Derive.Mapped.{pointwise-map}
 use Rattle.std.specs.List.{list_all}
 use Rattle.pathspec_glob.specs.declared.Mode.{Mode}
 use Rattle.pathspec_glob.specs.declared.Mode.TheVariants.{Shell, PathAware}
 use Rattle.pathspec_glob.specs.declared.Case.{Case}
 use Rattle.pathspec_glob.specs.declared.Case.TheVariants.{Sensitive, Fold}
-use Rattle.pathspec_glob.specs.Bytes.{is_empty, slash}
+use Rattle.pathspec_glob.specs.Bytes.{is_empty, slash, fold_case}
 use Rattle.pathspec_glob.specs.Tokens.{Token}
 use Rattle.pathspec_glob.specs.Tokens.OneByte.{Byte}
 use Rattle.pathspec_glob.specs.Tokens.Token.{One, Star, Deep}
 use Rattle.pathspec_glob.specs.GlobRelation.{is_same_byte, takes, takes_first, matches, some_suffix, passes_over}
 use Rattle.pathspec_glob.specs.GlobSteps.{takes_byte, takes_at, is_wide_at, may_pass_over_at}
+use Rattle.pathspec_glob.specs.Globs.{folds}
 use Rattle.pathspec_glob.specs.GlobParts.{head_of, middle_of, tail_of, plain_tokens, takes_each, tests_each, first_token_takes}
 use Rattle.pathspec_glob.proofs.AcceptProofs.{from-place}
 use Rattle.pathspec_glob.proofs.GlobProofs.{passed}
 use Rattle.pathspec_glob.proofs.PartProofs.{is_single, stands, head-singles, tail-singles, tail-stands, parts-all}
 
--- tokens that want bytes of their own are as many as these
-pub length-plain : (own : List ℕ) → length (plain_tokens own) ≡ length own
-length-plain own = length-map own (λ x. One (Byte x))
+-- bytes that are the same one by one, up to case where it does not count
+pointwise-folded : (case : Case) (own text : List ℕ) → pointwise (is_same_byte case) own text ≡ bytes_eq (fold_case (folds case) own) (fold_case (folds case) text)
+pointwise-folded Sensitive own text = refl
+pointwise-folded Fold own text = sym (pointwise-map to_ascii_lowercase nat_eq own text)
 
 module _ (mode : Mode) (case : Case) where
   -- tokens that take a text one by one are as many as its bytes
@@ -50,23 +56,15 @@ module _ (mode : Mode) (case : Case) where
       let byte : drop place text ≡ get_or text place 0 ∷ drop (place + 1) text = drop_more text place 0 h in
       rw (token, byte) refl
 
-  -- the same of tokens that want bytes of their own
-  plain-at : (own : List ℕ) (place b : ℕ) → place < length own → takes_at mode case (drop place (plain_tokens own)) b ≡ is_same_byte case (get_or own place 0) b
-  plain-at own place b h = rw (drop-map (λ x. One (Byte x)) place own, drop_more own place 0 h) refl
+  -- tokens that want bytes of their own take just these bytes
+  takes_pointwise : (own text : List ℕ) → takes_each mode case (plain_tokens own) text ≡ pointwise (is_same_byte case) own text
+  takes_pointwise [] [] = refl
+  takes_pointwise [] (b ∷ bs) = refl
+  takes_pointwise (x ∷ own) [] = refl
+  takes_pointwise (x ∷ own) (b ∷ bs) = rw (takes_pointwise own bs) refl
 
-  pub takes_plain-step : (own text : List ℕ) (place : ℕ) → place < length text → length text ≡ length own
-      → takes_each mode case (drop place (plain_tokens own)) (drop place text)
-      ≡ (is_same_byte case (get_or own place 0) (get_or text place 0) && takes_each mode case (drop (place + 1) (plain_tokens own)) (drop (place + 1) text))
-  takes_plain-step own text place h len =
-      takes_each-step (plain_tokens own) text place h (len ∙ sym (length-plain own))
-      ∙ ap (λ x. x && takes_each mode case (drop (place + 1) (plain_tokens own)) (drop (place + 1) text)) (plain-at own place (get_or text place 0) (omega arith))
-
-  pub tests_plain-step : (own text : List ℕ) (place : ℕ) → place < length text → length text ≡ length own
-      → tests_each mode case (drop place (plain_tokens own)) (drop place text)
-      ≡ suc (if is_same_byte case (get_or own place 0) (get_or text place 0) then tests_each mode case (drop (place + 1) (plain_tokens own)) (drop (place + 1) text) else 0)
-  tests_plain-step own text place h len =
-      tests_each-step (plain_tokens own) text place h (len ∙ sym (length-plain own))
-      ∙ ap (λ x. suc (if x then tests_each mode case (drop (place + 1) (plain_tokens own)) (drop (place + 1) text) else 0)) (plain-at own place (get_or text place 0) (omega arith))
+  pub takes_plain : (own text : List ℕ) → takes_each mode case (plain_tokens own) text ≡ bytes_eq (fold_case (folds case) own) (fold_case (folds case) text)
+  takes_plain own text = takes_pointwise own text ∙ pointwise-folded case own text
 
   pub tests_each-none : (ts : List Token) → tests_each mode case ts [] ≡ 0
   tests_each-none [] = refl

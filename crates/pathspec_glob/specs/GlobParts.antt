@@ -1,5 +1,5 @@
 -- The parts of a glob: its head and its tail, whose tokens take one byte each, and what stands between.
-use Rattle.std.specs.Prelude.{◌≡◌, ◌<◌, ℕ, suc, ◌-◌, ◌^◌, Bool, true, false, not, ◌&&◌, List, [], ◌∷◌, ◌==◌, length, map, nat_lt, take, drop, if◌then◌else◌}
+use Rattle.std.specs.Prelude.{◌≡◌, ◌<◌, ℕ, suc, ◌-◌, ◌^◌, Bool, true, false, not, ◌&&◌, List, [], ◌∷◌, ◌==◌, length, map, take, drop, if◌then◌else◌}
 use Rattle.std.specs.List.{list_all, prefix_len}
 use Rattle.pathspec_glob.specs.declared.Mode.{Mode}
 use Rattle.pathspec_glob.specs.declared.Case.{Case}
@@ -62,15 +62,6 @@ takes_front parts case text = takes_each parts.mode case parts.tokens (take (len
 
 abbrev pub takes_end : TokenList → Case → List ℕ → Bool
 takes_end parts case text = takes_each parts.mode case parts.tokens (drop (length text - length parts.tokens) text)
-
--- how many of them are tested on that front, or on that end: none where the text is shorter than they are many
-abbrev pub front_tests : TokenList → Case → List ℕ → ℕ
-front_tests parts case text =
-    if nat_lt (length text) (length parts.tokens) then 0 else tests_each parts.mode case parts.tokens (take (length parts.tokens) text)
-
-abbrev pub end_tests : TokenList → Case → List ℕ → ℕ
-end_tests parts case text =
-    if nat_lt (length text) (length parts.tokens) then 0 else tests_each parts.mode case parts.tokens (drop (length text - length parts.tokens) text)
 
 -- what stands behind that front, or before that end
 abbrev pub behind_front : TokenList → List ℕ → List ℕ

@@ -5,6 +5,7 @@ pub mod GlobRelation
 pub mod GlobForms
 pub mod GlobSteps
 pub mod GlobParts
+pub mod GlobEnds
 pub mod GlobCells
 pub mod GlobWords
 pub mod BitVecs

@@ -1,11 +1,12 @@
 //! What a text is tested with, and the count of tests. Nothing else compares a byte of a text with what a glob wants.
-ghost use Rattle.std.specs.Prelude.{◌≡◌, ◌+◌, ◌*◌, ◌<◌, ◌^◌, length, get_or, slice_index, vec_len};
+ghost use Rattle.std.specs.Prelude.{◌≡◌, ◌+◌, ◌*◌, ◌<◌, ◌^◌, bytes_eq, length, get_or, vec_len};
+ghost use Rattle.pathspec_glob.specs.Bytes.{fold_case};
 ghost use Rattle.pathspec_glob.specs.GlobForms.{tokens_view};
-ghost use Rattle.pathspec_glob.specs.GlobRelation.{is_same_byte};
+ghost use Rattle.pathspec_glob.specs.Globs.{folds};
 ghost use Rattle.pathspec_glob.specs.GlobSteps.{token_takes};
 
 use crate::scratch::Key;
-use crate::tokens::{Token, is_same_byte};
+use crate::tokens::Token;
 use crate::{Case, Mode};
 use std::marker::Model;
 
@@ -19,11 +20,11 @@ pub struct Tests {
 /// Tokens, each of which is tested alone.
 #[derive(Drop)]
 pub struct CountedTokens {
-    mode: Mode,
     all: Vec<Token>,
+    mode: Mode,
 }
 
-/// Bytes that stand for themselves, each of which is tested alone.
+/// Bytes that stand for themselves. A question tests each of them on a byte of its own.
 #[derive(Drop)]
 pub struct CountedBytes {
     all: Vec<u8>,
@@ -69,7 +70,7 @@ impl CountedTokens {
     pub fn new(mode: Mode, all: Vec<Token>) -> CountedTokens
         ensures { result ≡ record { mode = mode; tokens = tokens_view all.items } }
     {
-        CountedTokens { mode, all }
+        CountedTokens { all, mode }
     }
 
     pub fn len(&self) -> usize
@@ -100,19 +101,37 @@ impl CountedBytes {
         CountedBytes { all }
     }
 
-    /// Whether a byte is the one at a place, up to case where it doesn't count.
+    pub fn len(&self) -> usize
+        ensures { result ≡ length self.now.all.items }
+    {
+        self.all.len()
+    }
+
+    /// Whether each byte of a text is the one at its place, up to case where it doesn't count.
     #[inline(always)]
-    pub fn test(&self, place: usize, byte: u8, case: Case, tests: &mut Tests) -> bool
-        requires place { place < length self.now.all.items }
+    pub fn test(&self, text: &[u8], case: Case, tests: &mut Tests) -> bool
+        requires len { length text.now ≡ length self.now.all.items }
         requires alone { tests.old.tokens ≡ 1 }
-        requires room { tests.old.count + 1 < 2 ^ 64 }
-        ensures answer { result ≡ is_same_byte case (slice_index self.now.all.items place) byte }
-        ensures count { tests.new.count ≡ tests.old.count + 1 }
+        requires room { tests.old.count + length text.now < 2 ^ 64 }
+        ensures answer { result ≡ bytes_eq (fold_case (folds case) self.now.all.items)
+            (fold_case (folds case) text.now) }
+        ensures count { tests.new.count ≡ tests.old.count + length text.now }
         ensures tokens { tests.new.tokens ≡ 1 }
     {
-        tests.count += 1;
-        is_same_byte(case, self.all[place], byte)
+        tests.count += text.len();
+        match case {
+            Case::Sensitive => is_same_text(&self.all, text),
+            Case::Fold => self.all.eq_ignore_ascii_case(text),
+        }
     }
+}
+
+/// Whether two texts are one. It compares the last byte first, in which most paths differ from an end.
+#[inline(always)]
+fn is_same_text(left: &[u8], right: &[u8]) -> bool
+    ensures { result ≡ bytes_eq left.now right.now }
+{
+    left.last() == right.last() && left == right
 }
 
 impl Table {

@@ -2,49 +2,52 @@
 ghost use Rattle.std.specs.Prelude.{◌≡◌, ◌≤◌, ◌<◌, ◌+◌, ◌^◌, length, is_some, IfOk, IfSome, IsTrue};
 ghost use Rattle.pathspec_glob.specs.Counts.{KeepsCount};
 ghost use Rattle.pathspec_glob.specs.declared.Mode.{Mode};
-ghost use Rattle.pathspec_glob.specs.GlobParts.{before_end, behind_front, end_tests, front_tests, plain_tokens, takes_each, takes_end, takes_front, tests_each};
+ghost use Rattle.pathspec_glob.specs.GlobParts.{before_end, behind_front, plain_tokens, takes_each, takes_end, takes_front, tests_each};
 
-use crate::Case;
 use crate::counted::{CountedBytes, CountedTokens, Tests};
 use crate::scratch::Steps;
 use crate::tokens::Tokens;
+use crate::{Case, Mode};
 use std::alloc::{AllocError, Global};
 use std::marker::Model;
 
 /// The tokens of a head or of a tail.
 #[derive(Drop)]
 pub struct End {
-    tokens: CountedTokens,
-    /// The bytes that they want, where each wants a byte of its own.
-    bytes: Option<CountedBytes>,
+    tokens: EndTokens,
+}
+
+/// Those tokens, in the form that takes least room.
+#[derive(Drop)]
+enum EndTokens {
+    /// By the bytes that they want, where each wants a byte of its own.
+    Bytes(CountedBytes, Mode),
+    /// One by one.
+    Any(CountedTokens),
 }
 
 impl Model for End {
-    ghost use Rattle.std.specs.Prelude.{◌≡◌};
-    ghost use Rattle.std.specs.Option.{ForSome};
-    ghost use Rattle.pathspec_glob.specs.GlobParts.{plain_tokens};
+    ghost use Rattle.pathspec_glob.specs.GlobEnds.{end_view};
     ghost use Rattle.pathspec_glob.specs.GlobSteps.{TokenList};
 
     ghost Value = { TokenList };
 
-    ghost view = { λ e. e.tokens };
-
-    ghost invariant = { λ e. ForSome e.bytes
-        (λ bytes. e.tokens.tokens ≡ plain_tokens bytes.all.items) };
+    ghost view = { λ e. end_view e.tokens };
 }
 
 impl End {
-    /// These tokens. The cost is linear in them, and so is the memory.
+    /// These tokens. The cost is linear in them, and so is the memory: a byte for each, where each wants a byte of its own.
     ///
     /// # Errors
     /// Memory runs out.
     pub fn of_tokens(alloc: Global, tokens: Tokens) -> Result<End, AllocError>
         ensures { IfOk result (λ end. end ≡ tokens) }
     {
-        let bytes = tokens.bytes(alloc)?;
         Ok(End {
-            tokens: tokens.counted(),
-            bytes,
+            tokens: match tokens.bytes(alloc)? {
+                Some(bytes) => EndTokens::Bytes(bytes, tokens.mode()),
+                None => EndTokens::Any(tokens.counted()),
+            },
         })
     }
 
@@ -52,7 +55,10 @@ impl End {
     pub fn len(&self) -> usize
         ensures { result ≡ length self.now.tokens }
     {
-        self.tokens.len()
+        match &self.tokens {
+            EndTokens::Bytes(bytes, _) => bytes.len(),
+            EndTokens::Any(tokens) => tokens.len(),
+        }
     }
 
     /// What stands in a text behind the front that the tokens take, one byte each; None where they don't take it.
@@ -67,7 +73,6 @@ impl End {
         requires { steps.old.last + length text.now < 2 ^ 128 }
         ensures taken { is_some result ≡ takes_front self.now case text.now }
         ensures behind { IfSome result (λ behind. behind.now ≡ behind_front self.now text.now) }
-        ensures tests { steps.new.last ≡ steps.old.last + front_tests self.now case text.now }
         ensures most { steps.new.last ≤ steps.old.last + length text.now }
         ensures least { IfSome result (λ behind.
             steps.new.last + length behind.now ≡ steps.old.last + length text.now) }
@@ -91,7 +96,6 @@ impl End {
         requires { steps.old.last + length text.now < 2 ^ 128 }
         ensures taken { is_some result ≡ takes_end self.now case text.now }
         ensures before { IfSome result (λ before. before.now ≡ before_end self.now text.now) }
-        ensures tests { steps.new.last ≡ steps.old.last + end_tests self.now case text.now }
         ensures most { steps.new.last ≤ steps.old.last + length text.now }
         ensures least { IfSome result (λ before.
             steps.new.last + length before.now ≡ steps.old.last + length text.now) }
@@ -108,48 +112,38 @@ impl End {
         }
     }
 
-    /// Tests the tokens on the bytes of a text one by one, up to a byte that its token doesn't take, each of which is
-    /// counted as one step: whether they take them all.
+    /// Whether the tokens take the bytes of a text, one each. It counts a step for each token that it tests: bytes are all
+    /// tested at once, other tokens one by one, up to one that doesn't take its byte.
     #[inline(always)]
     fn test_each(&self, text: &[u8], case: Case, steps: &mut Steps) -> bool
         requires len { length text.now ≡ length self.now.tokens }
         requires room { steps.old.last + length text.now < 2 ^ 128 }
         ensures answer { result ≡ takes_each self.now.mode case self.now.tokens text.now }
-        ensures tests { steps.new.last
-            ≡ steps.old.last + tests_each self.now.mode case self.now.tokens text.now }
         ensures most { steps.new.last ≤ steps.old.last + length text.now }
         ensures least { IsTrue result → steps.new.last ≡ steps.old.last + length text.now }
         ensures counted { KeepsCount steps.old steps.new }
     {
-        match &self.bytes {
-            Some(bytes) => test_bytes(bytes, text, case, steps),
-            None => test_tokens(&self.tokens, text, case, steps),
+        match &self.tokens {
+            EndTokens::Bytes(bytes, _) => test_bytes(bytes, text, case, steps),
+            EndTokens::Any(tokens) => test_tokens(tokens, text, case, steps),
         }
     }
 }
 
-/// Tests tokens that want these bytes as [`test_tokens`] does.
+/// Tests tokens that want these bytes on a text, all at once; each of them is counted as one step.
 #[inline(always)]
 fn test_bytes(bytes: &CountedBytes, text: &[u8], case: Case, steps: &mut Steps) -> bool
     requires len { length text.now ≡ length bytes.now.all.items }
     requires room { steps.old.last + length text.now < 2 ^ 128 }
     ensures answer { (mode : Mode)
         → result ≡ takes_each mode case (plain_tokens bytes.now.all.items) text.now }
-    ensures tests { (mode : Mode) → steps.new.last
-        ≡ steps.old.last + tests_each mode case (plain_tokens bytes.now.all.items) text.now }
-    ensures most { steps.new.last ≤ steps.old.last + length text.now }
-    ensures least { IsTrue result → steps.new.last ≡ steps.old.last + length text.now }
+    ensures tests { steps.new.last ≡ steps.old.last + length text.now }
     ensures counted { KeepsCount steps.old steps.new }
 {
     let mut tests = Tests::none(1);
-    for place in 0..text.len() {
-        if !bytes.test(place, text[place], case, &mut tests) {
-            steps.add(tests);
-            return false;
-        }
-    }
+    let is_same = bytes.test(text, case, &mut tests);
     steps.add(tests);
-    true
+    is_same
 }
 
 // Out of line, since heads and tails are mostly bytes alone.

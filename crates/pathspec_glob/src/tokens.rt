@@ -76,6 +76,13 @@ impl Tokens {
         })
     }
 
+    /// The mode of their pattern.
+    pub fn mode(&self) -> Mode
+        ensures { result ≡ self.now.mode }
+    {
+        self.mode
+    }
+
     /// How many they are.
     pub fn len(&self) -> usize
         ensures { result ≡ length self.now.tokens }
@@ -204,7 +211,7 @@ fn bytes_of(alloc: Global, tokens: &[Token]) -> Result<Option<Vec<u8>>, AllocErr
     ensures { IfOk result (λ found.
         IfSome found (λ bytes. tokens_view tokens.now ≡ plain_tokens bytes.items)) }
 {
-    let mut bytes = Vec::new(alloc);
+    let mut bytes = Vec::with_capacity(alloc, tokens.len())?;
     for token in tokens {
         let Some(byte) = token.byte() else {
             return Ok(None);

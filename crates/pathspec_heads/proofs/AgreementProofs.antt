@@ -1,5 +1,5 @@
 -- How far texts agree, step by step, and what stands between two texts that agree.
-use Rattle.std.proofs.Common.{◌≡◌, ◌≢◌, ℕ, suc, zero, ◌+◌, ◌<◌, ◌≤◌, Bool, true, false, ltb, inl, inr, refl, sym, ◌∙◌, ap, List, [], ◌∷◌, length, get_or, arith, nat_eq, take}
+use Rattle.std.proofs.Common.{◌≡◌, ◌≢◌, ℕ, suc, zero, ◌+◌, ◌<◌, ◌≤◌, Bool, true, false, ltb, inl, inr, refl, sym, ◌∙◌, ap, List, [], ◌∷◌, ◌++◌, length, get_or, arith, nat_eq, take}
 use Rattle.std.proofs.lemmas.Bool.{cases_Bool, false≢true}
 use Rattle.std.proofs.lemmas.List.Sums.{common_prefix_len-le}
 use Rattle.std.proofs.lemmas.Bool.Decides.{nat_tests}
@@ -56,6 +56,12 @@ agreement-apart [] y n h i j e = absurd (omega (arith, i))
 agreement-apart (b ∷ x) [] n h i j e = absurd (omega (arith, j))
 agreement-apart (b ∷ x) (c ∷ y) zero h i j e = grind (arith, nat_tests)
 agreement-apart (b ∷ x) (c ∷ y) (suc n) h i j e = grind (arith, nat_tests, agreement-apart x y n)
+
+-- a text that goes on agrees in as many bytes at least
+pub agreement-longer : (x y z : List ℕ) → agreement x y ≤ agreement x (y ++ z)
+agreement-longer [] y z = omega arith
+agreement-longer (b ∷ x) [] z = omega arith
+agreement-longer (b ∷ x) (c ∷ y) z = grind (arith, nat_tests, agreement-longer x y z)
 
 pub agreement-self : (x : List ℕ) → length x ≤ agreement x x
 agreement-self [] = omega arith

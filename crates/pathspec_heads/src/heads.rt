@@ -213,7 +213,7 @@ fn compared_with_slash(stem: &[u8], path: &[u8], ignore_case: bool) -> Compariso
     ensures agreed { result.agreed ≡ agreement stem.now (with_slash ignore_case path.now) }
     ensures behind { result.is_behind ≡ is_behind stem.now (with_slash ignore_case path.now) }
 {
-    for at in 0..stem.len() {
+    for at in agreed_with_slash(stem, path, ignore_case)..stem.len() {
         let is_behind = at > path.len();
         if is_behind {
             return Comparison {
@@ -264,6 +264,17 @@ fn agreed_by_eights(head: &[u8], text: &[u8]) -> usize
         at += 8;
     }
     at
+}
+
+/// Bytes in which a stem agrees with a path and a slash: eight at a time where case counts, and else none.
+fn agreed_with_slash(stem: &[u8], path: &[u8], ignore_case: bool) -> usize
+    ensures { result ≤ agreement stem.now (with_slash ignore_case path.now) }
+{
+    if ignore_case {
+        0
+    } else {
+        agreed_by_eights(stem, path)
+    }
 }
 
 /// How a head compares with a text.

@@ -101,8 +101,30 @@ impl Stems {
                 > path.len()
     }
 
+    // In line, since most lists of a table are empty.
     /// Whether a stem lies below the path, and the last stem that begins the path and a slash.
+    #[inline(always)]
     fn find(&self, path: &[u8], ignore_case: bool) -> Found
+        ensures yes { IsTrue result.below → SomeText self.now
+            (λ stem. begins_with stem (with_slash ignore_case path.now) ≡ true) }
+        ensures no { IsFalse result.below → NoText self.now
+            (λ stem. begins_with stem (with_slash ignore_case path.now) ≡ true) }
+        ensures last { IsLastFront self.now (length self.now)
+            (with_slash ignore_case path.now) result.deepest }
+        ensures rising { IsRising self.now }
+    {
+        if self.links.is_empty() {
+            return Found {
+                below: false,
+                deepest: None,
+            };
+        }
+        self.search(path, ignore_case)
+    }
+
+    /// The same by a search, also where there are no stems.
+    #[inline(never)]
+    fn search(&self, path: &[u8], ignore_case: bool) -> Found
         ensures yes { IsTrue result.below → SomeText self.now
             (λ stem. begins_with stem (with_slash ignore_case path.now) ≡ true) }
         ensures no { IsFalse result.below → NoText self.now

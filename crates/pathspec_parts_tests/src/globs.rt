@@ -350,6 +350,7 @@ fn a_step_is_a_token_tested_on_a_byte(rt: HostRuntime) -> Result<(), Fail> {
         Steps("a", Shell, "xyz", false, 1),
         Steps("a*b", Shell, "aab", true, 3),
         Steps("a*b", Shell, "aac", false, 2),
+        Steps("*.rs", Shell, "a.c", false, 3),
         Steps("*", PathAware, "a/b", false, 2),
         Steps("**/x", PathAware, "x", true, 1),
         Steps("**/*", PathAware, "a/b", true, 3),

@@ -1,5 +1,5 @@
 -- The numbers of an outline stand for a tree: what is done to them, calls of the tree do to it.
-use Rattle.std.proofs.Common.{◌≡◌, ◌≢◌, ℕ, ◌+◌, ◌-◌, ◌<◌, ◌≤◌, Bool, true, false, cond, ◌&&◌, not, ◌==◌, refl, sym, ◌∙◌, ap, subst, List, [], ◌∷◌, ◌++◌, length, map, set, take, drop, get_or, arith, append_assoc, inl, inr, Option, Some, None, length-set}
+use Rattle.std.proofs.Common.{◌≡◌, ◌≢◌, ℕ, ◌+◌, ◌-◌, ◌<◌, ◌≤◌, Bool, true, false, cond, ◌&&◌, ◌==◌, refl, sym, ◌∙◌, ap, subst, List, [], ◌∷◌, ◌++◌, length, map, set, take, drop, get_or, arith, append_assoc, inl, inr, Option, Some, None, length-set}
 use Rattle.std.proofs.lemmas.Bool.{eqb-true, ne_eqb, cases_lt}
 use Rattle.std.proofs.lemmas.List.{append-nil, map-append, length-map, take-map, take_more, drop-drop, length-drop}
 use Rattle.std.proofs.lemmas.List.Sums.{fold_push, passes_at_first}
@@ -20,7 +20,7 @@ use Rattle.pathspec_parts.proofs.TreeProofs.{get-append, get-last, get-cases, tr
 use Rattle.pathspec_select.specs.Listing.{mark_at, written_of, written_entries}
 use Rattle.pathspec_select.specs.Spans.{SpanContents, contents_after, contents_closed, LiesInOpen}
 use Rattle.pathspec_select.specs.SpanLayout.{path_of_span, path_at_span, end_at, numbers_above, contents_of_spans, AreSpans}
-use Rattle.pathspec_select.specs.Outlines.{OutlineContents, part, empty_outline, mark_of, last_name, record_from, record_length, outline_after, outline_closed, LiesOpen, IsMade, open_of_span, tree_of_spans, is_dir_span, mark_of_span, outline_of_spans, LieInRecords, IsOutline, IsRecordTo}
+use Rattle.pathspec_select.specs.Outlines.{OutlineContents, part, empty_outline, mark_of, last_name, record_from, record_length, outline_after, outline_closed, LiesOpen, IsMade, open_of_span, tree_of_spans, is_dir_span, mark_of_span, outline_of_spans, LiesInRecord, LieInRecords, IsOutline, IsRecordTo}
 use Rattle.pathspec_select.specs.declared.listing.spans.Span.{Span}
 use Rattle.pathspec_select.proofs.OutputProofs.{written-more}
 use Rattle.pathspec_select.proofs.ListingProofs.{length-before_first}
@@ -122,7 +122,7 @@ module _ (bytes : List ℕ) (separator : ℕ) (spans : List Span) (stack : List 
       )
 
   module _ (is_dir : Bool) (span : Span) (end : span.end ≡ cond is_dir open_end 0) (fits : span.start + span.length ≤ length bytes) (room : length spans + 1 < open_end)
-      (within : record_length span.length is_dir ≤ length (record_from separator bytes span.start)) (lies : LiesOpen tree (path_of_span bytes span)) where
+      (within : LiesInRecord separator bytes span.start span.length is_dir) (lies : LiesOpen tree (path_of_span bytes span)) where
     abbrev path : List ℕ
     path = path_of_span bytes span
 
@@ -182,7 +182,7 @@ module _ (bytes : List ℕ) (separator : ℕ) (spans : List Span) (stack : List 
             made = subst IsMade (sym tree_is) made;
             records = subst (LieInRecords separator bytes) (sym is_more) (λ i s e. elim (get-cases spans span i s e) [
               | inl q ↦ h.records i s q
-              | inr q ↦ subst (λ (x : Span). record_length x.length (is_dir_span x) ≤ length (record_from separator bytes x.start)) q.1 (subst (λ b. record_length span.length b ≤ length (record_from separator bytes span.start)) (sym kind) within)
+              | inr q ↦ subst (λ (x : Span). LiesInRecord separator bytes x.start x.length (is_dir_span x)) q.1 (subst (LiesInRecord separator bytes span.start span.length) (sym kind) within)
             ]);
             room = roomy;
           },
@@ -254,8 +254,8 @@ module _ (bytes : List ℕ) (separator : ℕ) (spans : List Span) (stack : List 
           | inr m ↦
               let is : place ≡ i = omega (arith, g, m) in
               let same : record span { end = k } ≡ s = same_Some (record span { end = k }) s (sym (get-set_same spans place (record span { end = k }) top.0) ∙ (ap (slice_get (shut k)) is ∙ q)) in
-              subst (λ (x : Span). record_length x.length (is_dir_span x) ≤ length (record_from separator bytes x.start)) same
-              (subst (λ b. record_length span.length b ≤ length (record_from separator bytes span.start)) (sym kind_closed) (h.records place span at))
+              subst (λ (x : Span). LiesInRecord separator bytes x.start x.length (is_dir_span x)) same
+              (subst (LiesInRecord separator bytes span.start span.length) (sym kind_closed) (h.records place span at))
         ]
       ]
 
@@ -284,24 +284,15 @@ module _ (bytes : List ℕ) (separator : ℕ) (spans : List Span) (stack : List 
 
 -- ---- the record of an entry
 
--- how long it is where the entry has one
-pub record_length-is : (s : Span) (k : ℕ) → k ≡ cond (not (s.end == 0)) 1 0 → s.length + k ≡ record_length s.length (is_dir_span s)
-record_length-is s k e = ap (λ j. s.length + j) e ∙ by_kind (s.end == 0)
-  where
-    by_kind : (b : Bool) → s.length + cond (not b) 1 0 ≡ record_length s.length (cond b false true)
-    by_kind true = omega arith
-    by_kind false = refl
-
--- the mark that stands at a number
-mark-at : (bytes : List ℕ) (separator : ℕ) (spans : List Span) (n : ℕ) (s : Span) → slice_get spans n ≡ Some s → mark_at (map (mark_of_span separator bytes) spans) n ≡ mark_of_span separator bytes s
-mark-at bytes separator spans n s e = ap (option_and_then (λ mark. mark)) (slice_get-map (mark_of_span separator bytes) spans n ∙ ap (option_map (mark_of_span separator bytes)) e)
+-- a path that lies in a record is no longer
+pub lies-within : (separator : ℕ) (bytes : List ℕ) (start count : ℕ) (is_dir : Bool) → LiesInRecord separator bytes start count is_dir → record_length count is_dir ≤ length (record_from separator bytes start)
+lies-within separator bytes start count true h = h
+lies-within separator bytes start count false h = omega (arith, h)
 
 -- the record of an entry is its mark
-pub mark-is : (bytes : List ℕ) (separator : ℕ) (spans : List Span) (o : OutlineContents) (view : outline_of_spans bytes separator spans ≡ o) (n : ℕ) (s : Span) (at : slice_get spans n ≡ Some s) (k : ℕ) → k ≡ cond (not (s.end == 0)) 1 0
-    → cond (length (record_from separator bytes s.start) == s.length + k) (Some (record_from separator bytes s.start)) None ≡ mark_at o.marks n
-mark-is bytes separator spans o view n s at k e =
-    let r = record_from separator bytes s.start in
-    ap (λ j. cond (length r == j) (Some r) None) (record_length-is s k e) ∙ (sym (mark-at bytes separator spans n s at) ∙ ap (λ (x : OutlineContents). mark_at x.marks n) view)
+pub mark-is : (bytes : List ℕ) (separator : ℕ) (spans : List Span) (o : OutlineContents) (view : outline_of_spans bytes separator spans ≡ o) (n : ℕ) (s : Span) → slice_get spans n ≡ Some s → mark_of_span separator bytes s ≡ mark_at o.marks n
+mark-is bytes separator spans o view n s at =
+    sym (ap (option_and_then (λ mark. mark)) (slice_get-map (mark_of_span separator bytes) spans n ∙ ap (option_map (mark_of_span separator bytes)) at)) ∙ ap (λ (x : OutlineContents). mark_at x.marks n) view
 
 -- where the record of an entry ends with its separator
 pub record-to : (bytes : List ℕ) (separator : ℕ) (spans : List Span) (o : OutlineContents) (view : outline_of_spans bytes separator spans ≡ o) (n : ℕ) (s : Span) (at : slice_get spans n ≡ Some s) (r : List ℕ) → Some r ≡ mark_at o.marks n → s.start + length r < length bytes
@@ -311,7 +302,7 @@ record-to bytes separator spans o view n s at r m l =
     let p : ℕ → Bool = λ b. b == separator in
     let k = position_or_len p rest in
     let whole = record_from separator bytes s.start in
-    let is : Some r ≡ mark_of_span separator bytes s = m ∙ (ap (λ (x : OutlineContents). mark_at x.marks n) (sym view) ∙ mark-at bytes separator spans n s at) in
+    let is : Some r ≡ mark_of_span separator bytes s = m ∙ sym (mark-is bytes separator spans o view n s at) in
     let same : r ≡ whole = by_test (length whole == record_length s.length (is_dir_span s)) is in
     let long : length r ≡ k = ap length same ∙ length-before_first p rest in
     let d = length-drop s.start bytes in

@@ -3,15 +3,13 @@ use Rattle.std.proofs.Common.{◌≡◌, ℕ, ◌+◌, ◌-◌, ◌<◌, ◌≤�
 use Rattle.std.proofs.lemmas.List.{append-nil, length-drop, take_all, take_more, take_rest, take-append-drop}
 use Rattle.std.proofs.Math.Seq.{take-add}
 use Rattle.std.proofs.lemmas.Grind.{flat_map-append}
-use Rattle.std.specs.Prelude.{◌≢◌, OnOk, OnErr, IfErr}
+use Rattle.std.specs.Prelude.{◌≢◌, OnOk, OnErr}
 use Rattle.std.specs.Option.{option_map}
 use Rattle.bstr.specs.declared.bstr.BStr.{BStr}
 use Rattle.bstr.specs.BStr.{bstr_bytes}
 use Rattle.std.specs.Io.KnownBytes.{Appends}
-use Rattle.pathspec_select.specs.declared.refusal.Refusal.{Refusal}
-use Rattle.pathspec_select.specs.declared.refusal.Refusal.TheVariants as refusal
 use Rattle.pathspec_select.specs.Listing.{mark_at, written_of, written_entries}
-use Rattle.pathspec_select.specs.Program.{AppendsUpTo, AppendsFront, EndsOutput}
+use Rattle.pathspec_select.specs.Program.{AppendsUpTo, AppendsFront}
 use Rattle.pathspec_select.proofs.DeviceProofs.{appends-append}
 
 -- ---- fronts
@@ -98,11 +96,6 @@ pub front-first : (old new : Option (List ℕ)) (buffered : List ℕ) (separator
 front-first old new buffered separator marks [] mark some e h = absurd (some refl)
 front-first old new buffered separator marks (n ∷ ns) mark some e h = front-count old new buffered (written_of separator mark) separator marks (n ∷ ns) 1 (written-more separator marks (n ∷ ns) 0 mark (omega arith) e) h
 
--- an output whose last write is this
-pub ends-with : {A : Type 0} (old new : Option (List ℕ)) (bs : List ℕ) (result : Result A Refusal) → OnOk result (Appends old new bs) → OnErr result (AppendsFront old new bs) → IfErr result (λ e. e ≡ refusal.Write) → EndsOutput old new bs result
-ends-with {A = A} old new bs (Ok done) w f cause = w
-ends-with {A = A} old new bs (Err e) w f cause = subst (λ (r : Refusal). EndsOutput {A = A} old new bs (Err r)) (sym cause) f
-
 -- what is buffered is written
 pub written-buffered : (old between new : Option (List ℕ)) (bs buffered : List ℕ) → AppendsUpTo old between bs buffered → Appends between new buffered → Appends old new bs
 written-buffered old between new bs buffered p w = subst (Appends old new) (sym p.1) (appends-append old between new p.0 buffered p.2 w)
@@ -111,20 +104,7 @@ written-buffered old between new bs buffered p w = subst (Appends old new) (sym 
 pub front-buffered : (old between new : Option (List ℕ)) (bs buffered : List ℕ) → AppendsUpTo old between bs buffered → AppendsFront between new buffered → AppendsFront old new bs
 front-buffered old between new bs buffered p q = (q.0, (p.0 ++ q.1.0, p.1 ∙ (ap (λ t. p.0 ++ t) q.1.1 ∙ sym (append_assoc p.0 q.1.0 q.0)), appends-append old between new p.0 q.1.0 p.2 q.1.2))
 
--- What is buffered is written, and no entry is left.
-pub ends-all : {A : Type 0} (old between new : Option (List ℕ)) (separator : ℕ) (marks : List (Option (List ℕ))) (entries : List ℕ) (n : ℕ) (buffered bytes : List ℕ) → length entries ≤ n
-    → AppendsUpTo old between (written_entries separator marks (take n entries)) buffered → bytes ≡ buffered
-    → (result : Result A Refusal) → OnOk result (Appends between new bytes) → OnErr result (AppendsFront between new bytes) → IfErr result (λ e. e ≡ refusal.Write) → EndsOutput old new (written_entries separator marks entries) result
-ends-all {A = A} old between new separator marks entries n buffered bytes past before is result w f cause =
-    ends-with old new (written_entries separator marks entries) result (whole result w) (front result f) cause
-  where
-    kept : AppendsUpTo old between (written_entries separator marks entries) bytes
-    kept = rw is (subst (λ (ns : List ℕ). AppendsUpTo old between (written_entries separator marks ns) buffered) (take_all n entries (omega (arith, past))) before)
-
-    whole : (result : Result A Refusal) → OnOk result (Appends between new bytes) → OnOk result (Appends old new (written_entries separator marks entries))
-    whole (Ok done) w = written-buffered old between new (written_entries separator marks entries) bytes kept w
-    whole (Err e) w = tt
-
-    front : (result : Result A Refusal) → OnErr result (AppendsFront between new bytes) → OnErr result (AppendsFront old new (written_entries separator marks entries))
-    front (Ok done) f = tt
-    front (Err e) f = front-buffered old between new (written_entries separator marks entries) bytes kept f
+-- what is buffered where no entry is left
+pub upto-end : (old between : Option (List ℕ)) (separator : ℕ) (marks : List (Option (List ℕ))) (entries : List ℕ) (n : ℕ) (buffered bytes : List ℕ) → length entries ≤ n
+    → AppendsUpTo old between (written_entries separator marks (take n entries)) buffered → bytes ≡ buffered → AppendsUpTo old between (written_entries separator marks entries) bytes
+upto-end old between separator marks entries n buffered bytes past before is = rw is (subst (λ (ns : List ℕ). AppendsUpTo old between (written_entries separator marks ns) buffered) (take_all n entries (omega (arith, past))) before)

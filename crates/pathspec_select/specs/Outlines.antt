@@ -44,6 +44,11 @@ record_length count is_dir = if is_dir then count + 1 else count
 abbrev pub mark_of : ℕ → List ℕ → ℕ → ℕ → Bool → Option (List ℕ)
 mark_of separator bytes start count is_dir = if length (record_from separator bytes start) == record_length count is_dir then Some (record_from separator bytes start) else None
 
+-- the path of an entry lies in one record: a directory's with a slash behind it, and a file's is all of the record
+abbrev pub LiesInRecord : ℕ → List ℕ → ℕ → ℕ → Bool → Type 0
+LiesInRecord separator bytes start count true = count + 1 ≤ length (record_from separator bytes start)
+LiesInRecord separator bytes start count false = count ≡ length (record_from separator bytes start)
+
 -- nothing was read
 abbrev pub empty_outline : List ℕ → ℕ → OutlineContents
 empty_outline bytes separator = record { bytes = bytes; separator = separator; tree = empty_tree; marks = [] }
@@ -111,9 +116,9 @@ mark_of_span separator bytes s = mark_of separator bytes s.start s.length (is_di
 abbrev pub outline_of_spans : List ℕ → ℕ → List Span → OutlineContents
 outline_of_spans bytes separator spans = record { bytes = bytes; separator = separator; tree = tree_of_spans bytes spans; marks = map (mark_of_span separator bytes) spans }
 
--- the path of an entry, with the slash of a directory, lies in one record
+-- the path of each entry lies in one record
 abbrev pub LieInRecords : ℕ → List ℕ → List Span → Type 0
-LieInRecords separator bytes spans = (i : ℕ) (s : Span) → slice_get spans i ≡ Some s → record_length s.length (is_dir_span s) ≤ length (record_from separator bytes s.start)
+LieInRecords separator bytes spans = (i : ℕ) (s : Span) → slice_get spans i ≡ Some s → LiesInRecord separator bytes s.start s.length (is_dir_span s)
 
 -- the numbers of an outline
 pub record IsOutline (bytes : List ℕ) (separator : ℕ) (spans : List Span) (stack : List ℕ) (directories : ℕ) : Type 0 where

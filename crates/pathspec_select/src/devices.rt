@@ -10,6 +10,20 @@ use std::io::{Read, Write};
 
 const CHUNK: usize = 65536;
 
+/// A write failed, or took no byte.
+#[derive(Clone, Copy)]
+pub(crate) struct WriteError;
+
+impl From<WriteError> for Refusal {
+    ghost use Rattle.pathspec_select.specs.declared.refusal.Refusal.TheVariants.{Write};
+
+    ghost from_gives = { λ _ refusal. refusal ≡ Write };
+
+    fn from(_: WriteError) -> Refusal {
+        Refusal::Write
+    }
+}
+
 /// All bytes that a reader has left. It takes at most two and a half times as much memory as it reads.
 ///
 /// # Errors
@@ -35,20 +49,19 @@ pub(crate) fn read_to_end<R: Read>(alloc: Global, reader: &mut R) -> Result<Vec<
 /// Writes all bytes.
 ///
 /// # Errors
-/// [`Refusal::Write`] where a write fails or takes no byte; a beginning of the bytes is then written.
-pub(crate) fn write_whole<W: Write>(writer: &mut W, bytes: &[u8]) -> Result<(), Refusal>
+/// [`WriteError`], and a beginning of the bytes is written.
+pub(crate) fn write_whole<W: Write>(writer: &mut W, bytes: &[u8]) -> Result<(), WriteError>
     ensures whole { OnOk result
         (Appends (W.contents writer.old) (W.contents writer.new) bytes.now) }
-    ensures cause { IfErr result (λ e. e ≡ Refusal.Write) }
     ensures front { OnErr result
         (AppendsFront (W.contents writer.old) (W.contents writer.new) bytes.now) }
 {
     let mut rest = bytes;
     while !rest.is_empty() {
         match writer.write(rest) {
-            Ok(0) => return Err(Refusal::Write),
+            Ok(0) => return Err(WriteError),
             Ok(n) => rest = &rest[n..],
-            Err(_) => return Err(Refusal::Write),
+            Err(_) => return Err(WriteError),
         }
     }
     Ok(())

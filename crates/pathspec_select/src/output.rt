@@ -1,5 +1,5 @@
 //! What is written for a listing, through a buffer.
-ghost use Rattle.std.specs.Prelude.{◌≡◌, ◌≢◌, ◌++◌, [], take, IfOk, IfErr, OnOk, OnErr};
+ghost use Rattle.std.specs.Prelude.{◌≡◌, ◌≢◌, ◌++◌, [], take, IfOk, OnOk, OnErr};
 ghost use Rattle.std.specs.Io.KnownBytes.{Appends};
 ghost use Rattle.std.specs.Option.{option_map};
 ghost use Rattle.bstr.specs.BStr.{bstr_bytes};
@@ -7,8 +7,9 @@ ghost use Rattle.pathspec_select.specs.Listing.{written_entries, written_of};
 ghost use Rattle.pathspec_select.specs.ListingAnswers.{IsCountOf};
 ghost use Rattle.pathspec_select.specs.Program.{AppendsFront, AppendsUpTo, EndsOutput};
 
+use crate::Refusal;
+use crate::devices::{self, WriteError};
 use crate::listing::Listing;
-use crate::{Refusal, devices};
 use bstr::BStr;
 use std::alloc::Global;
 use std::io::Write;
@@ -38,28 +39,28 @@ pub(crate) fn write_records<W: Write>(
     while done < entries.len() {
         done += write_run(writer, &mut buffer, listing, &entries[done..], separator)?;
     }
-    devices::write_whole(writer, buffer.as_slice())
+    devices::write_whole(writer, buffer.as_slice())?;
+    Ok(())
 }
 
 /// Puts what is written for the first of some entries, at least one, after those bytes that a buffer holds: in one piece, as
 /// far as their records follow one another in the listing. It gives how many entries these are.
 ///
 /// # Errors
-/// [`Refusal::Write`]: a beginning of all these bytes is written.
+/// [`WriteError`]: a beginning of all these bytes is written.
 fn write_run<W: Write>(
     writer: &mut W,
     buffer: &mut Vec<u8>,
     listing: &Listing<'_>,
     entries: &[usize],
     separator: u8,
-) -> Result<usize, Refusal>
+) -> Result<usize, WriteError>
     requires { entries.now ≢ [] }
     ensures count { IfOk result (IsCountOf entries.now) }
     ensures written { IfOk result (λ count. AppendsUpTo
         (W.contents writer.old) (W.contents writer.new)
         (buffer.old.items ++ written_entries separator listing.now.marks (take count entries.now))
         buffer.new.items) }
-    ensures cause { IfErr result (λ e. e ≡ Refusal.Write) }
     ensures front { OnErr result (AppendsFront (W.contents writer.old) (W.contents writer.new)
         (buffer.old.items ++ written_entries separator listing.now.marks entries.now)) }
 {
@@ -75,17 +76,16 @@ fn write_run<W: Write>(
 /// Puts the text of a record, if there is one, and the separator after it, after those bytes that a buffer holds.
 ///
 /// # Errors
-/// [`Refusal::Write`]: a beginning of all these bytes is written.
+/// [`WriteError`]: a beginning of all these bytes is written.
 fn write_record<W: Write>(
     writer: &mut W,
     buffer: &mut Vec<u8>,
     text: Option<BStr<'_>>,
     separator: u8,
-) -> Result<(), Refusal>
+) -> Result<(), WriteError>
     ensures written { OnOk result (AppendsUpTo (W.contents writer.old) (W.contents writer.new)
         (buffer.old.items ++ written_of separator (option_map bstr_bytes text.entry))
         buffer.new.items) }
-    ensures cause { IfErr result (λ e. e ≡ Refusal.Write) }
     ensures front { OnErr result (AppendsFront (W.contents writer.old) (W.contents writer.new)
         (buffer.old.items ++ written_of separator (option_map bstr_bytes text.entry))) }
 {
@@ -99,15 +99,14 @@ fn write_record<W: Write>(
 /// Puts bytes after those that a buffer holds, or writes both where they leave no room.
 ///
 /// # Errors
-/// [`Refusal::Write`]: a beginning of all these bytes is written.
+/// [`WriteError`]: a beginning of all these bytes is written.
 fn write_buffered<W: Write>(
     writer: &mut W,
     buffer: &mut Vec<u8>,
     bytes: &[u8],
-) -> Result<(), Refusal>
+) -> Result<(), WriteError>
     ensures written { OnOk result (AppendsUpTo (W.contents writer.old) (W.contents writer.new)
         (buffer.old.items ++ bytes.now) buffer.new.items) }
-    ensures cause { IfErr result (λ e. e ≡ Refusal.Write) }
     ensures front { OnErr result (AppendsFront (W.contents writer.old) (W.contents writer.new)
         (buffer.old.items ++ bytes.now)) }
 {

@@ -163,11 +163,13 @@ impl CompiledSpec {
     ghost use Rattle.gix_pathspec.specs.Found.{matched_kind};
     ghost use Rattle.gix_pathspec.specs.Room.{attribute_names};
 
+    // Out of line, since few specs list attributes.
     /// Whether the path has each attribute that the spec lists. The look-up is asked at most once, on a reset outcome, and
     /// only where the spec lists any.
     ///
     /// # Errors
     /// The look-up's fault.
+    #[inline(never)]
     fn has_attributes<L: LookUp>(
         &self,
         path: BStr<'_>,

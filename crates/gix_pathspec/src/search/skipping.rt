@@ -53,7 +53,9 @@ impl Search {
         self.is_skippable(directory, scratch)
     }
 
+    // Out of line, so that a walk's loop over files has the registers to itself.
     /// Whether a walk may skip a directory.
+    #[inline(never)]
     fn is_skippable(&self, directory: BStr<'_>, scratch: &mut Scratch) -> bool
         requires { Fits self.now.specs scratch.old }
         ensures answer { result ≡ may_skip (specs_of self.now.specs) (bstr_bytes directory.entry) }

@@ -5,7 +5,7 @@ ghost use Rattle.std.specs.Option.{option_map};
 ghost use Rattle.bstr.specs.BStr.{bstr_bytes};
 ghost use Rattle.pathspec_parts.specs.TreeLayout.{open_end};
 ghost use Rattle.pathspec_select.specs.Listing.{mark_at};
-ghost use Rattle.pathspec_select.specs.Outlines.{part, record_from, record_length, empty_outline, outline_after, outline_closed, LiesOpen, IsRecordTo};
+ghost use Rattle.pathspec_select.specs.Outlines.{part, empty_outline, outline_after, outline_closed, is_dir_span, mark_of_span, LiesInRecord, LiesOpen, IsRecordTo};
 ghost use Rattle.pathspec_select.specs.ListingAnswers.{IsRun};
 
 use crate::listing::spans::{Span, Spans};
@@ -58,9 +58,7 @@ impl<'a> Outline<'a> {
     /// Memory runs out. The outline is then as it was.
     #[inline(always)]
     pub(super) fn add(&mut self, start: usize, count: usize, is_dir: bool) -> Result<(), AllocError>
-        // The path, with the slash of a directory, lies in one record.
-        requires fits { record_length count is_dir
-            ≤ length (record_from self.old.separator self.old.bytes start) }
+        requires record { LiesInRecord self.old.separator self.old.bytes start count is_dir }
         requires lies { LiesOpen self.old.tree (part self.old.bytes start count) }
         ensures ok { OnOk result (self.new ≡ outline_after self.old start count is_dir) }
         ensures err { OnErr result (self.new ≡ self.old) }
@@ -87,13 +85,12 @@ impl<'a> Outline<'a> {
         self.spans.set_end(number, end);
     }
 
-    /// The record of an entry, if it has one: it has none where its record goes on behind its path.
+    /// The record of an entry, if it has one: a directory has none where its record goes on behind its path and a slash.
     pub(super) fn record(&self, number: usize) -> Option<BStr<'_>>
         ensures { option_map bstr_bytes result ≡ mark_at self.now.marks number }
     {
         let span = self.spans.get(number)?;
-        let count = span.length + one_if(span.end != 0);
-        let record = record_of(self.bytes, self.separator, span.start, count)?;
+        let record = record_of(self.bytes, self.separator, span)?;
         Some(BStr::new(record))
     }
 
@@ -136,10 +133,11 @@ impl<'a> Outline<'a> {
     fn end_of_record(&self, number: usize, start: usize) -> Option<usize>
         ensures { IfSome result (IsRecordTo self.now number start) }
     {
-        if self.spans.get(number)?.start != start {
+        let span = self.spans.get(number)?;
+        if span.start != start {
             return None;
         }
-        let end = start + self.record(number)?.as_bytes().len();
+        let end = start + record_of(self.bytes, self.separator, span)?.len();
         if end < self.bytes.len() {
             Some(end + 1)
         } else {
@@ -185,17 +183,17 @@ fn piece(bytes: &[u8], start: usize, count: usize) -> &[u8]
     &rest[..count]
 }
 
-/// The record from a place on, where it has so many bytes.
-fn record_of(bytes: &[u8], separator: u8, start: usize, count: usize) -> Option<&[u8]>
-    requires start { start ≤ length bytes.now }
-    requires count { count ≤ length (record_from separator bytes.now start) }
-    ensures { option_map (λ r. r.now) result
-        ≡ (if length (record_from separator bytes.now start) == count
-        then Some (record_from separator bytes.now start) else None) }
+/// The record of an entry, if it has one. A file's is its path: no byte of it is looked at.
+fn record_of(bytes: &[u8], separator: u8, span: Span) -> Option<&[u8]>
+    requires fits { span.start + span.length ≤ length bytes.now }
+    requires record { LiesInRecord separator bytes.now span.start span.length (is_dir_span span) }
+    ensures { option_map (λ r. r.now) result ≡ mark_of_span separator bytes.now span }
 {
-    let rest = &bytes[start..];
-    if ends_after(rest, separator, count) {
-        Some(&rest[..count])
+    let rest = &bytes[span.start..];
+    if span.end == 0 {
+        Some(&rest[..span.length])
+    } else if ends_after(rest, separator, span.length + 1) {
+        Some(&rest[..span.length + 1])
     } else {
         None
     }

@@ -3,7 +3,7 @@ use Rattle.std.proofs.Common.{refl, subst, take, List, ℕ, arith}
 use Rattle.std.proofs.lemmas.Result.{err_from_is_err_and}
 use Rattle.pathspec_select.specs.Listing.{written_entries}
 use Rattle.pathspec_select.specs.Program.{AppendsUpTo, AppendsFront}
-use Rattle.pathspec_select.proofs.OutputProofs.{upto-more, front-more, length-rest, written-run, written-left, ends-all}
+use Rattle.pathspec_select.proofs.OutputProofs.{upto-more, front-more, length-rest, written-run, written-left, upto-end, written-buffered, front-buffered}
 use Rattle.pathspec_select.proofs.output.write_records.Goals as goal
 
 pub loop-done-preserved : goal.loop-done-preserved
@@ -36,13 +36,17 @@ returns-in_err-done g c =
     let p = err_from_is_err_and c.from_residual-in_err-done.result c.from_residual-in_err-done.ensures.1 in
     let front = front-more old between new (text (take n entries)) c.loop-done.buffer.items _ c.loop-done.invariant.written c.in_err-done.ensures.front in
     let all : AppendsFront old new (text entries) = subst (AppendsFront old new) (written-left c.args.separator c.args.listing.now.marks entries n _ refl) front in
-    rw (p.1, p.2, c.in_err-done.ensures.cause) all
+    rw (p.1, p.2) all
+
+pub returns-in_err-write_whole : goal.returns-in_err-write_whole
+returns-in_err-write_whole g c =
+    let old = g.W.Write.contents c.args.writer.now in
+    let p = err_from_is_err_and c.from_residual-in_err-write_whole.result c.from_residual-in_err-write_whole.ensures.1 in
+    let kept = upto-end old (g.W.Write.contents c.loop-done.writer) c.args.separator c.args.listing.now.marks c.args.entries.now c.loop-done.done c.loop-done.buffer.items c.as_slice.result.now c.loop-done-test.false c.loop-done.invariant.written c.as_slice.ensures.value in
+    rw (p.1, p.2) (front-buffered old _ (g.W.Write.contents c.write_whole.new.writer) _ _ kept c.in_err-write_whole.ensures.front)
 
 pub returns : goal.returns
 returns g c =
     let old = g.W.Write.contents c.args.writer.now in
-    let between = g.W.Write.contents c.loop-done.writer in
-    let new = g.W.Write.contents c.write_whole.new.writer in
-    let entries = c.args.entries.now in
-    let n = c.loop-done.done in
-    ends-all old between new c.args.separator c.args.listing.now.marks entries n c.loop-done.buffer.items c.as_slice.result.now c.loop-done-test.false c.loop-done.invariant.written c.as_slice.ensures.value c.write_whole.result c.write_whole.ensures.whole c.write_whole.ensures.front c.write_whole.ensures.cause
+    let kept = upto-end old (g.W.Write.contents c.loop-done.writer) c.args.separator c.args.listing.now.marks c.args.entries.now c.loop-done.done c.loop-done.buffer.items c.as_slice.result.now c.loop-done-test.false c.loop-done.invariant.written c.as_slice.ensures.value in
+    written-buffered old _ (g.W.Write.contents c.write_whole.new.writer) _ _ kept c.in_ok-write_whole.ensures.whole

@@ -2,7 +2,7 @@ use Rattle.std.proofs.Common.{◌+◌, ◌-◌, take, length, arith, subst, List
 use Rattle.pathspec_heads.specs.Heads.{head_at, IsLastFront}
 use Rattle.pathspec_heads.specs.Stems.{with_slash}
 use Rattle.pathspec_heads.proofs.HeadProofs.{none-found, last-found}
-use Rattle.pathspec_heads.proofs.stems.Stems.find.Goals as goal
+use Rattle.pathspec_heads.proofs.stems.Stems.search.Goals as goal
 
 pub returns-then-point-eq0-clause-last : goal.returns-then-point-eq0-clause-last
 returns-then-point-eq0-clause-last c =
