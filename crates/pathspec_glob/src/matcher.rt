@@ -98,7 +98,8 @@ impl Glob {
 
     /// Whether the whole text matches. It takes no memory. The tokens before the first star are tested on the text's front,
     /// one a byte, and those after the last star on its end, all at once where they are bytes of the pattern. Then it keeps
-    /// the set of places in the others that the front of the rest leads to. So it takes at most (pattern bytes + 1) × (text bytes + 1) steps.
+    /// the set of places in the others that the front of the rest leads to. So it takes at most (pattern bytes + 1) ×
+    /// (text bytes + 1) steps.
     ///
     /// A true answer counts as many steps as the text has bytes, at least; for `*rest` without a wildcard in `rest`, as
     /// `rest` has, and any answer to such a pattern counts at most as many as the text has. To it the answer is whether the

@@ -72,7 +72,7 @@ impl<'a> Listing<'a> {
     /// The record that an entry is made from, without its separator. A directory that is only implied has none, nor
     /// has a number past the last entry.
     ///
-    /// It looks at the byte behind the entry's path.
+    /// A file's record is its path. Of a directory it looks at the byte behind its path and a slash.
     pub fn record(&self, entry: usize) -> Option<BStr<'_>>
         ensures { option_map bstr_bytes result ≡ mark_at self.now.marks entry }
     {
