@@ -22,6 +22,7 @@ use crate::search::counted::{CountedHeads, CountedSpecs, SpecScratch};
 use crate::search::texts::begins_with;
 use bstr::BStr;
 use pathspec_heads::places;
+use pathspec_heads::tables::StemHints;
 use pathspec_parts::attributes::LookUp;
 use std::fmt;
 use std::marker::Model;
@@ -47,6 +48,8 @@ const NO_EFFORT: Effort = Effort {
 pub struct Scratch {
     specs: SpecScratch,
     heads: places::Scratch,
+    // Where the next question whether a directory may be skipped looks first. They may be any.
+    pub(crate) stems: StemHints,
     effort: Effort,
 }
 
@@ -56,6 +59,7 @@ impl Drop for Scratch {
         let Scratch {
             specs: _specs,
             heads: _heads,
+            stems: _stems,
             effort: _effort,
         } = self;
     }
@@ -89,6 +93,7 @@ impl Scratch {
         Scratch {
             specs,
             heads,
+            stems: StemHints::new(),
             effort: NO_EFFORT,
         }
     }

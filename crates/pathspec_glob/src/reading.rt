@@ -29,7 +29,7 @@ struct Piece {
 pub fn tokens(alloc: Global, pattern: &[u8], mode: Mode) -> Result<Vec<Token>, AllocError>
     ensures { IfOk result (λ read. tokens_view read.items ≡ listed_tokens mode pattern.now) }
 {
-    let mut all = Vec::new(alloc);
+    let mut all = Vec::with_capacity(alloc, pattern.len())?;
     let mut after_slash = true;
     let mut rest = pattern;
     while let [byte, after @ ..] = rest {

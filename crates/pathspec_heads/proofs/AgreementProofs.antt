@@ -37,6 +37,21 @@ squeezed (suc n) (x ∷ l) m [] (y ∷ t) a b p q = absurd (omega (arith, b))
 squeezed (suc n) (x ∷ l) [] (z ∷ h) (y ∷ t) a b p q = cc
 squeezed (suc n) (x ∷ l) (w ∷ m) (z ∷ h) (y ∷ t) a b p q = grind (arith, nat_tests, squeezed n l m h t)
 
+-- a text that agrees further with the later of two than the earlier does: the earlier is not behind it
+pub below-shared : (x y t : List ℕ) → is_behind x y ≡ false → agreement x y < agreement y t → (is_behind x t ≡ false) × (agreement x y ≡ agreement x t)
+below-shared [] y [] p a = (refl, refl)
+below-shared [] y (d ∷ t) p a = (refl, refl)
+below-shared (b ∷ x) [] t p a = cc
+below-shared (b ∷ x) (c ∷ y) [] p a = absurd (omega (arith, a))
+below-shared (b ∷ x) (c ∷ y) (d ∷ t) p a = grind (arith, nat_tests, below-shared x y t)
+
+-- a text that agrees further with the earlier of two than the later does: the later is behind it
+pub above-shared : (x y t : List ℕ) → is_behind x y ≡ false → agreement x y < agreement x t → is_behind y t ≡ true
+above-shared [] y t p a = absurd (omega (arith, a))
+above-shared (b ∷ x) [] t p a = cc
+above-shared (b ∷ x) (c ∷ y) [] p a = absurd (omega (arith, a))
+above-shared (b ∷ x) (c ∷ y) (d ∷ t) p a = grind (arith, nat_tests, above-shared x y t)
+
 -- the text ends where the head still goes on
 pub agreement-text_ends : (x y : List ℕ) → length y ≤ agreement x y → length y < length x → (length y ≡ agreement x y) × (true ≡ is_behind x y)
 agreement-text_ends [] y h i = absurd (omega (arith, i))

@@ -1,6 +1,8 @@
 -- Heads in order, their links, and which of them begin a text.
 use Rattle.std.proofs.Common.{◌≡◌, ℕ, suc, zero, ◌+◌, ◌<◌, ◌≤◌, Bool, true, false, inl, inr, refl, sym, ◌∙◌, ap, subst, List, [], ◌∷◌, ◌++◌, length, get_or, arith, ◌⊎◌, take, Option, Some, None, length-append, add-one}
 use Rattle.std.proofs.lemmas.Cmp.{nat_list_cmp_total}
+use Rattle.std.proofs.Math.ListN.{get_or-append}
+use Rattle.std.proofs.Math.Seq.{get_or-append_seam}
 use Rattle.std.specs.declared.cmp.Ordering.TheVariants.{Less}
 use Rattle.std.proofs.lemmas.Bool.{false≢true}
 use Rattle.std.specs.Ordering.{nat_cmp, is_gt}
@@ -9,7 +11,7 @@ use Rattle.std.specs.Cmp.Lexicographic.{slice_cmp}
 use Rattle.pathspec_glob.specs.Bytes.{begins_with}
 use Rattle.pathspec_heads.specs.Agreement.{agreement, is_behind}
 use Rattle.pathspec_heads.specs.Heads.{head_at, IsRising, IsLinked, IsLastFront, IsChainOf, Brackets}
-use Rattle.pathspec_heads.proofs.AgreementProofs.{agreement-self, agreement-front, front-agreement, not_behind, begins-through, begins-take, take-begins, begins-between, begins-not_behind, behind-not_front, behind-further, same_fronts, not_true, both}
+use Rattle.pathspec_heads.proofs.AgreementProofs.{below-shared, above-shared, agreement-self, agreement-front, front-agreement, not_behind, begins-through, begins-take, take-begins, begins-between, begins-not_behind, behind-not_front, behind-further, same_fronts, not_true, both}
 
 pub begins-itself : (x : List ℕ) → begins_with x x ≡ true
 begins-itself x = front-agreement x x (agreement-self x)
@@ -35,15 +37,6 @@ apart_split (suc i) (suc j) = elim (apart_split i j) [
   ]
 ]
 
-get_or-append_at : (xs : List (Option ℕ)) (x : Option ℕ) → get_or (xs ++ x ∷ []) (length xs) None ≡ x
-get_or-append_at [] x = refl
-get_or-append_at (y ∷ xs) x = get_or-append_at xs x
-
-get_or-append_front : (xs ys : List (Option ℕ)) (i : ℕ) → i < length xs → get_or (xs ++ ys) i None ≡ get_or xs i None
-get_or-append_front [] ys i h = absurd (omega (arith, h))
-get_or-append_front (x ∷ xs) ys zero h = refl
-get_or-append_front (x ∷ xs) ys (suc i) h = get_or-append_front xs ys i (omega (arith, h))
-
 clash : {P : Type 0} (b : Bool) → b ≡ true → b ≡ false → P
 clash b t f = absurd (false≢true (sym f ∙ t))
 
@@ -54,6 +47,17 @@ module _ (heads : List (List ℕ)) (rising : IsRising heads) where
     | inl e ↦ subst (λ k. is_behind (head_at heads i) (head_at heads k) ≡ false) e (not_behind (head_at heads i) (head_at heads i) (agreement-self (head_at heads i)))
     | inr s ↦ ap is_gt (rising i j s h)
   ]
+
+  -- ---- what neighbours agree in
+
+  -- the head before one with which the text agrees further isn't behind it, and agrees in what the two do
+  pub before-not_behind : (t : List ℕ) (i : ℕ) → i + 1 < length heads → agreement (head_at heads i) (head_at heads (i + 1)) < agreement (head_at heads (i + 1)) t
+      → (is_behind (head_at heads i) t ≡ false) × (agreement (head_at heads i) (head_at heads (i + 1)) ≡ agreement (head_at heads i) t)
+  before-not_behind t i l a = below-shared (head_at heads i) (head_at heads (i + 1)) t (rises i (i + 1) (omega arith) l) a
+
+  -- the head after one with which the text agrees further is behind it
+  pub after-behind : (t : List ℕ) (i : ℕ) → i + 1 < length heads → agreement (head_at heads i) (head_at heads (i + 1)) < agreement (head_at heads i) t → is_behind (head_at heads (i + 1)) t ≡ true
+  after-behind t i l a = above-shared (head_at heads i) (head_at heads (i + 1)) t (rises i (i + 1) (omega arith) l) a
 
   -- ---- going from link to link
 
@@ -184,8 +188,8 @@ linked-more heads links link place e h l i b = elim (le_split i (length links) (
   | inl s ↦
       let is : i ≡ place = s ∙ e in
       subst (λ k. IsLastFront heads k (head_at heads k) (get_or (links ++ link ∷ []) k None)) (sym is)
-      (subst (λ x. IsLastFront heads place (head_at heads place) x) (sym (ap (λ k. get_or (links ++ link ∷ []) k None) (sym e) ∙ get_or-append_at links link)) l)
-  | inr s ↦ subst (λ x. IsLastFront heads i (head_at heads i) x) (sym (get_or-append_front links (link ∷ []) i s)) (h i s)
+      (subst (λ x. IsLastFront heads place (head_at heads place) x) (sym (ap (λ k. get_or (links ++ link ∷ []) k None) (sym e) ∙ get_or-append_seam links link [] None)) l)
+  | inr s ↦ subst (λ x. IsLastFront heads i (head_at heads i) x) (sym (get_or-append links (link ∷ []) None i s)) (h i s)
 ]
 
 -- heads of which each is before the next one rise
@@ -197,3 +201,8 @@ rising-from_next heads next i (suc j) l b =
       | inl e ↦ subst (λ m. slice_cmp nat_cmp (head_at heads m) (head_at heads (suc j)) ≡ Less) (sym e) step
       | inr s ↦ nat_list_cmp_total.trans (head_at heads i) (head_at heads j) (head_at heads (suc j)) (rising-from_next heads next i j s (omega (arith, b))) step
     ]
+
+-- what the first so many heads agree in with the next
+pub record AreSharedTo (heads : List (List ℕ)) (shared : List ℕ) (count : ℕ) : Type 0 where
+  pub all : length shared ≡ count
+  pub agree : (i : ℕ) → i < count → i + 1 < length heads → get_or shared i 0 ≡ agreement (head_at heads i) (head_at heads (i + 1))

@@ -20,6 +20,11 @@ pub record IsLastFront (heads : List (List ℕ)) (count : ℕ) (text : List ℕ)
   pub later : (j : ℕ) → last ≡ Some j → (k : ℕ) → j < k → k < count → begins_with text (head_at heads k) ≡ false
   pub none : last ≡ None → (k : ℕ) → k < count → begins_with text (head_at heads k) ≡ false
 
+-- how many bytes each head agrees in with the next
+pub record AreShared (heads : List (List ℕ)) (shared : List ℕ) : Type 0 where
+  pub all : length shared ≡ length heads
+  pub agree : (i : ℕ) → i + 1 < length heads → get_or shared i 0 ≡ agreement (head_at heads i) (head_at heads (i + 1))
+
 -- the heads that begin the text are those that begin the head at a place
 abbrev pub IsChainOf : List (List ℕ) → List ℕ → ℕ → Type 0
 IsChainOf heads text j = (k : ℕ) → k < length heads → begins_with text (head_at heads k) ≡ begins_with (head_at heads j) (head_at heads k)

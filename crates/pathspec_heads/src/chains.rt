@@ -1,5 +1,5 @@
 //! Which heads begin a text: one search for the last head that isn't behind it, and then links, without a comparison.
-ghost use Rattle.std.specs.Prelude.{◌≡◌, ◌⊎◌, ℕ, ◌+◌, ◌^◌, ◌<◌, ◌≤◌, List, length, take, Some, IfOk, IfSome};
+ghost use Rattle.std.specs.Prelude.{◌≡◌, ◌⊎◌, ℕ, ◌+◌, ◌-◌, ◌/◌, ◌^◌, ◌<◌, ◌≤◌, List, length, take, Some, IfOk, IfSome};
 ghost use Rattle.pathspec_glob.specs.Bytes.{begins_with};
 ghost use Rattle.pathspec_glob.specs.Counts.{Counts};
 ghost use Rattle.pathspec_heads.specs.Heads.{head_at, IsRising, IsLinked, IsLastFront, IsChain, IsChainOf, Brackets};
@@ -11,7 +11,7 @@ use std::marker::Model;
 /// Different heads in byte order, each with a link to the last head before it that begins it.
 ///
 /// The heads that begin one of them are its chain: the head itself, the one that its link leads to, and so on.
-#[derive(Debug, Drop)]
+#[derive(Drop)]
 pub struct Chains {
     heads: Heads,
     links: Vec<Option<usize>>,
@@ -43,13 +43,6 @@ struct Between {
     agreed: usize,
 }
 
-/// Where a search stands after so many comparisons.
-#[derive(Clone, Copy)]
-struct Progress {
-    between: Between,
-    compared: u128,
-}
-
 /// The index after that of the last head that isn't behind a text, how many bytes that head agrees in, and how many heads were
 /// compared.
 #[derive(Clone, Copy)]
@@ -59,7 +52,24 @@ struct PartitionPoint {
     compared: u128,
 }
 
-/// Compares the head at the index with the text.
+/// Where a search between two indexes looks: first at the hint or as near to it as can be, then beside that, and then in the
+/// middle.
+#[inline(always)]
+pub fn next_look(low: usize, high: usize, hint: usize, looks: u128) -> usize
+    requires { low < high }
+    ensures within { (low ≤ result) × (result < high) }
+    ensures middle { 2 ≤ looks → result ≡ low + (high - low) / 2 }
+{
+    if looks < 2 {
+        hint.clamp(low, high - 1)
+    } else {
+        low + (high - low) / 2
+    }
+}
+
+/// Compares the head at the index with the text. If they agree in more bytes than the head and its neighbour do, the neighbour
+/// stands on the other side of the text.
+#[inline(always)]
 fn narrowed(
     heads: &Heads,
     text: &[u8],
@@ -68,83 +78,65 @@ fn narrowed(
     scratch: &mut Scratch,
 ) -> Between
     requires index { (between.low ≤ index) × (index < between.high) }
+    requires rising { IsRising heads.now }
     requires so_far { Brackets heads.now text.now between.low between.high between.agreed }
     ensures so_far { Brackets heads.now text.now result.low result.high result.agreed }
-    ensures smaller { ((result.low ≡ between.low) × (result.high ≡ index))
-        ⊎ ((result.low ≡ index + 1) × (result.high ≡ between.high)) }
+    ensures smaller { (result.high - result.low ≤ index - between.low)
+        ⊎ (result.high - result.low ≤ between.high - (index + 1)) }
     ensures counted { Counts scratch.old 1 scratch.new }
 {
+    let Between { low, high, agreed } = between;
     let comparison = heads.compare(index, text, scratch);
+    let texts = heads.texts();
     if comparison.is_behind {
-        Between {
-            low: between.low,
+        if low < index && texts.shared_len(index - 1) < comparison.agreed {
+            return Between {
+                low: index,
+                high: index,
+                agreed: texts.shared_len(index - 1),
+            };
+        }
+        return Between {
+            low,
             high: index,
-            agreed: between.agreed,
-        }
-    } else {
-        Between {
-            low: index + 1,
-            high: between.high,
-            agreed: comparison.agreed,
-        }
+            agreed,
+        };
+    }
+    let next = index + 1;
+    let agreed = comparison.agreed;
+    if next < high && texts.shared_len(index) < agreed {
+        return Between {
+            low: next,
+            high: next,
+            agreed,
+        };
+    }
+    Between {
+        low: next,
+        high,
+        agreed,
     }
 }
 
-/// Looks whether the search ends at the hint of the scratch.
-fn by_hint(heads: &Heads, text: &[u8], scratch: &mut Scratch) -> Progress
-    ensures so_far { Brackets heads.now text.now
-        result.between.low result.between.high result.between.agreed }
-    ensures counted { Counts scratch.old result.compared scratch.new }
-    ensures few { result.compared ≤ 2 }
-    ensures asked { 0 < length heads.now → 1 ≤ result.compared }
-    ensures count { length heads.now < 2 ^ 64 }
-{
-    let hint = scratch.hint;
-    let whole = Between {
-        low: 0,
-        high: heads.texts().len(),
-        agreed: 0,
-    };
-    if whole.high == 0 {
-        return Progress {
-            between: whole,
-            compared: 0,
-        };
-    }
-    if hint == 0 || hint > whole.high {
-        let between = narrowed(heads, text, whole, 0, scratch);
-        return Progress {
-            between,
-            compared: 1,
-        };
-    }
-    let first = narrowed(heads, text, whole, hint - 1, scratch);
-    if first.low < hint || first.high == hint {
-        return Progress {
-            between: first,
-            compared: 1,
-        };
-    }
-    let between = narrowed(heads, text, first, hint, scratch);
-    Progress {
-        between,
-        compared: 2,
-    }
-}
-
-/// The index after that of the last head that isn't behind the text. It looks at the hint of the scratch first.
+/// The index after that of the last head that isn't behind the text. It looks at the head compared last first, then beside
+/// it, and then halves what is left.
 fn sought(heads: &Heads, text: &[u8], scratch: &mut Scratch) -> PartitionPoint
+    requires { IsRising heads.now }
     ensures found { Brackets heads.now text.now result.low result.low result.agreed }
     ensures counted { Counts scratch.old result.compared scratch.new }
     ensures cost { (b : ℕ) → length heads.now < 2 ^ b → result.compared ≤ b + 2 }
     ensures asked { 0 < length heads.now → 1 ≤ result.compared }
 {
-    let progress = by_hint(heads, text, scratch);
-    let mut between = progress.between;
-    let mut compared = progress.compared;
+    let hint = scratch.last;
+    let mut between = Between {
+        low: 0,
+        high: heads.texts().len(),
+        agreed: 0,
+    };
+    let mut compared = 0;
     while between.low < between.high {
-        let middle = between.low + (between.high - between.low) / 2;
-        between = narrowed(heads, text, between, middle, scratch);
+        let index = next_look(between.low, between.high, hint, compared);
+        between = narrowed(heads, text, between, index, scratch);
         compared += 1;
     }
     PartitionPoint {
@@ -256,7 +248,6 @@ impl Chains {
             return only_head(&self.heads, text, scratch);
         }
         let point = sought(&self.heads, text, scratch);
-        scratch.hint = point.low;
         if point.low == 0 {
             return Deepest {
                 head: None,

@@ -1,12 +1,13 @@
 //! Different heads in byte order, which are compared with a text by one question that counts, in a scratch.
-ghost use Rattle.std.specs.Prelude.{◌≡◌, ◌+◌, ◌<◌, ◌≤◌, length, map, slice_index};
+ghost use Rattle.std.specs.Prelude.{◌≡◌, ◌+◌, ◌<◌, ◌≤◌, length, map, slice_index, IfOk};
 ghost use Rattle.std.specs.Int.{w64, to_le_bytes};
 ghost use Rattle.pathspec_glob.specs.Counts.{Counts};
 ghost use Rattle.pathspec_heads.specs.Agreement.{agreement, is_behind, eight_bytes};
-ghost use Rattle.pathspec_heads.specs.Heads.{head_at};
+ghost use Rattle.pathspec_heads.specs.Heads.{head_at, AreShared};
 ghost use Rattle.pathspec_heads.specs.Stems.{with_slash};
 
 use crate::places::PlacesByHead;
+use std::alloc::{AllocError, Global};
 use std::fmt;
 use std::marker::Model;
 
@@ -20,32 +21,50 @@ pub struct Comparison {
 }
 
 /// Texts of which only lengths are told: their own, and that of what one of them shares with the next. No question here
-/// compares one of them with a text of the caller's, and what is printed of them is their count.
+/// compares one of them with a text of the caller's, and nothing prints them.
 #[derive(Drop)]
 pub struct Texts {
     all: Vec<Vec<u8>>,
-}
-
-impl fmt::Debug for Texts {
-    fn fmt<W: fmt::Write>(&self, f: &mut fmt::Formatter<W>) -> fmt::Result {
-        f.debug_struct("Texts").field("len", &self.len()).finish()
-    }
+    // How many bytes each of them agrees in with the next; of the last it may be any number.
+    shared: Vec<usize>,
 }
 
 impl Model for Texts {
     ghost use Rattle.std.specs.Prelude.{List, ℕ, map};
+    ghost use Rattle.pathspec_heads.specs.Heads.{AreShared};
 
     ghost Value = { List (List ℕ) };
 
     ghost view = { λ t. map (λ text. text.items) t.all.items };
+
+    ghost invariant = { λ t. AreShared (map (λ text. text.items) t.all.items) t.shared.items };
+}
+
+/// How many bytes each text agrees in with the next, and any number for the last. The cost is linear in their bytes.
+///
+/// # Errors
+/// Memory runs out.
+fn shared_lens(alloc: Global, all: &[Vec<u8>]) -> Result<Vec<usize>, AllocError>
+    ensures { IfOk result (λ shared. AreShared (map (λ text. text.items) all.now) shared.items) }
+{
+    let mut shared = Vec::with_capacity(alloc, all.len())?;
+    for index in 0..all.len() {
+        let next = (index + 1).min(all.len() - 1);
+        shared.push(compared(&all[index], &all[next]).agreed)?;
+    }
+    Ok(shared)
 }
 
 impl Texts {
-    /// These texts.
-    pub fn new(all: Vec<Vec<u8>>) -> Texts
-        ensures { result ≡ map (λ text. text.items) all.items }
+    /// These texts. The cost is linear in their bytes.
+    ///
+    /// # Errors
+    /// Memory runs out.
+    pub fn new(alloc: Global, all: Vec<Vec<u8>>) -> Result<Texts, AllocError>
+        ensures { IfOk result (λ texts. texts ≡ map (λ text. text.items) all.items) }
     {
-        Texts { all }
+        let shared = shared_lens(alloc, &all)?;
+        Ok(Texts { all, shared })
     }
 
     /// How many there are.
@@ -69,17 +88,17 @@ impl Texts {
         ensures { result
             ≡ agreement (head_at self.now index) (head_at self.now (index + 1)) }
     {
-        compared(&self.all[index], &self.all[index + 1]).agreed
+        self.shared[index]
     }
 }
 
-/// What searches for heads write: how many heads they compared with texts, and where the last search ended.
+/// What searches for heads write: how many heads they compared with texts, and which one last.
 #[derive(Debug, Drop)]
 pub struct Scratch {
     // Only `Heads::compare` raises it, and nothing sets it back.
     compared: u128,
-    // Where the next search looks first. It may be any number.
-    pub(crate) hint: usize,
+    // The head compared last, at which the next search looks first. It may be any number.
+    pub(crate) last: usize,
 }
 
 impl Model for Scratch {
@@ -97,7 +116,7 @@ impl Scratch {
     {
         Scratch {
             compared: 0,
-            hint: 0,
+            last: 0,
         }
     }
 
@@ -111,7 +130,7 @@ impl Scratch {
 
 /// Heads whose only question about a text is how one of them compares with it. Each such comparison is counted in a
 /// scratch, and the count is never set back.
-#[derive(Debug, Drop)]
+#[derive(Drop)]
 pub struct Heads {
     texts: Texts,
 }
@@ -147,6 +166,7 @@ impl Heads {
         ensures counted { Counts scratch.old 1 scratch.new }
     {
         scratch.compared = scratch.compared.wrapping_add(1);
+        scratch.last = index;
         compared(&self.texts.all[index], text)
     }
 }
@@ -166,7 +186,7 @@ pub fn byte_with_slash(path: &[u8], ignore_case: bool, at: usize) -> u8
 }
 
 /// Stems, which are compared with a path and a slash. No comparison is counted, and no heads can be had as stems.
-#[derive(Debug, Drop)]
+#[derive(Drop)]
 pub struct StemTexts {
     texts: Texts,
 }
@@ -181,12 +201,14 @@ impl Model for StemTexts {
 
 impl StemTexts {
     /// These stems.
-    pub fn new(all: Vec<Vec<u8>>) -> StemTexts
-        ensures { result ≡ map (λ stem. stem.items) all.items }
+    ///
+    /// # Errors
+    /// Memory runs out.
+    pub fn new(alloc: Global, all: Vec<Vec<u8>>) -> Result<StemTexts, AllocError>
+        ensures { IfOk result (λ stems. stems ≡ map (λ stem. stem.items) all.items) }
     {
-        StemTexts {
-            texts: Texts::new(all),
-        }
+        let texts = Texts::new(alloc, all)?;
+        Ok(StemTexts { texts })
     }
 
     /// The stems, of which only lengths are told.

@@ -7,6 +7,7 @@ ghost use Rattle.pathspec_heads.specs.PathTables.{PathParts, PathTextLists, Path
 use crate::stems::Stems;
 use crate::tables::{Kind, SpecStem, stems_of};
 use std::alloc::{AllocError, Global};
+use std::fmt;
 use std::marker::Model;
 
 /// The path of a spec, and what the spec says.
@@ -51,7 +52,7 @@ fn to_stems<'s>(alloc: Global, paths: &[SpecPath<'s>]) -> Result<Vec<SpecStem<'s
 }
 
 /// The texts of paths by their kinds: of those with case, or of those without.
-#[derive(Debug, Drop)]
+#[derive(Drop)]
 struct PathLists {
     literal: Stems,
     directory: Stems,
@@ -99,10 +100,16 @@ impl PathLists {
 }
 
 /// Paths of specs, with case and without.
-#[derive(Debug, Drop)]
+#[derive(Drop)]
 pub struct PathTable {
     exact: PathLists,
     folded: PathLists,
+}
+
+impl fmt::Debug for PathTable {
+    fn fmt<W: fmt::Write>(&self, f: &mut fmt::Formatter<W>) -> fmt::Result {
+        f.debug_struct("PathTable").finish_non_exhaustive()
+    }
 }
 
 impl Model for PathTable {
@@ -130,7 +137,7 @@ impl PathTable {
     /// directory where one is wanted, or lies below it; without case where the path's spec has none.
     ///
     /// The paths stand in four lists: with case and without, those that want a directory, and the others. In each it
-    /// compares at most as many paths with this one as their count has binary digits, and one, and takes a link for each
+    /// compares at most as many paths with this one as their count has binary digits, and three, and takes a link for each
     /// path that begins it. It takes no memory.
     pub fn takes(&self, path: &[u8], is_dir: bool) -> bool
         ensures { (paths : List PathParts) → IsPathTableOf paths self.now

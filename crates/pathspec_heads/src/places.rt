@@ -12,10 +12,11 @@ use crate::groups::{grouped, sorted};
 pub use crate::heads::Scratch;
 use crate::heads::{Heads, Texts};
 use std::alloc::{AllocError, Global};
+use std::fmt;
 use std::marker::Model;
 
 /// Places that each have a head, in groups: those of one head.
-#[derive(Debug, Drop)]
+#[derive(Drop)]
 struct GroupsByHead {
     chains: Chains,
     // Where the group of each head begins in `order`.
@@ -35,11 +36,20 @@ impl Model for GroupsByHead {
 }
 
 /// Places that each have a head. Where there are few, the next place is a bit of a word, and no group is looked at.
-#[derive(Debug, Drop)]
+#[derive(Drop)]
 pub struct PlacesByHead {
     groups: GroupsByHead,
     // For the first heads, all the places whose heads begin each, as bits: up to a head with such a place that no word has.
     words: Vec<u64>,
+}
+
+// No text is printed: a comparison of it would not be counted.
+impl fmt::Debug for PlacesByHead {
+    fn fmt<W: fmt::Write>(&self, f: &mut fmt::Formatter<W>) -> fmt::Result {
+        f.debug_struct("PlacesByHead")
+            .field("heads", &self.groups.len())
+            .finish()
+    }
 }
 
 impl Model for PlacesByHead {
@@ -121,7 +131,8 @@ impl GroupsByHead {
     {
         let entries = sorted(alloc, heads)?;
         let groups = grouped(alloc, entries)?;
-        let chains = Chains::new(alloc, Heads::new(Texts::new(groups.heads)))?;
+        let texts = Texts::new(alloc, groups.heads)?;
+        let chains = Chains::new(alloc, Heads::new(texts))?;
         Ok(GroupsByHead {
             chains,
             starts: groups.starts,

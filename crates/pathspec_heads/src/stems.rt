@@ -2,17 +2,17 @@
 ghost use Rattle.std.specs.Prelude.{◌≡◌, ◌&&◌, true, ℕ, ◌+◌, ◌<◌, ◌≤◌, length, map, IfOk, IsTrue, IsFalse};
 ghost use Rattle.std.specs.List.{list_any};
 ghost use Rattle.pathspec_glob.specs.Bytes.{fold_case, begins_with};
-ghost use Rattle.pathspec_heads.specs.Heads.{head_at, IsRising, IsLastFront, Brackets};
-ghost use Rattle.pathspec_heads.specs.Stems.{with_slash, leads_to, lies_below, lies_at_or_below, HasSameTexts, SomeText, NoText, IsBoundary, is_boundary};
+ghost use Rattle.pathspec_heads.specs.Heads.{head_at, Brackets};
+ghost use Rattle.pathspec_heads.specs.Stems.{with_slash, leads_to, lies_below, lies_at_or_below, HasSameTexts, SomeText, NoText, IsFound, IsBoundary, is_boundary};
 
-use crate::chains::{front_of, linked};
+use crate::chains::{front_of, linked, next_look};
 use crate::groups::{grouped, sorted};
 use crate::heads::{StemTexts, byte_with_slash};
 use std::alloc::{AllocError, Global};
 use std::marker::Model;
 
 /// Different stems in byte order, each with a link to the last one before it that begins it.
-#[derive(Debug, Drop)]
+#[derive(Drop)]
 pub struct Stems {
     texts: StemTexts,
     links: Vec<Option<usize>>,
@@ -45,21 +45,24 @@ struct Found {
     deepest: Option<usize>,
 }
 
-/// The index after that of the last text that isn't behind the path and a slash.
-fn sought(texts: &StemTexts, path: &[u8], ignore_case: bool) -> PartitionPoint
+/// The index after that of the last text that isn't behind the path and a slash. It looks at the hint, then beside it, and then
+/// halves what is left.
+fn sought(texts: &StemTexts, path: &[u8], ignore_case: bool, hint: usize) -> PartitionPoint
     ensures { Brackets texts.now (with_slash ignore_case path.now)
         result.low result.low result.agreed }
 {
     let mut low = 0;
     let mut high = texts.texts().len();
     let mut agreed = 0;
+    let mut looks: u128 = 0;
     while low < high {
-        let middle = low + (high - low) / 2;
-        let comparison = texts.compare_with_slash(middle, path, ignore_case);
+        let index = next_look(low, high, hint, looks);
+        let comparison = texts.compare_with_slash(index, path, ignore_case);
+        looks = looks.saturating_add(1);
         if comparison.is_behind {
-            high = middle;
+            high = index;
         } else {
-            low = middle + 1;
+            low = index + 1;
             agreed = comparison.agreed;
         }
     }
@@ -76,7 +79,7 @@ impl Stems {
     {
         let entries = sorted(alloc, stems)?;
         let groups = grouped(alloc, entries)?;
-        let texts = StemTexts::new(groups.heads);
+        let texts = StemTexts::new(alloc, groups.heads)?;
         let links = linked(alloc, texts.texts())?;
         Ok(Stems { texts, links })
     }
@@ -104,14 +107,9 @@ impl Stems {
     // In line, since most lists of a table are empty.
     /// Whether a stem lies below the path, and the last stem that begins the path and a slash.
     #[inline(always)]
-    fn find(&self, path: &[u8], ignore_case: bool) -> Found
-        ensures yes { IsTrue result.below → SomeText self.now
-            (λ stem. begins_with stem (with_slash ignore_case path.now) ≡ true) }
-        ensures no { IsFalse result.below → NoText self.now
-            (λ stem. begins_with stem (with_slash ignore_case path.now) ≡ true) }
-        ensures last { IsLastFront self.now (length self.now)
-            (with_slash ignore_case path.now) result.deepest }
-        ensures rising { IsRising self.now }
+    fn find(&self, path: &[u8], ignore_case: bool, hint: &mut usize) -> Found
+        ensures { IsFound self.now (with_slash ignore_case path.now)
+            result.below result.deepest }
     {
         if self.links.is_empty() {
             return Found {
@@ -119,21 +117,17 @@ impl Stems {
                 deepest: None,
             };
         }
-        self.search(path, ignore_case)
+        self.search(path, ignore_case, hint)
     }
 
     /// The same by a search, also where there are no stems.
     #[inline(never)]
-    fn search(&self, path: &[u8], ignore_case: bool) -> Found
-        ensures yes { IsTrue result.below → SomeText self.now
-            (λ stem. begins_with stem (with_slash ignore_case path.now) ≡ true) }
-        ensures no { IsFalse result.below → NoText self.now
-            (λ stem. begins_with stem (with_slash ignore_case path.now) ≡ true) }
-        ensures last { IsLastFront self.now (length self.now)
-            (with_slash ignore_case path.now) result.deepest }
-        ensures rising { IsRising self.now }
+    fn search(&self, path: &[u8], ignore_case: bool, hint: &mut usize) -> Found
+        ensures { IsFound self.now (with_slash ignore_case path.now)
+            result.below result.deepest }
     {
-        let point = sought(&self.texts, path, ignore_case);
+        let point = sought(&self.texts, path, ignore_case, *hint);
+        *hint = point.low;
         let below = self.has_below(path, ignore_case, point);
         if point.low == 0 {
             return Found {
@@ -178,13 +172,14 @@ impl Stems {
     /// Whether a stem and the path lead to one another: one lies below the other or they are one, or the path goes on
     /// after a stem that a wildcard follows, as it does all of them or none.
     ///
-    /// It compares at most as many stems with the path as their count has binary digits, and one, and takes a link for
-    /// each stem that begins the path. It takes no memory.
-    pub fn leads_to(&self, path: &[u8], ignore_case: bool, wild: bool) -> bool
+    /// The hint is where the search looks first, and becomes where it ended: any number will do. It compares at most as many
+    /// stems with the path as their count has binary digits, and three: where paths come in byte order often three. Then it
+    /// takes a link for each stem that begins the path. It takes no memory.
+    pub fn leads_to(&self, path: &[u8], ignore_case: bool, wild: bool, hint: &mut usize) -> bool
         ensures { result ≡ list_any (λ stem.
             leads_to stem wild (fold_case ignore_case path.now)) self.now }
     {
-        let found = self.find(path, ignore_case);
+        let found = self.find(path, ignore_case, hint);
         if found.below {
             return true;
         }
@@ -201,7 +196,7 @@ impl Stems {
             begins_with (with_slash ignore_case path.now) stem
             && is_boundary (with_slash ignore_case path.now) limit stem) self.now }
     {
-        match self.find(path, ignore_case).deepest {
+        match self.find(path, ignore_case, &mut 0).deepest {
             Some(stem) => self.has_boundary(stem, path, ignore_case, limit),
             None => false,
         }

@@ -7,6 +7,7 @@ ghost use Rattle.pathspec_heads.specs.Tables.{StemParts, TextLists, TextTable, s
 
 use crate::stems::Stems;
 use std::alloc::{AllocError, Global};
+use std::fmt;
 use std::marker::Model;
 
 /// The stem of a spec, the part before its first wildcard, and what the spec says.
@@ -100,7 +101,7 @@ pub(crate) fn stems_of(
 }
 
 /// The texts of stems by their kinds: of those with case, or of those without.
-#[derive(Debug, Drop)]
+#[derive(Drop)]
 struct StemLists {
     wild: Stems,
     literal: Stems,
@@ -111,6 +112,38 @@ impl Model for StemLists {
     ghost Value = { TextLists };
 
     ghost view = { λ s. record { wild = s.wild; literal = s.literal; directory = s.directory } };
+}
+
+/// Where the next search in each of the lists looks first.
+#[derive(Clone, Copy, Debug)]
+struct ListHints {
+    wild: usize,
+    literal: usize,
+    directory: usize,
+}
+
+/// Nothing was searched for yet.
+const NO_HINTS: ListHints = ListHints {
+    wild: 0,
+    literal: 0,
+    directory: 0,
+};
+
+/// Where the next search in each list of a table looks first, which is where the last one ended. Any numbers will do.
+#[derive(Clone, Copy, Debug)]
+pub struct StemHints {
+    exact: ListHints,
+    folded: ListHints,
+}
+
+impl StemHints {
+    /// Nothing was searched for yet.
+    pub fn new() -> StemHints {
+        StemHints {
+            exact: NO_HINTS,
+            folded: NO_HINTS,
+        }
+    }
 }
 
 impl StemLists {
@@ -133,31 +166,51 @@ impl StemLists {
     }
 
     /// Whether a stem that wants a directory, and that no wildcard follows, reaches the path.
-    fn directory_reaches(&self, path: &[u8], ignore_case: bool, is_dir: Option<bool>) -> bool
+    fn directory_reaches(
+        &self,
+        path: &[u8],
+        ignore_case: bool,
+        is_dir: Option<bool>,
+        hint: &mut usize,
+    ) -> bool
         ensures { result ≡ list_any (λ text.
             directory_reaches text (fold_case ignore_case path.now) is_dir) self.now.directory }
     {
         match is_dir {
             Some(false) => self.directory.has_above(path, ignore_case),
-            _ => self.directory.leads_to(path, ignore_case, false),
+            _ => self.directory.leads_to(path, ignore_case, false, hint),
         }
     }
 
     /// Whether one of the stems reaches the path.
-    fn reach(&self, path: &[u8], ignore_case: bool, is_dir: Option<bool>) -> bool
+    fn reach(
+        &self,
+        path: &[u8],
+        ignore_case: bool,
+        is_dir: Option<bool>,
+        hints: &mut ListHints,
+    ) -> bool
         ensures { result ≡ lists_reach ignore_case self.now path.now is_dir }
     {
-        self.wild.leads_to(path, ignore_case, true)
-            || self.literal.leads_to(path, ignore_case, false)
-            || self.directory_reaches(path, ignore_case, is_dir)
+        self.wild.leads_to(path, ignore_case, true, &mut hints.wild)
+            || self
+                .literal
+                .leads_to(path, ignore_case, false, &mut hints.literal)
+            || self.directory_reaches(path, ignore_case, is_dir, &mut hints.directory)
     }
 }
 
 /// Stems of specs, with case and without.
-#[derive(Debug, Drop)]
+#[derive(Drop)]
 pub struct StemTable {
     exact: StemLists,
     folded: StemLists,
+}
+
+impl fmt::Debug for StemTable {
+    fn fmt<W: fmt::Write>(&self, f: &mut fmt::Formatter<W>) -> fmt::Result {
+        f.debug_struct("StemTable").finish_non_exhaustive()
+    }
 }
 
 impl Model for StemTable {
@@ -183,11 +236,26 @@ impl StemTable {
     ///
     /// The stems stand in six lists: with case and without, those that a wildcard follows, those that want a directory,
     /// and the others. In each it compares at most as many stems with the path as their count has binary digits, and
-    /// one, and takes a link for each stem that begins the path. It takes no memory.
+    /// three, and takes a link for each stem that begins the path. It takes no memory.
     pub fn reaches(&self, path: &[u8], is_dir: Option<bool>) -> bool
         ensures { (stems : List StemParts) → IsTableOf stems self.now
             → result ≡ list_any (λ stem. stem_reaches stem path.now is_dir) stems }
     {
-        self.exact.reach(path, false, is_dir) || self.folded.reach(path, true, is_dir)
+        self.reaches_with_hints(path, is_dir, &mut StemHints::new())
+    }
+
+    /// The same, with hints of the caller's. Where paths come in byte order with the same hints, it often compares three stems
+    /// in each list.
+    pub fn reaches_with_hints(
+        &self,
+        path: &[u8],
+        is_dir: Option<bool>,
+        hints: &mut StemHints,
+    ) -> bool
+        ensures { (stems : List StemParts) → IsTableOf stems self.now
+            → result ≡ list_any (λ stem. stem_reaches stem path.now is_dir) stems }
+    {
+        self.exact.reach(path, false, is_dir, &mut hints.exact)
+            || self.folded.reach(path, true, is_dir, &mut hints.folded)
     }
 }

@@ -1,5 +1,6 @@
 -- An input cut at the first line `--`.
-use Rattle.std.proofs.Common.{◌≡◌, ◌≢◌, ◌⊎◌, ℕ, zero, suc, ◌+◌, ◌-◌, ◌<◌, ◌≤◌, Bool, true, false, refl, sym, ◌∙◌, ap, subst, inl, inr, List, [], ◌∷◌, ◌++◌, length, take, drop, slice_index, append_assoc, arith, length-append, length-take-le, one-add, add-one, ◌==◌}
+use Rattle.std.proofs.Common.{◌≡◌, ◌≢◌, ◌⊎◌, ℕ, zero, suc, ◌+◌, ◌-◌, ◌<◌, ◌≤◌, Bool, true, false, refl, sym, ◌∙◌, ap, subst, inl, inr, List, [], ◌∷◌, ◌++◌, Result, Ok, Err, length, take, drop, slice_index, append_assoc, arith, length-append, length-take-le, one-add, add-one, ◌==◌}
+use Rattle.std.specs.Prelude.{OnOk}
 use Rattle.std.specs.List.{list_any, before_first, after_first, concat}
 use Rattle.std.proofs.lemmas.Bool.{cases_Bool, eqb-true, cond-true, cond-false}
 use Rattle.std.proofs.lemmas.List.{append-nil, drop_all, nil_from_length}
@@ -120,7 +121,7 @@ lines-back (x ∷ xs) ys (b ∷ bs) e =
     lines-back xs ys (drop n all) others
 
 -- Each such input is.
-pub input_is_in_parts : InputIsInParts
+input_is_in_parts : InputIsInParts
 input_is_in_parts input h =
     let cut = cut_at is_end_line (lines_of input) h in
     let before = before_first is_end_line (lines_of input) in
@@ -183,3 +184,8 @@ module _ (input : List ℕ) (at : ℕ) (line : List ℕ) (lines others : List (L
 -- the bytes that lines are of
 pub concat-of : (bs : List ℕ) (lines : List (List ℕ)) → lines_of bs ≡ lines → bs ≡ concat lines
 concat-of bs lines e = sym (concat-lines_of bs) ∙ ap concat e
+
+-- Whatever a result is.
+pub parts-on_ok : {A E : Type 0} (result : Result A E) → OnOk result InputIsInParts
+parts-on_ok (Ok value) = input_is_in_parts
+parts-on_ok (Err error) = tt

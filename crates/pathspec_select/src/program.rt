@@ -73,7 +73,6 @@ pub fn run<R: Read, W: Write>(
 /// The first fault, in this order: [`Refusal::Read`]; [`Refusal::Specs`] and [`Refusal::Spec`], where the specs stand in the
 /// input; [`Refusal::Line`], whose number counts the records of the listing alone; [`Refusal::Write`]. [`Refusal::Memory`]
 /// comes at its place among them, and where the look-up fails. Nothing is written before a fault, but for a write's.
-#[tactic(auto, using(crate::proofs::InputProofs::input_is_in_parts))]
 pub fn run_with<R: Read, W: Write, L: LookUp<Fault = AllocError>>(
     alloc: Global,
     job: &Job,

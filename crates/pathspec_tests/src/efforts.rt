@@ -141,14 +141,14 @@ fn one_of_a_thousand_files_is_found_by_few_comparisons(rt: HostRuntime) -> Resul
 }
 
 #[test]
-fn paths_that_fall_to_the_head_of_the_last_compare_two(rt: HostRuntime) -> Result<(), Fail> {
+fn paths_near_the_head_of_the_last_compare_one(rt: HostRuntime) -> Result<(), Fail> {
     const ROWS: &[Telling] = &[
         (0, "d7/f", (Some((7, VERBATIM)), 1), None),
-        (0, "d7/f", (Some((7, VERBATIM)), 1), Some(2)),
-        (0, "d7/f/a", (Some((7, PREFIX)), 1), Some(2)),
-        (0, "d7/f/b", (Some((7, PREFIX)), 1), Some(2)),
-        (0, "d7/fa", (None, 1), Some(2)),
-        (0, "d7/g", (None, 0), Some(2)),
+        (0, "d7/f", (Some((7, VERBATIM)), 1), Some(1)),
+        (0, "d7/f/a", (Some((7, PREFIX)), 1), Some(1)),
+        (0, "d7/f/b", (Some((7, PREFIX)), 1), Some(1)),
+        (0, "d7/fa", (None, 1), Some(1)),
+        (0, "d7/g", (None, 0), Some(1)),
     ];
     let search = search_of_many(rt.alloc(), 1000, Texts::Files)?;
     assert_told(&rt, rt.alloc(), search, ROWS)

@@ -10,7 +10,7 @@ ghost use Rattle.gix_pathspec.specs.Search.{specs_of};
 
 use crate::search::spec::CompiledSpec;
 use pathspec_heads::paths::PathTable;
-use pathspec_heads::tables::StemTable;
+use pathspec_heads::tables::{StemHints, StemTable};
 use std::alloc::{AllocError, Global};
 
 /// What specs reach, and what their excludes take whole. It is made once, and a question goes through no list of specs.
@@ -60,15 +60,20 @@ impl Reach {
         ensures { (specs : List Spec) → IsReachOf specs self.now
             → result ≡ list_any (λ s. is_include s && reaches s path.now is_dir) specs }
     {
-        self.reaches_live(path, is_dir) || self.buried.reaches(path, is_dir)
+        self.reaches_live(path, is_dir, &mut StemHints::new()) || self.buried.reaches(path, is_dir)
     }
 
     /// Whether an include that no exclude buries reaches the path, at the same cost.
-    pub(super) fn reaches_live(&self, path: &[u8], is_dir: Option<bool>) -> bool
+    pub(super) fn reaches_live(
+        &self,
+        path: &[u8],
+        is_dir: Option<bool>,
+        hints: &mut StemHints,
+    ) -> bool
         ensures { (specs : List Spec) → IsReachOf specs self.now
             → result ≡ reaches_live specs path.now is_dir }
     {
-        self.includes_all || self.live.reaches(path, is_dir)
+        self.includes_all || self.live.reaches_with_hints(path, is_dir, hints)
     }
 
     /// Whether an exclude takes the directory whole by its path, at the cost of [`PathTable::takes`].

@@ -28,9 +28,11 @@ impl Search {
     /// is no.
     ///
     /// In each of ten lists, six of stems of includes and four of paths of excludes, it compares the path with at most as many as
-    /// their count has binary digits, and one. Nothing counts these. Then it asks, one by one, the excludes whose glob ends with `**`, or in a shell glob with `*`, and
-    /// those without case that have a prefix directory: those whose head begins the directory, up to the first that takes it. It
-    /// counts these questions and the comparisons of heads in the scratch, as a match does. It takes no memory.
+    /// their count has binary digits, and three. Of stems these are often three where one walker asks of directories in byte
+    /// order: its scratch keeps where each search ended. Nothing counts these. Then it asks, one by one, the excludes whose glob
+    /// ends with `**`, or in a shell glob with `*`, and those without case that have a prefix directory: those whose head begins
+    /// the directory, up to the first that takes it. It counts these questions and the comparisons of heads in the scratch, as a
+    /// match does. It takes no memory.
     pub fn may_skip(&self, directory: BStr<'_>, scratch: &mut Scratch) -> bool
         requires { Fits self.now.specs scratch.old }
         ensures answer { result ≡ may_skip (specs_of self.now.specs) (bstr_bytes directory.entry) }
@@ -68,20 +70,22 @@ impl Search {
         if path.is_empty() {
             return false;
         }
-        if self.skips_by_tables(path) {
+        if self.skips_by_tables(path, scratch) {
             return true;
         }
         self.takers.has_taker(directory, scratch)
     }
 
     /// Whether a walk may skip a directory, as far as tables tell.
-    fn skips_by_tables(&self, path: &[u8]) -> bool
-        ensures { result ≡ skips_by_tables (specs_of self.now.specs) path.now }
+    fn skips_by_tables(&self, path: &[u8], scratch: &mut Scratch) -> bool
+        ensures answer { result ≡ skips_by_tables (specs_of self.now.specs) path.now }
+        ensures scratch { scratch.new ≡ scratch.old }
     {
         let reach = &self.reach;
         if !self.agrees_with_common_prefix(path) || reach.excludes_all {
             return true;
         }
-        reach.takes(path) || reach.has_include && !reach.reaches_live(path, Some(true))
+        reach.takes(path)
+            || reach.has_include && !reach.reaches_live(path, Some(true), &mut scratch.stems)
     }
 }

@@ -187,7 +187,8 @@ impl Pattern {
             (remaining_components walk.now.own) walk.now.stack.names) }
         ensures err { IfErr result IsMemory }
     {
-        let mut path = Vec::new(*self.path.allocator());
+        // As long as the path was: what stands in front of it makes it grow once.
+        let mut path = Vec::with_capacity(*self.path.allocator(), self.path.len())?;
         let count = self.directory_count(walk);
         write_names(&mut path, &walk.stack, 0, count)?;
         let front = path.len();

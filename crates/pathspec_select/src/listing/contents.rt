@@ -11,6 +11,7 @@ use crate::listing::outline::Outline;
 use bstr::BStr;
 use pathspec_parts::tree::{Entries as _, Steps};
 use std::alloc::{AllocError, Global};
+use std::fmt;
 use std::marker::Model;
 use thiserror::Error;
 
@@ -29,9 +30,15 @@ pub enum ListingError {
 ///
 /// It is walked where it lies: no name is copied. A file takes eight bytes where its path is shorter than 2^16 bytes and begins
 /// in the first 2^32 bytes of the listing, and any other entry 24, or 32 where its path is longer.
-#[derive(Debug, Drop)]
+#[derive(Drop)]
 pub struct Listing<'a> {
     outline: Outline<'a>,
+}
+
+impl fmt::Debug for Listing<'_> {
+    fn fmt<W: fmt::Write>(&self, f: &mut fmt::Formatter<W>) -> fmt::Result {
+        f.debug_struct("Listing").field("len", &self.len()).finish()
+    }
 }
 
 impl<'a> Model for Listing<'a> {

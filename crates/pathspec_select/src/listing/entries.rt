@@ -14,7 +14,7 @@ use pathspec_parts::split;
 use std::alloc::AllocError;
 
 /// Why a record isn't added.
-#[derive(Clone, Copy, Debug)]
+#[derive(Clone, Copy)]
 pub(super) enum RecordError {
     /// A name in it is empty.
     EmptyName,

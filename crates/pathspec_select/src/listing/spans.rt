@@ -10,7 +10,7 @@ use std::marker::Model;
 const HALF: usize = 1 << 32;
 
 /// An entry in numbers.
-#[derive(Clone, Copy, Debug)]
+#[derive(Clone, Copy)]
 pub(super) struct Span {
     /// Where its path begins in the listing.
     pub(super) start: usize,
@@ -22,14 +22,14 @@ pub(super) struct Span {
 }
 
 /// Where the path of an entry begins, and the end of its [`Span`].
-#[derive(Clone, Copy, Debug)]
+#[derive(Clone, Copy)]
 struct Bounds {
     start: usize,
     end: usize,
 }
 
 /// An entry in eight bytes.
-#[derive(Clone, Copy, Debug)]
+#[derive(Clone, Copy)]
 enum Packed {
     /// A file whose numbers are small.
     File { length: u16, start: u32 },
@@ -40,7 +40,7 @@ enum Packed {
 }
 
 /// Entries in numbers: a file mostly takes eight bytes, and a directory 24.
-#[derive(Debug, Drop)]
+#[derive(Drop)]
 pub(super) struct Spans {
     packed: Vec<Packed>,
     bounds: Vec<Bounds>,

@@ -4,6 +4,7 @@ use Rattle.pathspec_select.specs.Requests.{numbered_specs}
 use Rattle.pathspec_select.specs.Requests.JobSpecs.{FromWords, FromInput}
 use Rattle.pathspec_select.specs.Program.{IsAllOf}
 use Rattle.pathspec_select.proofs.ChosenProofs.{writes_records}
+use Rattle.pathspec_select.proofs.InputProofs.{parts-on_ok}
 use Rattle.pathspec_select.proofs.ProgramProofs.{ends-parts, parts-built}
 use Rattle.pathspec_select.proofs.program.run_with.Goals as goal
 
@@ -38,3 +39,9 @@ pub returns-clause-chosen : goal.returns-clause-chosen
 returns-clause-chosen g c =
     writes_records (g.L.LookUp.table c.args.look_up.now) (numbered_specs c.args.job.now.specs) c.args.job.now.separator (g.R.Read.remaining c.args.reader.now) (g.W.Write.contents c.args.writer.now) (g.W.Write.contents c.write_chosen-in-FromInput.new.writer) c.write_chosen-in-FromInput.result
     (returns-clause-ends g c)
+
+pub returns-in-FromWords-clause-parts : goal.returns-in-FromWords-clause-parts
+returns-in-FromWords-clause-parts g c = parts-on_ok c.write_chosen.result
+
+pub returns-clause-parts : goal.returns-clause-parts
+returns-clause-parts g c = parts-on_ok c.write_chosen-in-FromInput.result

@@ -4,7 +4,7 @@ use Rattle.std.specs.List.{list_any}
 use Rattle.bstr.specs.BStr.{bstr_bytes}
 use Rattle.gix_pathspec.specs.Bytes.{is_empty}
 use Rattle.gix_pathspec.specs.Specs.{Spec}
-use Rattle.gix_pathspec.specs.Room.{tokens_of}
+use Rattle.gix_pathspec.specs.Room.{tokens_of, ScratchContents}
 use Rattle.gix_pathspec.specs.Search.{Numbered, SearchContents, specs_of}
 use Rattle.gix_pathspec.specs.SkipTables.{skips_by_tables}
 use Rattle.gix_pathspec.specs.Skipping.{may_skip}
@@ -30,16 +30,16 @@ returns-then-is_empty-clause-answer c = skips-no-empty _ (bstr_bytes c.args.dire
 
 pub returns-then-skips_by_tables-clause-answer : goal.returns-then-skips_by_tables-clause-answer
 returns-then-skips_by_tables-clause-answer c =
-    by-tables _ (bstr_bytes c.args.directory) (test-empty (bstr_bytes c.args.directory) c.as_bytes-path.ensures c.is_empty.ensures c.if-is_empty.false) c.as_bytes-path.ensures c.skips_by_tables.ensures c.if-skips_by_tables.true
+    by-tables _ (bstr_bytes c.args.directory) (test-empty (bstr_bytes c.args.directory) c.as_bytes-path.ensures c.is_empty.ensures c.if-is_empty.false) c.as_bytes-path.ensures c.skips_by_tables.ensures.answer c.if-skips_by_tables.true
 
 pub has_taker-requires-clause-room : goal.has_taker-requires-clause-room
 has_taker-requires-clause-room c =
     let same : c.self.inside.specs ≡ c.args.self.now.specs = ap (λ (s : SearchContents). s.specs) c.self.view_is in
     let fits = takers-fit c.self.inside.specs c.args.scratch.now.room.tokens (subst (λ (ns : List Numbered). All (λ n. tokens_of n.spec ≤ c.args.scratch.now.room.tokens) ns) (sym same) c.requires.globs) in
-    rw (c.begin.ensures.room, c.self.invariant.are_takers) fits
+    rw (ap (λ (s : ScratchContents). s.room) c.skips_by_tables.ensures.scratch, c.begin.ensures.room, c.self.invariant.are_takers) fits
 
 pub returns-clause-answer : goal.returns-clause-answer
 returns-clause-answer c =
     let same : c.self.inside.specs ≡ c.args.self.now.specs = ap (λ (s : SearchContents). s.specs) c.self.view_is in
     let takers = c.self.invariant.are_takers ∙ ap (λ (ns : List Numbered). takers_of (specs_of ns)) same in
-    by-takers _ (bstr_bytes c.args.directory) (test-empty (bstr_bytes c.args.directory) c.as_bytes-path.ensures c.is_empty.ensures c.if-is_empty.false) c.as_bytes-path.ensures c.skips_by_tables.ensures c.if-skips_by_tables.false (c.has_taker.ensures.answer ∙ ap (λ ts. list_any (λ s. taker_takes s (bstr_bytes c.args.directory)) ts) takers)
+    by-takers _ (bstr_bytes c.args.directory) (test-empty (bstr_bytes c.args.directory) c.as_bytes-path.ensures c.is_empty.ensures c.if-is_empty.false) c.as_bytes-path.ensures c.skips_by_tables.ensures.answer c.if-skips_by_tables.false (c.has_taker.ensures.answer ∙ ap (λ ts. list_any (λ s. taker_takes s (bstr_bytes c.args.directory)) ts) takers)

@@ -5,7 +5,7 @@ use Rattle.pathspec_heads.proofs.places.GroupsByHead.new.Goals as goal
 
 -- the heads of the chains are those of the groups
 heads_are : (c : goal.In_ok-chains) → c.in_ok-chains.chains ≡ map (λ head. head.items) c.in_ok-groups.groups.heads.items
-heads_are c = c.in_ok-chains.ensures ∙ c.new-2.ensures ∙ c.new.ensures
+heads_are c = c.in_ok-chains.ensures ∙ c.new-2.ensures ∙ c.in_ok-texts.ensures
 
 pub invariant_of-result : goal.invariant_of-result
 invariant_of-result c =

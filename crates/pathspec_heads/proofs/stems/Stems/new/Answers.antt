@@ -6,6 +6,6 @@ use Rattle.pathspec_heads.proofs.stems.Stems.new.Goals as goal
 
 pub returns : goal.returns
 returns c =
-    subst (HasSameTexts (map (λ text. text.items) c.args.stems.items)) (sym c.new-texts.ensures)
+    subst (HasSameTexts (map (λ text. text.items) c.args.stems.items)) (sym c.in_ok-texts.ensures)
     (texts-stay (map (λ text. text.items) c.args.stems.items) _ c.in_ok-groups.groups.starts.items c.in_ok-groups.groups.order.items
     (all-grouped (map (λ text. text.items) c.args.stems.items) _ c.in_ok-entries.ensures _ _ _ (counted-view (λ entry. (entry.0.items, entry.1)) c.in_ok-entries.entries.items _ _ _ c.in_ok-groups.ensures)))

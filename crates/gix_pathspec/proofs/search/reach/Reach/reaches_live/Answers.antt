@@ -10,5 +10,5 @@ returns-then-self c = λ specs h. first-holds _ _ _ c.if-self.true h.includes_al
 
 pub returns-else-self : goal.returns-else-self
 returns-else-self c = λ specs h.
-    let stems = c.reaches.ensures (stems_of false specs specs) (subst (IsTableOf (stems_of false specs specs)) (sym c.deref.ensures) h.live) in
+    let stems = c.reaches_with_hints.ensures (stems_of false specs specs) (subst (IsTableOf (stems_of false specs specs)) (sym c.deref.ensures) h.live) in
     second-holds _ _ _ _ c.if-self.false h.includes_all stems

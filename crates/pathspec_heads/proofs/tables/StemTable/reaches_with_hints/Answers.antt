@@ -2,7 +2,7 @@
 use Rattle.std.proofs.Common.{◌≡◌, ◌∙◌, sym, ap, ◌||◌, true, false}
 use Rattle.pathspec_heads.specs.Tables.{TextTable, lists_reach}
 use Rattle.pathspec_heads.proofs.TableProofs.{table-reaches}
-use Rattle.pathspec_heads.proofs.tables.StemTable.reaches.Goals as goal
+use Rattle.pathspec_heads.proofs.tables.StemTable.reaches_with_hints.Goals as goal
 
 pub returns-then-reach : goal.returns-then-reach
 returns-then-reach c = λ stems is.
