@@ -1,15 +1,16 @@
 -- A second normalising without a prefix leaves the spec: the components of joined names are those names, and names by themselves all survive.
-use Rattle.std.proofs.Common.{◌≡◌, ℕ, zero, suc, ◌-◌, Bool, true, false, not, ◌&&◌, ◌||◌, cond, refl, sym, ◌∙◌, ap, subst, List, [], ◌∷◌, ◌++◌, length, drop, ◌==◌, inl, inr, Option, Some, None, Ok}
+use Rattle.std.proofs.Common.{◌≡◌, ℕ, zero, suc, ◌-◌, Bool, true, false, not, ◌&&◌, ◌||◌, cond, refl, sym, ◌∙◌, ap, subst, List, [], ◌∷◌, ◌++◌, length, drop, arith, ◌==◌, inl, inr, Option, Some, None, Ok}
 use Rattle.std.proofs.lemmas.Bool.{cases_Bool, and_parts, or_parts, or_from, not-true, and_left, ne_eqb, eqb-false}
 use Rattle.std.proofs.lemmas.List.{append-nil}
 use Rattle.std.proofs.lemmas.Slice.Eq.{bytes_eq-Decides}
-use Rattle.std.proofs.lemmas.List.Splits.{slice_split_none, slice_split_at}
+use Rattle.std.proofs.lemmas.List.Splits.{slice_split_none, slice_split_at, join_with_byte-slice_split}
 use Rattle.std.proofs.lemmas.List.Elements.{All-from_recursion}
 use Rattle.std.specs.Prelude.{codes, filter}
-use Rattle.std.specs.List.{list_any, onto_first, AllByRecursion}
+use Rattle.std.specs.List.{list_any, list_all, onto_first, AllByRecursion}
 use Rattle.pathspec_parts.specs.Bytes.{slash, is_empty}
-use Rattle.pathspec_parts.specs.Paths.{pieces, is_component, is_parent_dir, components, join_names, is_absolute, strip_names}
-use Rattle.pathspec_pattern.specs.Specs.{Spec, top, has}
+use Rattle.pathspec_parts.specs.Paths.{pieces, is_component, is_name, is_parent_dir, is_clean_prefix, components, join_names, is_absolute, strip_names}
+use Rattle.pathspec_pattern.specs.Specs.{Spec, top, has, is_boundary, has_boundary}
+use Rattle.pathspec_pattern.specs.Resolving.{is_resolved}
 use Rattle.pathspec_pattern.specs.NormalForm.{Base, base, base_names, own_components, is_inside, new_prefix_length, climb, survivors, components_to_resolve, resolved, resolve, normal_form, stays_empty, NormalFormIsNormal}
 use Rattle.pathspec_pattern.specs.NormalForm.Base.{Root, Prefix, Top}
 use Rattle.pathspec_pattern.proofs.NormalFormProofs.{climb-name}
@@ -151,10 +152,10 @@ settled-relative n (empty e z) = ap is_absolute e
 settled-relative n (here e nil z) = ap is_absolute e
 settled-relative n (named name more a e z) = ap is_absolute e ∙ is_absolute-join_names name more a.0
 
--- a relative path is resolved by its own components
-normal_form-relative : (root : List ℕ) (n : Spec) (cs : List (List ℕ)) → is_absolute n.path ≡ false → components n.path ≡ cs → climb cs ≡ 0 → normal_form [] root n ≡ Ok (resolved Top n cs (survivors cs))
+-- a relative path on the top is resolved by its own components
+normal_form-relative : (prefix root : List ℕ) (n : Spec) (cs : List (List ℕ)) → (is_empty prefix || has top n.signature) ≡ true → is_absolute n.path ≡ false → components n.path ≡ cs → climb cs ≡ 0 → normal_form prefix root n ≡ Ok (resolved Top n cs (survivors cs))
 unfolding normal_form
-normal_form-relative root n cs r e c = rw (r, e, c) refl
+normal_form-relative prefix root n cs t r e c = rw (r, t, e, c) refl
 
 -- a spec that gets its own path and nil
 with_path : (n : Spec) (path : List ℕ) (nil : Bool) (len : ℕ) → path ≡ n.path → nil ≡ n.nil → len ≡ n.prefix_length → record n { path = path; nil = nil; prefix_length = len } ≡ n
@@ -179,15 +180,15 @@ resolved-here n e nil z = rw (e, nil, z) refl
 resolved-name_count : (n : Spec) (name : List ℕ) (more : List (List ℕ)) → n.path ≡ join_names (name ∷ more) → (n.nil ≡ true → n.prefix_length ≡ 0) → resolved Top n (name ∷ more) (name ∷ more) ≡ n
 resolved-name_count n name more e z = with_path n (join_names (name ∷ more)) n.nil (new_prefix_length Top n (name ∷ more) (name ∷ more)) (sym e) refl (same_length n (name ∷ more) (name ∷ more) e z)
 
--- what stands in normal form stays
-again : (root : List ℕ) (n : Spec) → IsSettled n → normal_form [] root n ≡ Ok n
+-- what stands in normal form stays, on the top
+again : (prefix root : List ℕ) (n : Spec) → (is_empty prefix || has top n.signature) ≡ true → IsSettled n → normal_form prefix root n ≡ Ok n
 unfolding climb
-again root n (empty e z) = normal_form-relative root n [] (ap is_absolute e) (ap components e) refl ∙ ap Ok (resolved-empty n e z)
-again root n (here e nil z) = normal_form-relative root n [] (ap is_absolute e) (ap components e) refl ∙ ap Ok (resolved-here n e nil z)
-again root n (named name more a e z) =
+again prefix root n t (empty e z) = normal_form-relative prefix root n [] t (ap is_absolute e) (ap components e) refl ∙ ap Ok (resolved-empty n e z)
+again prefix root n t (here e nil z) = normal_form-relative prefix root n [] t (ap is_absolute e) (ap components e) refl ∙ ap Ok (resolved-here n e nil z)
+again prefix root n t (named name more a e z) =
     let name_count = name ∷ more in
     let r = settled-relative n (named name more a e z) in
-    normal_form-relative root n name_count r (ap components e ∙ components-join_names name_count a) (climb-name_count name_count a)
+    normal_form-relative prefix root n name_count t r (ap components e ∙ components-join_names name_count a) (climb-name_count name_count a)
     ∙ ap Ok (ap (λ left. resolved Top n name_count left) (survivors-name_count name_count a) ∙ resolved-name_count n name more e z)
 
 -- what is resolved stands in normal form
@@ -216,4 +217,42 @@ normal_form-settled prefix root s n h = resolve-settled (base prefix s) s n (own
 
 -- A second normalising without a prefix, with whatever root, leaves the spec.
 pub normal_form_again : NormalFormIsNormal
-normal_form_again prefix root s n h other = again other n (normal_form-settled prefix root s n h)
+normal_form_again prefix root s n h other = again [] other n refl (normal_form-settled prefix root s n h)
+
+-- ---- a resolved spec stays
+
+-- names without a slash are whole
+all-whole : (parts : List (List ℕ)) → AllByRecursion IsUncut parts → list_all is_name parts ≡ true → AllByRecursion IsWholeName parts
+all-whole [] a h = tt
+all-whole (part ∷ parts) a h =
+    let p = and_parts (is_name part) (list_all is_name parts) h in
+    let q = and_parts (is_component part) (not (is_parent_dir part)) p.0 in
+    ((not-true (is_parent_dir part) q.1, (q.0, a.0)), all-whole parts a.1 p.1)
+
+-- an empty path has the boundary 0 alone
+boundary-empty : (n : ℕ) → is_boundary [] n ≡ true → n ≡ 0
+boundary-empty zero h = refl
+boundary-empty (suc n) h = let later : (suc n == 0) ≡ false = ne_eqb (suc n) 0 (λ e. omega (arith, e)) in let clash = rw later at h in cc
+
+-- a path of these names is settled
+whole-settled : (s : Spec) (names : List (List ℕ)) → has_boundary s ≡ true → (s.nil ≡ true → s.prefix_length ≡ 0) → s.path ≡ join_names names → AllByRecursion IsWholeName names → IsSettled s
+whole-settled s [] b z e a = empty e (boundary-empty s.prefix_length (subst (λ path. is_boundary path s.prefix_length ≡ true) e b))
+whole-settled s (name ∷ more) b z e a = named name more a e z
+
+-- so is a clean one
+clean-settled : (s : Spec) → has_boundary s ≡ true → (s.nil ≡ true → s.prefix_length ≡ 0) → is_clean_prefix s.path ≡ true → IsSettled s
+clean-settled s b z clean = by_path s.path refl clean
+  where
+    by_path : (path : List ℕ) → s.path ≡ path → is_clean_prefix path ≡ true → IsSettled s
+    by_path [] e c = whole-settled s [] b z e tt
+    by_path (x ∷ xs) e c = whole-settled s (pieces (x ∷ xs)) b z (e ∙ sym (join_with_byte-slice_split slash (x ∷ xs))) (all-whole (pieces (x ∷ xs)) (pieces-uncut (x ∷ xs)) c)
+
+-- A spec that is resolved as it stands is its own normal form.
+pub resolved_stays : (prefix root : List ℕ) (s : Spec) → has_boundary s ≡ true → (s.nil ≡ true → s.prefix_length ≡ 0) → is_resolved (base prefix s) s ≡ true → normal_form prefix root s ≡ Ok s
+resolved_stays prefix root s b z h = elim (cases_Bool (is_absolute s.path)) [
+  | inl a ↦ let k = rw a at h in cc
+  | inr r ↦ elim (cases_Bool (is_empty prefix || has top s.signature)) [
+    | inl t ↦ again prefix root s t (clean-settled s b z (rw (r, t) at h))
+    | inr j ↦ let k = rw (r, j) at h in cc
+  ]
+]

@@ -47,7 +47,7 @@ struct Resolved {
 
 impl Pattern {
     ghost use Rattle.pathspec_pattern.specs.Patterns.{pattern_spec, pattern_normal_form};
-    ghost use Rattle.pathspec_pattern.specs.Resolving.{resolved_spec};
+    ghost use Rattle.pathspec_pattern.specs.Resolving.{resolved_spec, is_resolved};
 
     /// Normalises the path to what it means from the top of the repository, when it is given in the directory `prefix`
     /// of a repository that lies at `root`. The prefix must be clean: names joined by single slashes, or empty.
@@ -62,7 +62,7 @@ impl Pattern {
     /// [`MagicSignature::MUST_BE_DIR`]: of `/r/a/b` in the root `/r` it is `a`. A nil pattern has none.
     ///
     /// It looks at each byte of the path, of the prefix and of the root a fixed number of times, and takes as much
-    /// memory as they are long, and some for each component.
+    /// memory as they are long, and some for each component. A clean path on the top of the repository stays, and takes none.
     ///
     /// # Errors
     /// [`Error::OutsideRoot`] for an absolute path that doesn't lie in the root or whose root isn't absolute,
@@ -96,11 +96,27 @@ impl Pattern {
         // Its prefix directory ends where the path or one of its names does, and a nil one has none.
         ensures directory { NormalFormHasBoundary × NilHasNoDirectory }
     {
+        if self.is_resolved(prefix) {
+            return Ok(());
+        }
         let resolved = self.resolved(prefix, root)?;
         self.path = resolved.path;
         self.nil = resolved.nil;
         self.prefix_length = resolved.prefix_length;
         Ok(())
+    }
+
+    /// Whether the pattern is resolved as it stands: on the top of the repository, with a path that is clean, as a prefix is.
+    ///
+    /// It looks at each byte of the path once, and takes no memory.
+    fn is_resolved(&self, prefix: BStr<'_>) -> bool
+        ensures { result ≡ is_resolved (base (bstr_bytes prefix.entry) (pattern_spec self.now))
+            (pattern_spec self.now) }
+    {
+        match self.base(prefix) {
+            Base::Root | Base::Prefix(_) => false,
+            Base::Top => path::is_clean_prefix(self.path()),
+        }
     }
 
     /// What normalising changes.

@@ -1,9 +1,17 @@
 -- Each byte is skipped, taken or refused.
-use Rattle.std.proofs.Common.{◌≡◌, ◌++◌, ◌∷◌, [], get_or, sym, ◌∙◌, ap, arith}
+use Rattle.std.proofs.Common.{◌≡◌, ◌++◌, ◌∷◌, [], List, Result, Ok, Err, false, get_or, refl, sym, ◌∙◌, ap, arith}
 use Rattle.std.proofs.lemmas.Result.{err_from_is_err_and}
-use Rattle.pathspec_pattern.proofs.ListProofs.{value-skips, value-takes, value-refuses, value-trailing, value-all}
+use Rattle.pathspec_pattern.proofs.ListProofs.{in_front, value_from, value-skips, value-takes, value-refuses, value-trailing, value-all}
 use Rattle.pathspec_pattern.proofs.parse.lists.value.Goals.{then-not-escaped+in_ok-value_byte+in_ok-push, else-not-escaped}
 use Rattle.pathspec_pattern.proofs.parse.lists.value.Goals as goal
+
+-- nothing is made yet
+front-nothing : {A E : Type 0} (coming : Result (List A) E) → coming ≡ in_front [] coming
+front-nothing (Ok more) = refl
+front-nothing (Err e) = refl
+
+pub loop-byte-init : goal.loop-byte-init
+loop-byte-init c = rw c.new-value.ensures.items (front-nothing (value_from c.args.written.now false c.args.written.now))
 
 pub returns-in_err-value_byte : goal.returns-in_err-value_byte
 returns-in_err-value_byte c =

@@ -123,6 +123,12 @@ compares_specs p q =
           (and_from nil len (nil_from p.nil q.nil (ap (λ s. s.nil) h)) (eq-eqb p.prefix_length q.prefix_length (ap (λ s. s.prefix_length) h)))))),
     )
 
+pub invariant_of-result : goal.invariant_of-result
+invariant_of-result c = record {
+  boundary = rw (each_same c.args.self.now.path.items c.in_ok-clone.field-0.items c.in_ok-clone.ensures.cases.0) c.args.self.now.boundary;
+  nil_has_none = c.args.self.now.nil_has_none;
+}
+
 pub returns-in_err-clone-clause-equal : goal.returns-in_err-clone-clause-equal
 returns-in_err-clone-clause-equal c = compares_specs
 
