@@ -21,7 +21,7 @@ first-drop p (x ∷ xs) (suc s) h = elim (cases_Bool (p x)) [
       rw f (omega (arith, first-drop p xs s le))
 ]
 
-first-Some : {X : Type 0} (p : X → Bool) (xs : List X) (place : ℕ) → position p xs ≡ Some place → (position_or_len p xs < length xs) × (position_or_len p xs ≡ place)
+pub first-Some : {X : Type 0} (p : X → Bool) (xs : List X) (place : ℕ) → position p xs ≡ Some place → (position_or_len p xs < length xs) × (position_or_len p xs ≡ place)
 first-Some p xs place e = grind (arith, nat_tests)
 
 first-None : {X : Type 0} (p : X → Bool) (xs : List X) → position p xs ≡ None → length xs ≤ position_or_len p xs

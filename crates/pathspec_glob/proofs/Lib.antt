@@ -5,6 +5,7 @@ pub mod RunProofs
 pub mod GlobProofs
 pub mod TailProofs
 pub mod StemProofs
+pub mod HeadProofs
 pub mod PartProofs
 pub mod EndProofs
 pub mod PlaceProofs

@@ -51,6 +51,20 @@ impl End {
         })
     }
 
+    /// Tokens that want these bytes, one each. The cost is linear in them, and so is the memory.
+    ///
+    /// # Errors
+    /// Memory runs out.
+    pub fn of_bytes(alloc: Global, bytes: &[u8], mode: Mode) -> Result<End, AllocError>
+        ensures { IfOk result (λ end.
+            end ≡ record { mode = mode; tokens = plain_tokens bytes.now }) }
+    {
+        let bytes = CountedBytes::new(Vec::from_slice(alloc, bytes)?);
+        Ok(End {
+            tokens: EndTokens::Bytes(bytes, mode),
+        })
+    }
+
     /// How many tokens they are.
     pub fn len(&self) -> usize
         ensures { result ≡ length self.now.tokens }

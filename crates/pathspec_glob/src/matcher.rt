@@ -1,5 +1,9 @@
 //! Globs and texts: the head of a glob and its tail first, and then what stands between.
-ghost use Rattle.std.specs.Prelude.{◌≡◌, ◌≤◌, ◌↔◌, length, IfOk, IsTrue};
+ghost use Rattle.std.specs.Prelude.{◌≡◌, ◌==◌, ◌≤◌, ◌++◌, ◌↔◌, length, IfOk, IfSome, IsFalse, IsTrue};
+ghost use Rattle.std.specs.List.{list_any};
+ghost use Rattle.pathspec_glob.specs.Bytes.{first_is, is_wildcard, star};
+ghost use Rattle.pathspec_glob.specs.ByteSets.{listed_tokens};
+ghost use Rattle.pathspec_glob.specs.GlobParts.{behind_head, head_of};
 ghost use Rattle.pathspec_glob.specs.Globs.{glob_tokens, is_tail_pattern, AnswersGlob, AnswersTail, GlobIsRelation};
 ghost use Rattle.pathspec_glob.specs.Counts.{Counts};
 
@@ -8,7 +12,7 @@ use crate::middle::Middle;
 use crate::scratch::Scratch;
 use crate::source::Source;
 use crate::tokens::Tokens;
-use crate::{Case, Mode};
+use crate::{Case, Mode, first_wildcard};
 use std::alloc::{AllocError, Global};
 use std::fmt;
 use std::marker::Model;
@@ -30,14 +34,6 @@ struct Parts {
     middle: Middle,
     /// Those behind.
     tail: End,
-}
-
-/// The tokens of a pattern in three parts, as [`Parts`] have them.
-#[derive(Drop)]
-struct PartTokens {
-    head: Tokens,
-    middle: Tokens,
-    tail: Tokens,
 }
 
 impl Model for Glob {
@@ -143,45 +139,64 @@ impl Parts {
         ensures parted { IfOk result (λ parts.
             IsParted mode pattern.now parts.head parts.middle parts.tail) }
     {
-        let PartTokens { head, middle, tail } = PartTokens::of_pattern(alloc, pattern, mode)?;
-        let (head, tail) = ends_of_tokens(alloc, head, tail)?;
+        let (head, mut behind) = split_head(alloc, pattern, mode)?;
+        let middle_size = behind.wide_size();
+        let tail = behind.split_off(middle_size)?;
+        // They were read into room for one a byte, and get a list that has none to spare.
+        let middle = behind.split_off(0)?;
         Ok(Parts {
             source: Source::of(pattern),
             head,
             middle: Middle::of_tokens(alloc, middle)?,
-            tail,
+            tail: End::of_tokens(alloc, tail)?,
         })
     }
 }
 
-/// The head and the tail of these tokens.
+/// The head of a pattern, and the tokens behind it. Where no other wildcard byte stands before the first star, the bytes
+/// before it are kept as they stand, and aren't read as tokens.
 ///
 /// # Errors
 /// Memory runs out.
-fn ends_of_tokens(alloc: Global, head: Tokens, tail: Tokens) -> Result<(End, End), AllocError>
-    ensures head { IfOk result (λ ends. ends.0 ≡ head) }
-    ensures tail { IfOk result (λ ends. ends.1 ≡ tail) }
+fn split_head(alloc: Global, pattern: &[u8], mode: Mode) -> Result<(End, Tokens), AllocError>
+    ensures head { IfOk result (λ parts. parts.0
+        ≡ record { mode = mode; tokens = head_of (listed_tokens mode pattern.now) }) }
+    ensures behind { IfOk result (λ parts. parts.1
+        ≡ record { mode = mode; tokens = behind_head (listed_tokens mode pattern.now) }) }
 {
-    let head = End::of_tokens(alloc, head)?;
-    Ok((head, End::of_tokens(alloc, tail)?))
+    match split_at_star(pattern) {
+        Some((head, rest)) => {
+            let behind = Tokens::behind_head(alloc, head, rest, mode)?;
+            Ok((End::of_bytes(alloc, head, mode)?, behind))
+        }
+        None => split_tokens(alloc, Tokens::of_pattern(alloc, pattern, mode)?),
+    }
 }
 
-impl PartTokens {
-    ghost use Rattle.pathspec_glob.specs.GlobParts.{IsParted};
-
-    /// The tokens of a pattern, in their parts.
-    ///
-    /// # Errors
-    /// Memory runs out.
-    fn of_pattern(alloc: Global, pattern: &[u8], mode: Mode) -> Result<PartTokens, AllocError>
-        ensures { IfOk result (λ parts.
-            IsParted mode pattern.now parts.head parts.middle parts.tail) }
-    {
-        let mut head = Tokens::of_pattern(alloc, pattern, mode)?;
-        let head_size = head.head_size();
-        let mut middle = head.split_off(head_size)?;
-        let middle_size = middle.wide_size();
-        let tail = middle.split_off(middle_size)?;
-        Ok(PartTokens { head, middle, tail })
+/// What stands before the first wildcard byte of a pattern, and the rest, where that byte is a star.
+fn split_at_star(pattern: &[u8]) -> Option<(&[u8], &[u8])>
+    ensures plain { IfSome result (λ parts. IsFalse (list_any is_wildcard parts.0.now)) }
+    ensures wide { IfSome result (λ parts. IsTrue (first_is (λ b. b == star) parts.1.now)) }
+    ensures whole { IfSome result (λ parts. parts.0.now ++ parts.1.now ≡ pattern.now) }
+{
+    let (front, rest) = pattern.split_at(first_wildcard(pattern)?);
+    match rest {
+        [b'*', ..] => Some((front, rest)),
+        _ => None,
     }
+}
+
+/// The head of these tokens, and those behind it.
+///
+/// # Errors
+/// Memory runs out.
+fn split_tokens(alloc: Global, mut tokens: Tokens) -> Result<(End, Tokens), AllocError>
+    ensures head { IfOk result (λ parts. parts.0
+        ≡ record { mode = tokens.mode; tokens = head_of tokens.tokens }) }
+    ensures behind { IfOk result (λ parts. parts.1
+        ≡ record { mode = tokens.mode; tokens = behind_head tokens.tokens }) }
+{
+    let head_size = tokens.head_size();
+    let behind = tokens.split_off(head_size)?;
+    Ok((End::of_tokens(alloc, tokens)?, behind))
 }

@@ -1,9 +1,10 @@
 //! Patterns of globs, read as tokens (git's wildmatch).
-ghost use Rattle.std.specs.Prelude.{◌≡◌, ◌==◌, ◌+◌, ◌≤◌, codes, length, IfOk, IsTrue, IsFalse};
-ghost use Rattle.std.specs.List.{prefix_len};
-ghost use Rattle.pathspec_glob.specs.Bytes.{first_is, is_one_of, star};
-ghost use Rattle.pathspec_glob.specs.Tokens.{escaped_piece, bracket_piece, EndsPattern, is_deep, run_token, stars_piece, piece_of, StandsBefore};
-ghost use Rattle.pathspec_glob.specs.ByteSets.{listed_piece, listed_tokens};
+ghost use Rattle.std.specs.Prelude.{◌≡◌, ◌==◌, ◌+◌, ◌++◌, ◌||◌, ◌≤◌, codes, length, map, nat_eq, IfOk, IsTrue, IsFalse};
+ghost use Rattle.std.specs.List.{ends_with, list_any, prefix_len};
+ghost use Rattle.pathspec_glob.specs.Bytes.{first_is, is_empty, is_one_of, is_wildcard, star};
+ghost use Rattle.pathspec_glob.specs.Tokens.{escaped_piece, bracket_piece, EndsPattern, is_deep, run_token, stars_piece, piece_of, StandsBefore, tokens_from};
+ghost use Rattle.pathspec_glob.specs.ByteSets.{listed, listed_piece, listed_tokens};
+ghost use Rattle.pathspec_glob.specs.GlobParts.{behind_head};
 ghost use Rattle.pathspec_glob.specs.Tokens.Token.{One};
 ghost use Rattle.pathspec_glob.specs.GlobForms.{one_byte_view, token_view, tokens_view, piece_view};
 
@@ -29,9 +30,49 @@ struct Piece {
 pub fn tokens(alloc: Global, pattern: &[u8], mode: Mode) -> Result<Vec<Token>, AllocError>
     ensures { IfOk result (λ read. tokens_view read.items ≡ listed_tokens mode pattern.now) }
 {
-    let mut all = Vec::with_capacity(alloc, pattern.len())?;
-    let mut after_slash = true;
-    let mut rest = pattern;
+    tokens_from(alloc, mode, true, pattern)
+}
+
+/// The tokens of a pattern behind its head, where that is bytes without a wildcard, and the rest begins with a star. The
+/// cost is linear in the rest.
+///
+/// # Errors
+/// Memory runs out.
+pub fn behind_head(
+    alloc: Global,
+    head: &[u8],
+    rest: &[u8],
+    mode: Mode,
+) -> Result<Vec<Token>, AllocError>
+    requires plain { IsFalse (list_any is_wildcard head.now) }
+    requires wide { IsTrue (first_is (λ b. b == star) rest.now) }
+    ensures { IfOk result (λ read. tokens_view read.items
+        ≡ behind_head (listed_tokens mode (head.now ++ rest.now))) }
+{
+    tokens_from(alloc, mode, is_after_slash(head), rest)
+}
+
+/// Whether what follows this front of a pattern stands after a slash or begins the whole.
+fn is_after_slash(front: &[u8]) -> bool
+    ensures { result ≡ (is_empty front.now || ends_with nat_eq front.now (codes "/")) }
+{
+    front.is_empty() || front.ends_with(b"/")
+}
+
+/// The tokens of the rest of a pattern, which begins the whole or stands after a slash, or does neither.
+///
+/// # Errors
+/// Memory runs out.
+fn tokens_from(
+    alloc: Global,
+    mode: Mode,
+    mut after_slash: bool,
+    mut rest: &[u8],
+) -> Result<Vec<Token>, AllocError>
+    ensures { IfOk result (λ read. tokens_view read.items
+        ≡ map listed (tokens_from mode 0 after_slash rest.now)) }
+{
+    let mut all = Vec::with_capacity(alloc, rest.len())?;
     while let [byte, after @ ..] = rest {
         let Piece { token, size } = first_piece(alloc, mode, after_slash, *byte, after)?;
         let ends = is_dead(&token);

@@ -1,13 +1,13 @@
 //! The tokens of globs, as they are read from a pattern.
-ghost use Rattle.std.specs.Prelude.{◌≡◌, ◌+◌, ◌<◌, ◌≤◌, ◌^◌, length, take, drop, map, nat_lt, not, IfOk, IfSome, OnOk, IsTrue, ◌==◌};
-ghost use Rattle.std.specs.List.{prefix_len};
-ghost use Rattle.pathspec_glob.specs.Bytes.{slash};
+ghost use Rattle.std.specs.Prelude.{◌≡◌, ◌+◌, ◌++◌, ◌<◌, ◌≤◌, ◌^◌, length, take, drop, map, nat_lt, not, IfOk, IfSome, OnOk, IsFalse, IsTrue, ◌==◌};
+ghost use Rattle.std.specs.List.{list_any, prefix_len};
+ghost use Rattle.pathspec_glob.specs.Bytes.{first_is, is_wildcard, slash, star};
 ghost use Rattle.pathspec_glob.specs.GlobRelation.{is_same_byte, is_barred, takes, passes_over};
 ghost use Rattle.pathspec_glob.specs.GlobForms.{one_byte_view, token_view, tokens_view};
 ghost use Rattle.pathspec_glob.specs.GlobSteps.{is_wide, is_wide_at, may_pass_over_at, takes_byte, token_takes};
 ghost use Rattle.pathspec_glob.specs.OpenEnds.{is_any_run, is_open};
-ghost use Rattle.pathspec_glob.specs.ByteSets.{listed_token_list};
-ghost use Rattle.pathspec_glob.specs.GlobParts.{plain_tokens, head_size, takes_each, tests_each, wide_size, first_token_takes, first_token_tests, MatchAsFirst};
+ghost use Rattle.pathspec_glob.specs.ByteSets.{listed_tokens, listed_token_list};
+ghost use Rattle.pathspec_glob.specs.GlobParts.{plain_tokens, behind_head, head_size, takes_each, tests_each, wide_size, first_token_takes, first_token_tests, MatchAsFirst};
 ghost use Rattle.pathspec_glob.specs.Tokens.OneByte.{Byte};
 ghost use Rattle.pathspec_glob.specs.Tokens.Token.{One, Star};
 ghost use Rattle.pathspec_glob.specs.Counts.{BeginsAnew, HasNoSteps, KeepsCount};
@@ -73,6 +73,30 @@ impl Tokens {
         Ok(Tokens {
             mode,
             all: reading::tokens(alloc, pattern, mode)?,
+        })
+    }
+
+    /// The tokens of a pattern behind its head, where that is bytes without a wildcard, and the rest begins with a star. The
+    /// cost is linear in the rest.
+    ///
+    /// # Errors
+    /// Memory runs out.
+    pub fn behind_head(
+        alloc: Global,
+        head: &[u8],
+        rest: &[u8],
+        mode: Mode,
+    ) -> Result<Tokens, AllocError>
+        requires plain { IsFalse (list_any is_wildcard head.now) }
+        requires wide { IsTrue (first_is (λ b. b == star) rest.now) }
+        ensures { IfOk result (λ read. read ≡ record {
+          mode = mode;
+          tokens = behind_head (listed_tokens mode (head.now ++ rest.now));
+        }) }
+    {
+        Ok(Tokens {
+            mode,
+            all: reading::behind_head(alloc, head, rest, mode)?,
         })
     }
 

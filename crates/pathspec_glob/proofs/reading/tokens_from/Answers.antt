@@ -3,8 +3,8 @@ use Rattle.std.proofs.Common.{◌≡◌, ◌++◌, ◌∷◌, [], refl}
 use Rattle.std.proofs.lemmas.List.{map-append, take_rest}
 use Rattle.pathspec_glob.specs.GlobForms.{token_view, tokens_view}
 use Rattle.pathspec_glob.proofs.TokenProofs.{tokens-last, tokens-more, tokens-all}
-use Rattle.pathspec_glob.proofs.reading.tokens.Goals.{in_default, in-len1-up+in_ok-token+in_ok-push+then-ends}
-use Rattle.pathspec_glob.proofs.reading.tokens.Goals as goal
+use Rattle.pathspec_glob.proofs.reading.tokens_from.Goals.{in_default, in-len1-up+in_ok-token+in_ok-push+then-ends}
+use Rattle.pathspec_glob.proofs.reading.tokens_from.Goals as goal
 
 pub loop-rest-preserved : goal.loop-rest-preserved
 loop-rest-preserved c =
