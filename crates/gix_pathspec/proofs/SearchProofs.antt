@@ -1,6 +1,7 @@
 -- The specs of a search: a nil one has no prefix directory, and they stand in search order.
-use Rattle.std.proofs.Common.{◌≡◌, ℕ, ◌+◌, Bool, true, false, not, inl, inr, refl, sym, ◌∙◌, ap, List, [], ◌∷◌, ◌++◌, subst, Result, Ok, Err, arith}
-use Rattle.std.proofs.lemmas.Bool.{cases_Bool}
+use Rattle.std.proofs.Common.{◌≡◌, ℕ, ◌+◌, ◌||◌, Bool, true, false, not, inl, inr, refl, sym, ◌∙◌, ap, List, [], ◌∷◌, ◌++◌, subst, Result, Ok, Err, arith}
+use Rattle.std.proofs.lemmas.Bool.{cases_Bool, true≢false}
+use Rattle.std.specs.List.{list_any}
 use Rattle.std.proofs.lemmas.List.{map-append, append-nil}
 use Rattle.std.proofs.lemmas.List.Elements.{filter-append, Contains-push, Contains-append_left, Contains-append_right, Contains-append_cases}
 use Rattle.std.specs.Prelude.{Contains, IsTrue, filter}
@@ -120,6 +121,22 @@ in_search_order-twice ns =
     let b : filter inc (in_search_order ns) ≡ filter inc ns =
     filter-append inc (filter ex ns) (filter inc ns) ∙ rw (filter-opposite ex inc (λ n. refl) ns, filter-filter inc ns) refl in
     ap (λ t. t ++ filter inc (in_search_order ns)) a ∙ ap (λ t. filter ex ns ++ t) b
+
+-- where none passes, a filter keeps none, and the opposite one all
+filter-none : {X : Type 0} (p : X → Bool) (xs : List X) → list_any p xs ≡ false → (filter p xs ≡ []) × (filter (λ x. not (p x)) xs ≡ xs)
+filter-none p [] h = (refl, refl)
+filter-none p (x ∷ xs) h = elim (cases_Bool (p x)) [
+  | inl e ↦ absurd (true≢false (sym (ap (λ b. b || list_any p xs) e) ∙ h))
+  | inr e ↦
+      let ih = filter-none p xs (sym (ap (λ b. b || list_any p xs) e) ∙ h) in
+      (rw e ih.0, rw e (ap (λ t. x ∷ t) ih.1))
+]
+
+-- Without an exclude, specs stand in search order as they are.
+pub in_search_order-includes : (ns : List Numbered) → list_any (λ n. is_exclude n.spec) ns ≡ false → in_search_order ns ≡ ns
+in_search_order-includes ns h =
+    let kept = filter-none (λ (n : Numbered). is_exclude n.spec) ns h in
+    ap (λ t. t ++ filter (λ n. is_include n.spec) ns) kept.0 ∙ kept.1
 
 -- So what `search_of` gives stands in search order.
 pub search_of-ordered : (prefix root : List ℕ) (specs : List Spec) (search : List Numbered) → search_of prefix root specs ≡ Ok search → in_search_order search ≡ search

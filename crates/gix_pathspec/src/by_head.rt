@@ -48,7 +48,7 @@ const NO_EFFORT: Effort = Effort {
 pub struct Scratch {
     specs: SpecScratch,
     heads: places::Scratch,
-    // Where the next question whether a directory may be skipped looks first. They may be any.
+    // Where the next question whether a directory may be skipped looks first. Any numbers will do.
     pub(crate) stems: StemHints,
     effort: Effort,
 }

@@ -1,8 +1,13 @@
 -- How far texts agree, step by step, and what stands between two texts that agree.
-use Rattle.std.proofs.Common.{◌≡◌, ◌≢◌, ℕ, suc, zero, ◌+◌, ◌<◌, ◌≤◌, Bool, true, false, ltb, inl, inr, refl, sym, ◌∙◌, ap, List, [], ◌∷◌, ◌++◌, length, get_or, arith, nat_eq, take}
+use Rattle.std.proofs.Common.{◌≡◌, ◌≢◌, ℕ, suc, zero, ◌+◌, ◌*◌, ◌/◌, ◌%◌, ◌^◌, ◌<◌, ◌≤◌, w64, Bool, true, false, ltb, inl, inr, refl, sym, ◌∙◌, ap, List, [], ◌∷◌, ◌++◌, length, get_or, arith, nat_eq, take}
 use Rattle.std.proofs.lemmas.Bool.{cases_Bool, false≢true}
 use Rattle.std.proofs.lemmas.List.Sums.{common_prefix_len-le}
 use Rattle.std.proofs.lemmas.Bool.Decides.{nat_tests}
+use Rattle.std.proofs.lemmas.Nat.{pow_pos}
+use Rattle.std.proofs.lemmas.Nat.Bits.{bit_at-lt, bit_at-zero, bit_at_xor, bit_at_cat_low, bit_at-trailing_zeros, same_from_bits, same_from_bits_below}
+use Rattle.std.proofs.Math.Nat.{mul_comm, div-add-mod, mod-lt}
+use Rattle.std.specs.Int.{bit_at, to_le_bytes, trailing_zeros}
+use Rattle.std.specs.Int.Bits.{bit_xor}
 use Rattle.pathspec_glob.specs.Bytes.{begins_with}
 use Rattle.pathspec_heads.specs.Agreement.{agreement, is_behind, eight_bytes}
 
@@ -51,6 +56,14 @@ above-shared [] y t p a = absurd (omega (arith, a))
 above-shared (b ∷ x) [] t p a = cc
 above-shared (b ∷ x) (c ∷ y) [] p a = absurd (omega (arith, a))
 above-shared (b ∷ x) (c ∷ y) (d ∷ t) p a = grind (arith, nat_tests, above-shared x y t)
+
+-- where one of two texts agrees with a third one further than the other does, the two agree as far as that other
+pub agreement-nearer : (x y t : List ℕ) → agreement x t < agreement y t → agreement x y ≡ agreement x t
+agreement-nearer [] y [] a = refl
+agreement-nearer [] y (d ∷ t) a = refl
+agreement-nearer (b ∷ x) [] t a = absurd (omega (arith, a))
+agreement-nearer (b ∷ x) (c ∷ y) [] a = absurd (omega (arith, a))
+agreement-nearer (b ∷ x) (c ∷ y) (d ∷ t) a = grind (arith, nat_tests, agreement-nearer x y t)
 
 -- the text ends where the head still goes on
 pub agreement-text_ends : (x y : List ℕ) → length y ≤ agreement x y → length y < length x → (length y ≡ agreement x y) × (true ≡ is_behind x y)
@@ -165,14 +178,64 @@ same_fronts h x t p q =
     let shorter : length h ≤ n = squeezed (length h) h x t t (agreement-front h t e) (omega (arith, agreement-front h t e, agreement-self t, common_prefix_len-le nat_eq h t)) p q in
     begins-take h x n in_x shorter)
 
--- eight_bytes more bytes
-pub agreement-eight_bytes : (x y : List ℕ) (n : ℕ) → n ≤ agreement x y → n + 8 ≤ length x → n + 8 ≤ length y → eight_bytes x n ≡ eight_bytes y n → n + 8 ≤ agreement x y
-agreement-eight_bytes x y n h i j e =
-    let one = agreement-more x y n h (omega (arith, i)) (omega (arith, j)) (ap (λ z. get_or z 0 0) e) in
-    let two = agreement-more x y (n + 1) one (omega (arith, i)) (omega (arith, j)) (ap (λ z. get_or z 1 0) e) in
-    let three = agreement-more x y (n + 2) (omega (arith, two)) (omega (arith, i)) (omega (arith, j)) (ap (λ z. get_or z 2 0) e) in
-    let four = agreement-more x y (n + 3) (omega (arith, three)) (omega (arith, i)) (omega (arith, j)) (ap (λ z. get_or z 3 0) e) in
-    let five = agreement-more x y (n + 4) (omega (arith, four)) (omega (arith, i)) (omega (arith, j)) (ap (λ z. get_or z 4 0) e) in
-    let six = agreement-more x y (n + 5) (omega (arith, five)) (omega (arith, i)) (omega (arith, j)) (ap (λ z. get_or z 5 0) e) in
-    let seven = agreement-more x y (n + 6) (omega (arith, six)) (omega (arith, i)) (omega (arith, j)) (ap (λ z. get_or z 6 0) e) in
-    omega (arith, agreement-more x y (n + 7) (omega (arith, seven)) (omega (arith, i)) (omega (arith, j)) (ap (λ z. get_or z 7 0) e))
+-- ---- bytes of two words
+
+same-bit : (a b i : ℕ) → bit_at (bit_xor a b) i ≡ 0 → bit_at a i ≡ bit_at b i
+same-bit a b i h = omega (arith, h, bit_at_xor a b i, bit_at-lt a i, bit_at-lt b i)
+
+low-bit : (n k i : ℕ) → i < k → bit_at n i ≡ bit_at (n % 2 ^ k) i
+low-bit n k i l =
+    let whole : n / 2 ^ k * 2 ^ k + n % 2 ^ k ≡ n = ap (λ m. m + n % 2 ^ k) (mul_comm (n / 2 ^ k) (2 ^ k)) ∙ div-add-mod n (2 ^ k) in
+    ap (λ m. bit_at m i) (sym whole) ∙ bit_at_cat_low (n / 2 ^ k) k (n % 2 ^ k) i l
+
+low-same : (a b k : ℕ) → ((i : ℕ) → i < k → bit_at (bit_xor a b) i ≡ 0) → a % 2 ^ k ≡ b % 2 ^ k
+low-same a b k h = same_from_bits_below k (a % 2 ^ k) (b % 2 ^ k) (mod-lt a (pow_pos k)) (mod-lt b (pow_pos k)) (λ i l. sym (low-bit a k i l) ∙ (same-bit a b i (h i l) ∙ low-bit b k i l))
+
+-- a byte of two words is the same where the words agree in all bits up to it
+same-byte : (a b i : ℕ) → i < 8 → a % 2 ^ (8 * (i + 1)) ≡ b % 2 ^ (8 * (i + 1)) → get_or (to_le_bytes w64 a) i 0 ≡ get_or (to_le_bytes w64 b) i 0
+same-byte a b zero l h = omega (arith, h)
+same-byte a b (suc zero) l h = omega (arith, h)
+same-byte a b (suc (suc zero)) l h = omega (arith, h)
+same-byte a b (suc (suc (suc zero))) l h = omega (arith, h)
+same-byte a b (suc (suc (suc (suc zero)))) l h = omega (arith, h)
+same-byte a b (suc (suc (suc (suc (suc zero))))) l h = omega (arith, h)
+same-byte a b (suc (suc (suc (suc (suc (suc zero)))))) l h = omega (arith, h)
+same-byte a b (suc (suc (suc (suc (suc (suc (suc zero))))))) l h = omega (arith, h)
+same-byte a b (suc (suc (suc (suc (suc (suc (suc (suc i)))))))) l h = absurd (omega (arith, l))
+
+-- two words agree in the bytes before the lowest bit in which they are apart
+words-agree : (a b i : ℕ) → 0 < bit_xor a b → bit_xor a b < 2 ^ 64 → i < trailing_zeros w64 (bit_xor a b) / 8 → get_or (to_le_bytes w64 a) i 0 ≡ get_or (to_le_bytes w64 b) i 0
+words-agree a b i some fits l =
+    let low = bit_at-trailing_zeros w64 (bit_xor a b) some fits in
+    same-byte a b i (omega (arith, l, low.0)) (low-same a b (8 * (i + 1)) (λ j s. low.2 j (omega (arith, s, l))))
+
+eight_bytes-at : (x : List ℕ) (n i : ℕ) → i < 8 → get_or (eight_bytes x n) i 0 ≡ get_or x (n + i) 0
+eight_bytes-at x n zero l = ap (λ k. get_or x k 0) (omega arith)
+eight_bytes-at x n (suc zero) l = refl
+eight_bytes-at x n (suc (suc zero)) l = refl
+eight_bytes-at x n (suc (suc (suc zero))) l = refl
+eight_bytes-at x n (suc (suc (suc (suc zero)))) l = refl
+eight_bytes-at x n (suc (suc (suc (suc (suc zero))))) l = refl
+eight_bytes-at x n (suc (suc (suc (suc (suc (suc zero)))))) l = refl
+eight_bytes-at x n (suc (suc (suc (suc (suc (suc (suc zero))))))) l = refl
+eight_bytes-at x n (suc (suc (suc (suc (suc (suc (suc (suc i)))))))) l = absurd (omega (arith, l))
+
+-- some more bytes, up to eight
+agreement-bytes : (x y : List ℕ) (n k : ℕ) → n ≤ agreement x y → n + 8 ≤ length x → n + 8 ≤ length y → k ≤ 8 → ((i : ℕ) → i < k → get_or (eight_bytes x n) i 0 ≡ get_or (eight_bytes y n) i 0) → n + k ≤ agreement x y
+agreement-bytes x y n zero h i j l e = omega (arith, h)
+agreement-bytes x y n (suc k) h i j l e =
+    let before = agreement-bytes x y n k h i j (omega (arith, l)) (λ m s. e m (omega (arith, s))) in
+    let same : get_or x (n + k) 0 ≡ get_or y (n + k) 0 = sym (eight_bytes-at x n k (omega (arith, l))) ∙ (e k (omega arith) ∙ eight_bytes-at y n k (omega (arith, l))) in
+    omega (arith, agreement-more x y (n + k) before (omega (arith, i, l)) (omega (arith, j, l)) same)
+
+-- two words of texts: what agrees before the lowest bit in which they are apart, or all eight bytes
+module _ (x y : List ℕ) (n a b : ℕ) (h : n ≤ agreement x y) (i : n + 8 ≤ length x) (j : n + 8 ≤ length y) (here : to_le_bytes w64 a ≡ eight_bytes x n) (there : to_le_bytes w64 b ≡ eight_bytes y n) where
+  pub agreement-apart_words : 0 < bit_xor a b → bit_xor a b < 2 ^ 64 → n + trailing_zeros w64 (bit_xor a b) / 8 ≤ agreement x y
+  agreement-apart_words some fits =
+      let low = bit_at-trailing_zeros w64 (bit_xor a b) some fits in
+      agreement-bytes x y n (trailing_zeros w64 (bit_xor a b) / 8) h i j (omega (arith, low.0)) (λ m l. ap (λ bs. get_or bs m 0) (sym here) ∙ (words-agree a b m some fits l ∙ ap (λ bs. get_or bs m 0) there))
+
+  pub agreement-same_words : bit_xor a b ≡ 0 → n + 8 ≤ agreement x y
+  agreement-same_words none =
+      let same : a ≡ b = same_from_bits a b (λ m. same-bit a b m (ap (λ d. bit_at d m) none ∙ bit_at-zero m)) in
+      agreement-bytes x y n 8 h i j (omega arith) (λ m l. ap (λ bs. get_or bs m 0) (sym here ∙ (ap (to_le_bytes w64) same ∙ there)))

@@ -1,5 +1,5 @@
 -- Groups of places, as they grow entry by entry, and when they have all places.
-use Rattle.std.proofs.Common.{◌≡◌, ℕ, suc, zero, ◌+◌, ◌-◌, ◌<◌, ◌≤◌, true, false, inl, inr, refl, sym, ◌∙◌, ap, subst, List, [], ◌∷◌, ◌++◌, length, get_or, arith, length-append, length-drop, add-one, drop, map, bytes_eq}
+use Rattle.std.proofs.Common.{◌≡◌, ℕ, suc, zero, ◌+◌, ◌-◌, ◌<◌, ◌≤◌, true, false, inl, inr, refl, sym, ◌∙◌, ap, subst, List, [], ◌∷◌, ◌++◌, length, get_or, arith, length-append, add-one, map, bytes_eq}
 use Rattle.std.specs.Ordering.{nat_cmp, ordering_then, ordering_reverse, is_lt, is_eq}
 use Rattle.std.specs.declared.cmp.Ordering.TheVariants.{Less, Equal, Greater}
 use Rattle.std.specs.declared.cmp.Ordering.{Ordering}
@@ -188,7 +188,7 @@ module _ (entries : List Placed) (ascending : IsAscending entries) (n : ℕ) (he
   ends_with-not [] h l = absurd (omega (arith, l))
   ends_with-not (x ∷ hs) h l = h
 
-  pub grouped-more : (heads' : List (List ℕ)) (starts' order' : List ℕ) → AddsPlace heads starts order heads' starts' order' head place → IsGroupedFront entries (n + 1) heads' starts' order'
+  grouped-more : (heads' : List (List ℕ)) (starts' order' : List ℕ) → AddsPlace heads starts order heads' starts' order' head place → IsGroupedFront entries (n + 1) heads' starts' order'
   grouped-more heads' starts' order' a = elim (cases_Bool (ends_with_head heads head)) [
     | inl t ↦
         let e = ends_with-split heads t in
@@ -257,36 +257,10 @@ module _ (texts : List (List ℕ)) (entries : List Placed) (sorted : IsSortedPla
 
 -- ---- the entries as the code has them
 
-next-entry : {X : Type 0} (xs : List X) (n : ℕ) (x : X) (rest : List X) → drop n xs ≡ x ∷ rest → (n < length xs) × (get_or xs n x ≡ x) × (drop (n + 1) xs ≡ rest)
-next-entry [] zero x rest h = cc
-next-entry [] (suc n) x rest h = cc
-next-entry (y ∷ xs) zero x rest h = (omega arith, cc, cc)
-next-entry (y ∷ xs) (suc n) x rest h = let r = next-entry xs n x rest h in let e : suc n + 1 ≡ suc (n + 1) = omega arith in (omega (arith, r.0), r.1, ap (λ m. drop m (y ∷ xs)) e ∙ r.2)
+pub grouped-next : {X : Type 0} (view : X → Placed) (xs : List X) (d : X) → IsAscending (map view xs) → (n : ℕ) (heads : List (List ℕ)) (starts order : List ℕ) → IsGroupedFront (map view xs) n heads starts order → n < length xs
+    → (heads' : List (List ℕ)) (starts' order' : List ℕ) → AddsPlace heads starts order heads' starts' order' (view (get_or xs n d)).0 (view (get_or xs n d)).1 → IsGroupedFront (map view xs) (n + 1) heads' starts' order'
+grouped-next view xs d ascending n heads starts order f inside =
+    grouped-more (map view xs) ascending n heads starts order f (omega (arith, inside, length-map xs view)) (view (get_or xs n d)).0 (view (get_or xs n d)).1 (get_or-map view xs n d ([], 0) inside)
 
-no-entry : {X : Type 0} (xs : List X) (n : ℕ) (left : List X) → drop n xs ≡ left → length left ≡ 0 → length xs ≤ n
-no-entry xs n left h l = omega (arith, ap length h, l, length-drop n xs)
-
-module _ {X : Type 0} (view : X → Placed) (xs : List X) (ascending : IsAscending (map view xs)) (heads : List (List ℕ)) (starts order : List ℕ) (f : IsGroupedFront (map view xs) (length order) heads starts order)
-    (left : List X) (to_come : drop (length order) xs ≡ left) where
-  pub step-grouped : (x : X) (rest : List X) (heads' : List (List ℕ)) (starts' order' : List ℕ) → left ≡ x ∷ rest → AddsPlace heads starts order heads' starts' order' (view x).0 (view x).1
-      → IsGroupedFront (map view xs) (length order') heads' starts' order'
-  step-grouped x rest heads' starts' order' e a =
-      let next = next-entry xs (length order) x rest (to_come ∙ e) in
-      let inside : length order < length (map view xs) = omega (arith, next.0, length-map xs view) in
-      let is : entry_at (map view xs) (length order) ≡ view x = get_or-map view xs (length order) x ([], 0) next.0 ∙ ap view next.1 in
-      let grown : length order + 1 ≡ length order' = omega (arith, ap length a.behind, length-append order ((view x).1 ∷ [])) in
-      subst (λ n. IsGroupedFront (map view xs) n heads' starts' order') grown
-      (grouped-more (map view xs) ascending (length order) heads starts order f inside (view x).0 (view x).1 is heads' starts' order' a)
-
-  pub step-left : (x : X) (rest : List X) (heads' : List (List ℕ)) (starts' order' : List ℕ) → left ≡ x ∷ rest → AddsPlace heads starts order heads' starts' order' (view x).0 (view x).1
-      → (drop (length order') xs ≡ rest) × (length order' ≤ length xs)
-  step-left x rest heads' starts' order' e a =
-      let next = next-entry xs (length order) x rest (to_come ∙ e) in
-      let grown : length order + 1 ≡ length order' = omega (arith, ap length a.behind, length-append order ((view x).1 ∷ [])) in
-      (ap (λ n. drop n xs) (sym grown) ∙ next.2, omega (arith, next.0, grown))
-
-  pub step-end : length order ≤ length xs → length left ≡ 0 → IsGroupedFront (map view xs) (length xs) heads starts order
-  step-end l e = subst (λ n. IsGroupedFront (map view xs) n heads starts order) (omega (arith, l, no-entry xs (length order) left to_come e)) f
-
-pub counted-view : {X : Type 0} (view : X → Placed) (xs : List X) (heads : List (List ℕ)) (starts order : List ℕ) → IsGroupedFront (map view xs) (length xs) heads starts order → IsGroupedFront (map view xs) (length (map view xs)) heads starts order
-counted-view view xs heads starts order f = subst (λ n. IsGroupedFront (map view xs) n heads starts order) (sym (length-map xs view)) f
+pub counted-view : {X : Type 0} (view : X → Placed) (xs ys : List X) (heads : List (List ℕ)) (starts order : List ℕ) → ys ≡ xs → IsGroupedFront (map view ys) (length ys) heads starts order → IsGroupedFront (map view xs) (length (map view xs)) heads starts order
+counted-view view xs ys heads starts order e f = subst (λ n. IsGroupedFront (map view xs) n heads starts order) (sym (length-map xs view)) (subst (λ zs. IsGroupedFront (map view zs) (length zs) heads starts order) e f)

@@ -201,8 +201,3 @@ rising-from_next heads next i (suc j) l b =
       | inl e ↦ subst (λ m. slice_cmp nat_cmp (head_at heads m) (head_at heads (suc j)) ≡ Less) (sym e) step
       | inr s ↦ nat_list_cmp_total.trans (head_at heads i) (head_at heads j) (head_at heads (suc j)) (rising-from_next heads next i j s (omega (arith, b))) step
     ]
-
--- what the first so many heads agree in with the next
-pub record AreSharedTo (heads : List (List ℕ)) (shared : List ℕ) (count : ℕ) : Type 0 where
-  pub all : length shared ≡ count
-  pub agree : (i : ℕ) → i < count → i + 1 < length heads → get_or shared i 0 ≡ agreement (head_at heads i) (head_at heads (i + 1))

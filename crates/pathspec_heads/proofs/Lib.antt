@@ -1,5 +1,6 @@
 pub mod AgreementProofs
 pub mod HeadProofs
+pub mod SpanProofs
 pub mod SearchProofs
 pub mod PlacedProofs
 pub mod GroupProofs

@@ -1,11 +1,12 @@
 -- Texts with their places, as they are numbered and as they are sorted.
-use Rattle.std.proofs.Common.{◌≡◌, ℕ, suc, zero, ◌+◌, ◌<◌, ◌≤◌, false, refl, sym, ◌∙◌, ap, subst, List, [], ◌∷◌, ◌++◌, length, get_or, arith, map}
+use Rattle.std.proofs.Common.{◌≡◌, ℕ, suc, zero, ◌+◌, ◌<◌, ◌≤◌, false, refl, sym, ◌∙◌, ap, subst, List, [], ◌∷◌, ◌++◌, length, get_or, arith, map, take}
 use Rattle.std.specs.Ordering.{nat_cmp, is_lt}
 use Rattle.std.specs.Cmp.{IsTotalOrder}
 use Rattle.std.specs.Cmp.Lexicographic.{slice_cmp}
 use Rattle.std.specs.List.Sorted.{IsPermutation, IsSortedBy}
 use Rattle.std.proofs.lemmas.Cmp.{nat_cmp_total, nat_list_cmp_total, then_total}
-use Rattle.std.proofs.lemmas.List.{get_or-map, length-map, append-nil}
+use Rattle.std.proofs.lemmas.List.{get_or-map, length-map, map-append, take_more}
+use Rattle.std.proofs.Math.Seq.{take-length}
 use Rattle.std.proofs.lemmas.List.Sorted.{IsPermutation-map, IsPermutation-sym, Contains-permutation, length_permutation, ranks_by, sorted_far}
 use Rattle.pathspec_heads.specs.Heads.{head_at}
 use Rattle.pathspec_heads.specs.Groups.{Placed, entry_at, placed_cmp, IsSortedPlaces}
@@ -34,10 +35,18 @@ placed-at n [] j h = absurd (omega (arith, h))
 placed-at n (t ∷ ts) zero h = ap (λ m. (t, m)) (omega arith)
 placed-at n (t ∷ ts) (suc j) h = placed-at (n + 1) ts j (omega (arith, h)) ∙ ap (λ m. (head_at ts j, m)) (omega arith)
 
-pub placed-all : {X Y : Type 0} (view : X → Placed) (text_of : Y → List ℕ) (all : List Placed) (done : List X) (left : List Y)
-    → map view done ++ placed_from (length done) (map text_of left) ≡ all → length left ≡ 0 → map view done ≡ all
-placed-all view text_of all done [] h l = sym (append-nil (map view done)) ∙ h
-placed-all view text_of all done (t ∷ left) h l = absurd (omega (arith, l))
+pub placed-next : {X Y : Type 0} (view : X → Placed) (text_of : Y → List ℕ) (done : List X) (x : X) (ys : List Y) (n : ℕ) (d : Y) → map view done ≡ take n (placed_from 0 (map text_of ys)) → n < length ys → view x ≡ (text_of (get_or ys n d), n)
+    → map view (done ++ x ∷ []) ≡ take (n + 1) (placed_from 0 (map text_of ys))
+placed-next view text_of done x ys n d so_far inside is =
+    let texts = map text_of ys in
+    let within : n < length texts = omega (arith, inside, length-map ys text_of) in
+    let at : entry_at (placed_from 0 texts) n ≡ (text_of (get_or ys n d), n) = placed-at 0 texts n within ∙ (ap (λ m. (head_at texts n, m)) (omega arith) ∙ ap (λ t. (t, n)) (get_or-map text_of ys n d [] inside)) in
+    map-append view done (x ∷ [])
+    ∙ (ap (λ ps. ps ++ view x ∷ []) so_far
+    ∙ (ap (λ p. take n (placed_from 0 texts) ++ p ∷ []) (is ∙ sym at) ∙ sym (take_more (placed_from 0 texts) n ([], 0) (omega (arith, within, length-placed 0 texts)))))
+
+pub placed-all : (texts : List (List ℕ)) (n : ℕ) → n ≡ length texts → take n (placed_from 0 texts) ≡ placed_from 0 texts
+placed-all texts n e = ap (λ m. take m (placed_from 0 texts)) (e ∙ sym (length-placed 0 texts)) ∙ take-length (placed_from 0 texts)
 
 by_head : IsTotalOrder (λ (x y : Placed). slice_cmp nat_cmp x.0 y.0)
 by_head = record { antisymm = λ x y. nat_list_cmp_total.antisymm x.0 y.0; trans = λ x y z. nat_list_cmp_total.trans x.0 y.0 z.0; congr = λ x y z. nat_list_cmp_total.congr x.0 y.0 z.0 }

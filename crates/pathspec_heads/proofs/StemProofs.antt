@@ -1,5 +1,5 @@
 -- Stems before and behind a path and a slash, and the stems that begin them.
-use Rattle.std.proofs.Common.{◌≡◌, ℕ, suc, zero, ◌+◌, ◌-◌, ◌<◌, ◌≤◌, Bool, true, false, ◌&&◌, ◌||◌, ltb, inl, inr, refl, sym, ◌∙◌, ap, subst, List, [], ◌∷◌, ◌++◌, length, get_or, arith, ◌⊎◌, Option, Some, None, bytes_eq, length-append, IsTrue, IsFalse, nat_eq}
+use Rattle.std.proofs.Common.{◌≡◌, ℕ, suc, zero, ◌+◌, ◌-◌, ◌<◌, ◌≤◌, Bool, true, false, ◌&&◌, ◌||◌, ltb, inl, inr, refl, sym, ◌∙◌, ap, subst, List, [], ◌∷◌, ◌++◌, length, get_or, arith, ◌⊎◌, Option, Some, None, bytes_eq, length-append, IsTrue, IsFalse, nat_eq, not}
 use Rattle.std.specs.List.{list_any}
 use Rattle.std.proofs.lemmas.Bool.{false≢true}
 use Rattle.std.proofs.lemmas.Bool.Decides.{nat_tests, Decides-ltb}
@@ -17,7 +17,7 @@ use Rattle.std.proofs.lemmas.List.{length-map}
 use Rattle.pathspec_heads.proofs.PlacedProofs.{get_or-inside}
 use Rattle.pathspec_heads.specs.Groups.{IsGrouped}
 use Rattle.pathspec_heads.specs.Stems.{with_slash, leads_to, lies_below, lies_at_or_below, HasSameTexts, SomeText, NoText, IsBoundary, is_boundary}
-use Rattle.pathspec_heads.proofs.AgreementProofs.{squeezed, agreement-self, agreement-sym, agreement-front, front-agreement, begins-between, begins-not_behind, begins-through, not_true}
+use Rattle.pathspec_heads.proofs.AgreementProofs.{squeezed, agreement-self, agreement-sym, agreement-front, agreement-nearer, front-agreement, begins-between, begins-not_behind, begins-through, not_true}
 use Rattle.pathspec_heads.proofs.HeadProofs.{le_split, apart_split, rises, begins-itself, chained}
 
 -- ---- texts
@@ -180,12 +180,34 @@ same-test false false f g = refl
 
 -- ---- the search for the path and a slash
 
+le_or_lt : (m n : ℕ) → (m ≤ n) ⊎ (n < m)
+le_or_lt m n = elim (apart_split m n) [
+  | inl s ↦ inl (omega (arith, s))
+  | inr r ↦ elim r [ inl e ↦ inl (omega (arith, e)) | inr s ↦ inr s ]
+]
+
+differ : (m n : ℕ) → IsTrue (not (nat_eq m n)) → m ≡ n → ⊥
+differ m n h e = grind (arith, nat_tests)
+
 module _ (texts : List (List ℕ)) (t : List ℕ) (low agreed : ℕ) (b : Brackets texts t low low agreed) where
   pub below-found : 0 < low → length t ≤ agreed → SomeText texts (λ x. begins_with x t ≡ true)
   below-found p l = (low - 1, omega (arith, p, b.within), front-agreement t (head_at texts (low - 1)) (omega (arith, l, (b.below (low - 1) (omega (arith, p))).1, agreement-sym t (head_at texts (low - 1)))))
 
   pub above-found : low < length texts → length t ≤ agreement (head_at texts low) t → SomeText texts (λ x. begins_with x t ≡ true)
   above-found i l = (low, i, front-agreement t (head_at texts low) (omega (arith, l, agreement-sym t (head_at texts low))))
+
+  -- the next text agrees in no more bytes than the last one below the end does, where the two share more or fewer
+  pub next-no_further : 0 < low → (shared : ℕ) → shared ≡ agreement (head_at texts (low - 1)) (head_at texts (low - 1 + 1)) → IsTrue (not (nat_eq shared agreed)) → agreement (head_at texts low) t ≤ agreed
+  next-no_further p shared is differs =
+      let last = low - 1 in
+      let e : last + 1 ≡ low = omega (arith, p) in
+      let at = (b.below last e).1 in
+      elim (le_or_lt (agreement (head_at texts low) t) agreed) [
+        | inl few ↦ few
+        | inr more ↦
+            let near = agreement-nearer (head_at texts last) (head_at texts (last + 1)) t (omega (arith, more, at, ap (λ k. agreement (head_at texts k) t) e)) in
+            absurd (differ shared agreed differs (is ∙ near ∙ sym at))
+      ]
 
 module _ (texts : List (List ℕ)) (t : List ℕ) (low agreed : ℕ) (b : Brackets texts t low low agreed) (rising : IsRising texts) where
   -- a text below the end of the search that begins with the path and a slash is it, and so is the last one there

@@ -1,6 +1,7 @@
 -- What the lists of a table answer is what the stems do.
 use Rattle.std.proofs.Common.{◌≡◌, ℕ, suc, zero, ◌<◌, Bool, true, false, not, ◌&&◌, ◌||◌, refl, sym, ◌∙◌, ap, List, [], ◌∷◌, length, arith, Option, Some, None, map, filter, if◌then◌else◌, cond}
 use Rattle.std.specs.List.{list_any}
+use Rattle.std.proofs.lemmas.Simd.{map-map}
 use Rattle.pathspec_glob.specs.Bytes.{fold_case}
 use Rattle.pathspec_heads.specs.Heads.{head_at}
 use Rattle.pathspec_heads.specs.declared.tables.Kind.{Kind}
@@ -44,6 +45,12 @@ any-kept p make keep q e (x ∷ xs) = here (keep x) refl (any-kept p make keep q
         → list_any p (map make (cond (keep x) (x ∷ filter keep xs) (filter keep xs))) ≡ ((keep x && q x) || list_any (λ y. keep y && q y) xs)
     here true h later = rw (h, e x h, later) refl
     here false h later = rw (h, later) refl
+
+-- ---- the texts of a kind
+
+pub folded-texts : (ignore_case : Bool) (kind : Kind) (stems : List StemParts) → ignore_case ≡ true → map (fold_case true) (map (λ (s : StemParts). s.text) (filter (is_of_kind ignore_case kind) stems)) ≡ texts_of ignore_case kind stems
+folded-texts false kind stems e = cc
+folded-texts true kind stems e = map-map (fold_case true) (λ (s : StemParts). s.text) (filter (is_of_kind true kind) stems)
 
 -- ---- what the kind of a stem says
 

@@ -1,5 +1,5 @@
 -- How far two texts agree, and which of them stands behind the other in byte order.
-use Rattle.std.specs.Prelude.{ℕ, ◌+◌, Bool, List, [], ◌∷◌, nat_eq, get_or}
+use Rattle.std.specs.Prelude.{◌≡◌, ℕ, ◌+◌, Bool, List, [], ◌∷◌, nat_eq, get_or}
 use Rattle.std.specs.List.{common_prefix_len}
 use Rattle.std.specs.Ordering.{nat_cmp, is_gt}
 use Rattle.std.specs.Cmp.Lexicographic.{slice_cmp}
@@ -11,6 +11,11 @@ agreement x y = common_prefix_len nat_eq x y
 -- x stands behind y in byte order
 abbrev pub is_behind : List ℕ → List ℕ → Bool
 is_behind x y = is_gt (slice_cmp nat_cmp x y)
+
+-- how x compares with y: in how many bytes they agree, and whether x stands behind y
+pub record IsComparison (x y : List ℕ) (agreed : ℕ) (behind : Bool) : Type 0 where
+  pub agrees : agreed ≡ agreement x y
+  pub stands : behind ≡ is_behind x y
 
 -- the eight bytes of a text from a position on
 abbrev pub eight_bytes : List ℕ → ℕ → List ℕ

@@ -1,10 +1,12 @@
 -- The different heads of a search in byte order, which of them begin a text, and the links between them.
-use Rattle.std.specs.Prelude.{◌≡◌, ℕ, ◌+◌, ◌<◌, ◌≤◌, List, [], true, false, get_or, length, Option, Some, None}
+use Rattle.std.specs.Prelude.{◌≡◌, ℕ, ◌+◌, ◌<◌, ◌≤◌, List, [], true, false, get_or, length, map, slice_range, Option, Some, None}
+use Rattle.std.specs.List.{All}
 use Rattle.std.specs.Ordering.{nat_cmp}
 use Rattle.std.specs.declared.cmp.Ordering.TheVariants.{Less}
 use Rattle.std.specs.Cmp.Lexicographic.{slice_cmp}
 use Rattle.pathspec_glob.specs.Bytes.{begins_with}
 use Rattle.pathspec_heads.specs.Agreement.{agreement, is_behind}
+use Rattle.pathspec_heads.specs.declared.heads.Span.{Span}
 
 -- the head at a place
 abbrev pub head_at : List (List ℕ) → ℕ → List ℕ
@@ -24,6 +26,19 @@ pub record IsLastFront (heads : List (List ℕ)) (count : ℕ) (text : List ℕ)
 pub record AreShared (heads : List (List ℕ)) (shared : List ℕ) : Type 0 where
   pub all : length shared ≡ length heads
   pub agree : (i : ℕ) → i + 1 < length heads → get_or shared i 0 ≡ agreement (head_at heads i) (head_at heads (i + 1))
+
+-- the text that a span has in the bytes
+abbrev pub span_text : List ℕ → Span → List ℕ
+span_text bytes span = slice_range bytes span.start (span.start + span.len)
+
+-- the texts of spans
+abbrev pub span_texts : List ℕ → List Span → List (List ℕ)
+span_texts bytes spans = map (span_text bytes) spans
+
+-- each span lies in the bytes, and tells how many bytes its text agrees in with the next
+pub record AreSpans (bytes : List ℕ) (spans : List Span) : Type 0 where
+  pub within : All (λ span. span.start + span.len ≤ length bytes) spans
+  pub shared : AreShared (span_texts bytes spans) (map (λ span. span.shared) spans)
 
 -- the heads that begin the text are those that begin the head at a place
 abbrev pub IsChainOf : List (List ℕ) → List ℕ → ℕ → Type 0

@@ -2,9 +2,10 @@
 ghost use Rattle.std.specs.Prelude.{◌≡◌, ◌⊎◌, ℕ, ◌+◌, ◌-◌, ◌/◌, ◌^◌, ◌<◌, ◌≤◌, List, length, take, Some, IfOk, IfSome};
 ghost use Rattle.pathspec_glob.specs.Bytes.{begins_with};
 ghost use Rattle.pathspec_glob.specs.Counts.{Counts};
+ghost use Rattle.pathspec_heads.specs.Agreement.{IsComparison};
 ghost use Rattle.pathspec_heads.specs.Heads.{head_at, IsRising, IsLinked, IsLastFront, IsChain, IsChainOf, Brackets};
 
-use crate::heads::{Heads, Scratch, Texts};
+use crate::heads::{Comparison, Heads, Scratch, Texts};
 use std::alloc::{AllocError, Global};
 use std::marker::Model;
 
@@ -37,10 +38,10 @@ pub struct Deepest {
 /// The heads below `low` aren't behind a text, those from `high` on are, and the last one below `low` agrees with the
 /// text in so many bytes.
 #[derive(Clone, Copy)]
-struct Between {
-    low: usize,
-    high: usize,
-    agreed: usize,
+pub struct Between {
+    pub low: usize,
+    pub high: usize,
+    pub agreed: usize,
 }
 
 /// The index after that of the last head that isn't behind a text, how many bytes that head agrees in, and how many heads were
@@ -49,13 +50,13 @@ struct Between {
 struct PartitionPoint {
     low: usize,
     agreed: usize,
-    compared: u128,
+    compared: usize,
 }
 
 /// Where a search between two indexes looks: first at the hint or as near to it as can be, then beside that, and then in the
 /// middle.
 #[inline(always)]
-pub fn next_look(low: usize, high: usize, hint: usize, looks: u128) -> usize
+pub fn next_look(low: usize, high: usize, hint: usize, looks: usize) -> usize
     requires { low < high }
     ensures within { (low ≤ result) × (result < high) }
     ensures middle { 2 ≤ looks → result ≡ low + (high - low) / 2 }
@@ -67,33 +68,27 @@ pub fn next_look(low: usize, high: usize, hint: usize, looks: u128) -> usize
     }
 }
 
-/// Compares the head at the index with the text. If they agree in more bytes than the head and its neighbour do, the neighbour
-/// stands on the other side of the text.
+/// What a search is between after the head at the index was compared with its text. If they agree in more bytes than the head
+/// and its neighbour do, the neighbour stands on the other side of the text.
 #[inline(always)]
-fn narrowed(
-    heads: &Heads,
-    text: &[u8],
-    between: Between,
-    index: usize,
-    scratch: &mut Scratch,
-) -> Between
+pub fn narrowed(heads: &Texts, between: Between, index: usize, comparison: Comparison) -> Between
     requires index { (between.low ≤ index) × (index < between.high) }
+    requires within { between.high ≤ length heads.now }
     requires rising { IsRising heads.now }
-    requires so_far { Brackets heads.now text.now between.low between.high between.agreed }
-    ensures so_far { Brackets heads.now text.now result.low result.high result.agreed }
+    ensures so_far { (text : List ℕ)
+        → Brackets heads.now text between.low between.high between.agreed
+        → IsComparison (head_at heads.now index) text comparison.agreed comparison.is_behind
+        → Brackets heads.now text result.low result.high result.agreed }
     ensures smaller { (result.high - result.low ≤ index - between.low)
         ⊎ (result.high - result.low ≤ between.high - (index + 1)) }
-    ensures counted { Counts scratch.old 1 scratch.new }
 {
     let Between { low, high, agreed } = between;
-    let comparison = heads.compare(index, text, scratch);
-    let texts = heads.texts();
     if comparison.is_behind {
-        if low < index && texts.shared_len(index - 1) < comparison.agreed {
+        if low < index && heads.shared_len(index - 1) < comparison.agreed {
             return Between {
                 low: index,
                 high: index,
-                agreed: texts.shared_len(index - 1),
+                agreed: heads.shared_len(index - 1),
             };
         }
         return Between {
@@ -104,7 +99,7 @@ fn narrowed(
     }
     let next = index + 1;
     let agreed = comparison.agreed;
-    if next < high && texts.shared_len(index) < agreed {
+    if next < high && heads.shared_len(index) < agreed {
         return Between {
             low: next,
             high: next,
@@ -136,7 +131,8 @@ fn sought(heads: &Heads, text: &[u8], scratch: &mut Scratch) -> PartitionPoint
     let mut compared = 0;
     while between.low < between.high {
         let index = next_look(between.low, between.high, hint, compared);
-        between = narrowed(heads, text, between, index, scratch);
+        let comparison = heads.compare(index, text, scratch);
+        between = narrowed(heads.texts(), between, index, comparison);
         compared += 1;
     }
     PartitionPoint {
@@ -248,14 +244,14 @@ impl Chains {
             return only_head(&self.heads, text, scratch);
         }
         let point = sought(&self.heads, text, scratch);
+        let compared = point.compared as u128;
         if point.low == 0 {
             return Deepest {
                 head: None,
-                compared: point.compared,
+                compared,
             };
         }
         let head = front_of(self.heads.texts(), &self.links, point.low - 1, point.agreed);
-        let compared = point.compared;
         Deepest { head, compared }
     }
 

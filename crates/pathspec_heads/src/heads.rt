@@ -3,7 +3,7 @@ ghost use Rattle.std.specs.Prelude.{◌≡◌, ◌+◌, ◌<◌, ◌≤◌, leng
 ghost use Rattle.std.specs.Int.{w64, to_le_bytes};
 ghost use Rattle.pathspec_glob.specs.Counts.{Counts};
 ghost use Rattle.pathspec_heads.specs.Agreement.{agreement, is_behind, eight_bytes};
-ghost use Rattle.pathspec_heads.specs.Heads.{head_at, AreShared};
+ghost use Rattle.pathspec_heads.specs.Heads.{head_at};
 ghost use Rattle.pathspec_heads.specs.Stems.{with_slash};
 
 use crate::places::PlacesByHead;
@@ -20,58 +20,96 @@ pub struct Comparison {
     pub is_behind: bool,
 }
 
+/// Where a text begins in bytes, and how long it is.
+#[derive(Clone, Copy)]
+struct Span {
+    start: usize,
+    len: usize,
+    // How many bytes the text agrees in with the next; of the last it may be any number.
+    shared: usize,
+}
+
 /// Texts of which only lengths are told: their own, and that of what one of them shares with the next. No question here
 /// compares one of them with a text of the caller's, and nothing prints them.
 #[derive(Drop)]
 pub struct Texts {
-    all: Vec<Vec<u8>>,
-    // How many bytes each of them agrees in with the next; of the last it may be any number.
-    shared: Vec<usize>,
+    // The texts, one behind the other.
+    bytes: Vec<u8>,
+    spans: Vec<Span>,
 }
 
 impl Model for Texts {
-    ghost use Rattle.std.specs.Prelude.{List, ℕ, map};
-    ghost use Rattle.pathspec_heads.specs.Heads.{AreShared};
+    ghost use Rattle.std.specs.Prelude.{List, ℕ};
+    ghost use Rattle.pathspec_heads.specs.Heads.{span_texts, AreSpans};
 
     ghost Value = { List (List ℕ) };
 
-    ghost view = { λ t. map (λ text. text.items) t.all.items };
+    ghost view = { λ t. span_texts t.bytes.items t.spans.items };
 
-    ghost invariant = { λ t. AreShared (map (λ text. text.items) t.all.items) t.shared.items };
+    ghost invariant = { λ t. AreSpans t.bytes.items t.spans.items };
 }
 
-/// How many bytes each text agrees in with the next, and any number for the last. The cost is linear in their bytes.
-///
-/// # Errors
-/// Memory runs out.
-fn shared_lens(alloc: Global, all: &[Vec<u8>]) -> Result<Vec<usize>, AllocError>
-    ensures { IfOk result (λ shared. AreShared (map (λ text. text.items) all.now) shared.items) }
-{
-    let mut shared = Vec::with_capacity(alloc, all.len())?;
-    for index in 0..all.len() {
-        let next = (index + 1).min(all.len() - 1);
-        shared.push(compared(&all[index], &all[next]).agreed)?;
+/// How many bytes these texts have, or as many as can be counted.
+fn total_len(texts: &[&[u8]]) -> usize {
+    let mut total: usize = 0;
+    for text in texts {
+        total = total.saturating_add(text.len());
     }
-    Ok(shared)
+    total
+}
+
+/// How many bytes a text agrees in with the next one, and any number for the last.
+fn shared_len(texts: &[&[u8]], index: usize) -> usize
+    requires { index < length texts.now }
+    ensures { index + 1 < length texts.now
+        → result ≡ agreement (head_at (map (λ text. text.now) texts.now) index)
+        (head_at (map (λ text. text.now) texts.now) (index + 1)) }
+{
+    let next = (index + 1).min(texts.len() - 1);
+    compared(texts[index], texts[next]).agreed
 }
 
 impl Texts {
-    /// These texts. The cost is linear in their bytes.
+    /// Copies of these texts, in one buffer. The cost is linear in their bytes.
     ///
     /// # Errors
     /// Memory runs out.
-    pub fn new(alloc: Global, all: Vec<Vec<u8>>) -> Result<Texts, AllocError>
-        ensures { IfOk result (λ texts. texts ≡ map (λ text. text.items) all.items) }
+    pub fn new(alloc: Global, all: &[&[u8]]) -> Result<Texts, AllocError>
+        ensures { IfOk result (λ texts. texts ≡ map (λ text. text.now) all.now) }
     {
-        let shared = shared_lens(alloc, &all)?;
-        Ok(Texts { all, shared })
+        let mut bytes = Vec::with_capacity(alloc, total_len(all))?;
+        let mut spans = Vec::with_capacity(alloc, all.len())?;
+        for index in 0..all.len() {
+            let text = all[index];
+            let start = bytes.len();
+            bytes.extend_from_slice(text)?;
+            spans.push(Span {
+                start,
+                len: text.len(),
+                shared: shared_len(all, index),
+            })?;
+        }
+        Ok(Texts { bytes, spans })
     }
 
     /// How many there are.
     pub fn len(&self) -> usize
         ensures { result ≡ length self.now }
     {
-        self.all.len()
+        self.spans.len()
+    }
+
+    /// One of them, which only this module reads.
+    fn text(&self, index: usize) -> &[u8]
+        requires { index < length self.now }
+        ensures { result.now ≡ head_at self.now index }
+    {
+        let Span {
+            start,
+            len,
+            shared: _,
+        } = self.spans[index];
+        &self.bytes[start..start + len]
     }
 
     /// How many bytes one of them has.
@@ -79,7 +117,7 @@ impl Texts {
         requires { index < length self.now }
         ensures { result ≡ length (head_at self.now index) }
     {
-        self.all[index].len()
+        self.spans[index].len
     }
 
     /// How many bytes one of them agrees in with the next.
@@ -88,7 +126,7 @@ impl Texts {
         ensures { result
             ≡ agreement (head_at self.now index) (head_at self.now (index + 1)) }
     {
-        self.shared[index]
+        self.spans[index].shared
     }
 }
 
@@ -167,7 +205,7 @@ impl Heads {
     {
         scratch.compared = scratch.compared.wrapping_add(1);
         scratch.last = index;
-        compared(&self.texts.all[index], text)
+        compared(self.texts.text(index), text)
     }
 }
 
@@ -200,12 +238,12 @@ impl Model for StemTexts {
 }
 
 impl StemTexts {
-    /// These stems.
+    /// Copies of these stems.
     ///
     /// # Errors
     /// Memory runs out.
-    pub fn new(alloc: Global, all: Vec<Vec<u8>>) -> Result<StemTexts, AllocError>
-        ensures { IfOk result (λ stems. stems ≡ map (λ stem. stem.items) all.items) }
+    pub fn new(alloc: Global, all: &[&[u8]]) -> Result<StemTexts, AllocError>
+        ensures { IfOk result (λ stems. stems ≡ map (λ stem. stem.now) all.now) }
     {
         let texts = Texts::new(alloc, all)?;
         Ok(StemTexts { texts })
@@ -226,7 +264,7 @@ impl StemTexts {
         ensures behind { result.is_behind
             ≡ is_behind (head_at self.now index) (with_slash ignore_case path.now) }
     {
-        compared_with_slash(&self.texts.all[index], path, ignore_case)
+        compared_with_slash(self.texts.text(index), path, ignore_case)
     }
 }
 
@@ -274,15 +312,16 @@ fn eight_bytes_at(text: &[u8], at: usize) -> u64
     ])
 }
 
-/// Bytes in which two texts agree, eight at a time.
+/// Bytes in which two texts agree, eight at a time: all of them, but for less than eight where a text ends.
 fn agreed_by_eights(head: &[u8], text: &[u8]) -> usize
     ensures { result ≤ agreement head.now text.now }
 {
     let mut at = 0;
-    while head.len() - at >= 8
-        && text.len() - at >= 8
-        && eight_bytes_at(head, at) == eight_bytes_at(text, at)
-    {
+    while head.len() - at >= 8 && text.len() - at >= 8 {
+        let apart = eight_bytes_at(head, at) ^ eight_bytes_at(text, at);
+        if apart != 0 {
+            return at + apart.trailing_zeros() as usize / 8;
+        }
         at += 8;
     }
     at

@@ -44,7 +44,7 @@ impl<'s> SpecPath<'s> {
 fn to_stems<'s>(alloc: Global, paths: &[SpecPath<'s>]) -> Result<Vec<SpecStem<'s>>, AllocError>
     ensures { IfOk result (λ stems. stems.items ≡ map stem_of paths.now) }
 {
-    let mut stems = Vec::new(alloc);
+    let mut stems = Vec::with_capacity(alloc, paths.len())?;
     for path in paths {
         stems.push(path.to_stem())?;
     }
@@ -90,8 +90,21 @@ impl PathLists {
         }
     }
 
+    // In line, since most searches have no excludes.
     /// Whether one of the paths takes this one.
+    #[inline(always)]
     fn take(&self, path: &[u8], ignore_case: bool, is_dir: bool) -> bool
+        ensures { result ≡ lists_take ignore_case self.now path.now is_dir }
+    {
+        if self.literal.is_empty() && self.directory.is_empty() {
+            return false;
+        }
+        self.some_take(path, ignore_case, is_dir)
+    }
+
+    /// The same, also where there are no paths.
+    #[inline(never)]
+    fn some_take(&self, path: &[u8], ignore_case: bool, is_dir: bool) -> bool
         ensures { result ≡ lists_take ignore_case self.now path.now is_dir }
     {
         self.literal.has_at_or_above(path, ignore_case)

@@ -125,13 +125,13 @@ impl GroupsByHead {
     ///
     /// # Errors
     /// Memory runs out.
-    fn new(alloc: Global, heads: Vec<Vec<u8>>) -> Result<GroupsByHead, AllocError>
-        ensures grouped { IfOk result (λ places. IsGrouped (map (λ head. head.items) heads.items)
+    fn new(alloc: Global, heads: &[&[u8]]) -> Result<GroupsByHead, AllocError>
+        ensures grouped { IfOk result (λ places. IsGrouped (map (λ head. head.now) heads.now)
             places.heads places.starts places.order) }
     {
         let entries = sorted(alloc, heads)?;
-        let groups = grouped(alloc, entries)?;
-        let texts = Texts::new(alloc, groups.heads)?;
+        let groups = grouped(alloc, &entries)?;
+        let texts = Texts::new(alloc, &groups.heads)?;
         let chains = Chains::new(alloc, Heads::new(texts))?;
         Ok(GroupsByHead {
             chains,
@@ -221,14 +221,14 @@ impl GroupsByHead {
 }
 
 impl PlacesByHead {
-    /// Groups the places of these heads, of which each stands at its place in the list.
+    /// Groups the places of these heads, of which each stands at its place in the list. It keeps one copy of each head.
     ///
     /// It compares as many pairs of heads as a sort of them does, and is linear in their bytes besides.
     ///
     /// # Errors
     /// Memory runs out.
-    pub fn new(alloc: Global, heads: Vec<Vec<u8>>) -> Result<PlacesByHead, AllocError>
-        ensures grouped { IfOk result (λ places. IsGrouped (map (λ head. head.items) heads.items)
+    pub fn new(alloc: Global, heads: &[&[u8]]) -> Result<PlacesByHead, AllocError>
+        ensures grouped { IfOk result (λ places. IsGrouped (map (λ head. head.now) heads.now)
             places.heads places.starts places.order) }
     {
         let groups = GroupsByHead::new(alloc, heads)?;

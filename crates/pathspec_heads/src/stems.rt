@@ -1,11 +1,12 @@
 //! Stems in byte order, and whether a directory's path and one of them lead to one another.
-ghost use Rattle.std.specs.Prelude.{◌≡◌, ◌&&◌, true, ℕ, ◌+◌, ◌<◌, ◌≤◌, length, map, IfOk, IsTrue, IsFalse};
+ghost use Rattle.std.specs.Prelude.{◌≡◌, ◌&&◌, true, ℕ, ◌+◌, ◌<◌, ◌≤◌, List, length, map, IfOk, IsTrue, IsFalse};
 ghost use Rattle.std.specs.List.{list_any};
-ghost use Rattle.pathspec_glob.specs.Bytes.{fold_case, begins_with};
-ghost use Rattle.pathspec_heads.specs.Heads.{head_at, Brackets};
+ghost use Rattle.pathspec_glob.specs.Bytes.{fold_case, begins_with, is_empty};
+ghost use Rattle.pathspec_heads.specs.Agreement.{agreement};
+ghost use Rattle.pathspec_heads.specs.Heads.{head_at, Brackets, IsRising};
 ghost use Rattle.pathspec_heads.specs.Stems.{with_slash, leads_to, lies_below, lies_at_or_below, HasSameTexts, SomeText, NoText, IsFound, IsBoundary, is_boundary};
 
-use crate::chains::{front_of, linked, next_look};
+use crate::chains::{Between, front_of, linked, narrowed, next_look};
 use crate::groups::{grouped, sorted};
 use crate::heads::{StemTexts, byte_with_slash};
 use std::alloc::{AllocError, Global};
@@ -48,38 +49,39 @@ struct Found {
 /// The index after that of the last text that isn't behind the path and a slash. It looks at the hint, then beside it, and then
 /// halves what is left.
 fn sought(texts: &StemTexts, path: &[u8], ignore_case: bool, hint: usize) -> PartitionPoint
+    requires { IsRising texts.now }
     ensures { Brackets texts.now (with_slash ignore_case path.now)
         result.low result.low result.agreed }
 {
-    let mut low = 0;
-    let mut high = texts.texts().len();
-    let mut agreed = 0;
-    let mut looks: u128 = 0;
-    while low < high {
-        let index = next_look(low, high, hint, looks);
+    let mut between = Between {
+        low: 0,
+        high: texts.texts().len(),
+        agreed: 0,
+    };
+    let mut looks: usize = 0;
+    while between.low < between.high {
+        let index = next_look(between.low, between.high, hint, looks);
         let comparison = texts.compare_with_slash(index, path, ignore_case);
+        between = narrowed(texts.texts(), between, index, comparison);
         looks = looks.saturating_add(1);
-        if comparison.is_behind {
-            high = index;
-        } else {
-            low = index + 1;
-            agreed = comparison.agreed;
-        }
     }
-    PartitionPoint { low, agreed }
+    PartitionPoint {
+        low: between.low,
+        agreed: between.agreed,
+    }
 }
 
 impl Stems {
-    /// These stems, each once. Their sort is what it costs.
+    /// Copies of these stems, each once. Their sort is what it costs.
     ///
     /// # Errors
     /// Memory runs out.
-    pub fn new(alloc: Global, stems: Vec<Vec<u8>>) -> Result<Stems, AllocError>
-        ensures { IfOk result (HasSameTexts (map (λ stem. stem.items) stems.items)) }
+    pub fn new(alloc: Global, stems: &[&[u8]]) -> Result<Stems, AllocError>
+        ensures { IfOk result (HasSameTexts (map (λ stem. stem.now) stems.now)) }
     {
         let entries = sorted(alloc, stems)?;
-        let groups = grouped(alloc, entries)?;
-        let texts = StemTexts::new(alloc, groups.heads)?;
+        let groups = grouped(alloc, &entries)?;
+        let texts = StemTexts::new(alloc, &groups.heads)?;
         let links = linked(alloc, texts.texts())?;
         Ok(Stems { texts, links })
     }
@@ -96,12 +98,30 @@ impl Stems {
         if point.low > 0 && point.agreed > path.len() {
             return true;
         }
-        point.low < self.texts.texts().len()
-            && self
-                .texts
-                .compare_with_slash(point.low, path, ignore_case)
-                .agreed
-                > path.len()
+        if point.low == self.texts.texts().len() || self.agrees_no_further(point) {
+            return false;
+        }
+        let next = self.texts.compare_with_slash(point.low, path, ignore_case);
+        next.agreed > path.len()
+    }
+
+    /// Whether the stem before the end of a search shares more or fewer bytes with the next one than it agrees in with the text:
+    /// then the next one agrees with it in no more.
+    fn agrees_no_further(&self, point: PartitionPoint) -> bool
+        requires { point.low < length self.now }
+        ensures before { IsTrue result → 0 < point.low }
+        ensures next { (text : List ℕ) → Brackets self.now text point.low point.low point.agreed
+            → IsTrue result → agreement (head_at self.now point.low) text ≤ point.agreed }
+    {
+        point.low > 0 && self.texts.texts().shared_len(point.low - 1) != point.agreed
+    }
+
+    /// Whether there are none.
+    #[inline(always)]
+    pub(crate) fn is_empty(&self) -> bool
+        ensures { result ≡ is_empty self.now }
+    {
+        self.links.is_empty()
     }
 
     // In line, since most lists of a table are empty.
@@ -111,7 +131,7 @@ impl Stems {
         ensures { IsFound self.now (with_slash ignore_case path.now)
             result.below result.deepest }
     {
-        if self.links.is_empty() {
+        if self.is_empty() {
             return Found {
                 below: false,
                 deepest: None,
@@ -173,8 +193,8 @@ impl Stems {
     /// after a stem that a wildcard follows, as it does all of them or none.
     ///
     /// The hint is where the search looks first, and becomes where it ended: any number will do. It compares at most as many
-    /// stems with the path as their count has binary digits, and three: where paths come in byte order often three. Then it
-    /// takes a link for each stem that begins the path. It takes no memory.
+    /// stems with the path as their count has binary digits, and three: where paths come in byte order often one or two. Then
+    /// it takes a link for each stem that begins the path. It takes no memory.
     pub fn leads_to(&self, path: &[u8], ignore_case: bool, wild: bool, hint: &mut usize) -> bool
         ensures { result ≡ list_any (λ stem.
             leads_to stem wild (fold_case ignore_case path.now)) self.now }

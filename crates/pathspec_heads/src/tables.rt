@@ -1,5 +1,5 @@
 //! Tables of the stems of specs: whether one of them reaches a path.
-ghost use Rattle.std.specs.Prelude.{◌≡◌, ◌&&◌, true, false, List, map, IfOk};
+ghost use Rattle.std.specs.Prelude.{◌≡◌, ◌&&◌, true, false, List, map, filter, IfOk};
 ghost use Rattle.std.specs.List.{list_any};
 ghost use Rattle.pathspec_glob.specs.Bytes.{fold_case};
 ghost use Rattle.pathspec_heads.specs.Stems.{HasSameTexts};
@@ -58,37 +58,50 @@ impl SpecStem<'_> {
     }
 }
 
-/// A copy of the text, in lower case where case doesn't count.
-fn folded(alloc: Global, text: &[u8], ignore_case: bool) -> Result<Vec<u8>, AllocError>
-    ensures { IfOk result (λ copy. copy.items ≡ fold_case ignore_case text.now) }
-{
-    if ignore_case {
-        text.to_ascii_lowercase(alloc)
-    } else {
-        Vec::from_slice(alloc, text)
-    }
-}
-
-/// The texts of the stems of a kind, in lower case where case doesn't count.
-fn texts_of(
+/// The texts of the stems of a kind for which case counts, or doesn't, as they stand.
+fn texts_of_kind<'s>(
     alloc: Global,
-    stems: &[SpecStem<'_>],
+    stems: &[SpecStem<'s>],
     ignore_case: bool,
     kind: Kind,
-) -> Result<Vec<Vec<u8>>, AllocError>
-    ensures { IfOk result (λ texts.
-        map (λ text. text.items) texts.items ≡ texts_of ignore_case kind stems.now) }
+) -> Result<Vec<&'s [u8]>, AllocError>
+    ensures { IfOk result (λ texts. map (λ text. text.now) texts.items
+        ≡ map (λ s. s.text) (filter (is_of_kind ignore_case kind) stems.now)) }
 {
     let mut texts = Vec::new(alloc);
     for stem in stems {
         if stem.is_of_kind(ignore_case, kind) {
-            texts.push(folded(alloc, stem.text, ignore_case)?)?;
+            texts.push(stem.text)?;
         }
     }
     Ok(texts)
 }
 
-/// The stems of a kind.
+/// Copies of the texts in lower case.
+fn lower_copies(alloc: Global, texts: &[&[u8]]) -> Result<Vec<Vec<u8>>, AllocError>
+    ensures { IfOk result (λ copies. map (λ copy. copy.items) copies.items
+        ≡ map (fold_case true) (map (λ text. text.now) texts.now)) }
+{
+    let mut copies = Vec::with_capacity(alloc, texts.len())?;
+    for text in texts {
+        copies.push(text.to_ascii_lowercase(alloc)?)?;
+    }
+    Ok(copies)
+}
+
+/// The texts, borrowed.
+fn borrowed(alloc: Global, texts: &[Vec<u8>]) -> Result<Vec<&[u8]>, AllocError>
+    ensures { IfOk result (λ slices.
+        map (λ slice. slice.now) slices.items ≡ map (λ text. text.items) texts.now) }
+{
+    let mut slices = Vec::with_capacity(alloc, texts.len())?;
+    for text in texts {
+        slices.push(text.as_slice())?;
+    }
+    Ok(slices)
+}
+
+/// The stems of a kind. Only where case doesn't count are there copies of the texts while they are sorted.
 pub(crate) fn stems_of(
     alloc: Global,
     stems: &[SpecStem<'_>],
@@ -97,7 +110,13 @@ pub(crate) fn stems_of(
 ) -> Result<Stems, AllocError>
     ensures { IfOk result (HasSameTexts (texts_of ignore_case kind stems.now)) }
 {
-    Stems::new(alloc, texts_of(alloc, stems, ignore_case, kind)?)
+    let texts = texts_of_kind(alloc, stems, ignore_case, kind)?;
+    if !ignore_case {
+        return Stems::new(alloc, &texts);
+    }
+    let copies = lower_copies(alloc, &texts)?;
+    let slices = borrowed(alloc, &copies)?;
+    Stems::new(alloc, &slices)
 }
 
 /// The texts of stems by their kinds: of those with case, or of those without.
@@ -244,8 +263,8 @@ impl StemTable {
         self.reaches_with_hints(path, is_dir, &mut StemHints::new())
     }
 
-    /// The same, with hints of the caller's. Where paths come in byte order with the same hints, it often compares three stems
-    /// in each list.
+    /// The same, with hints of the caller's. Where paths come in byte order with the same hints, it often compares one or two
+    /// stems in each list.
     pub fn reaches_with_hints(
         &self,
         path: &[u8],

@@ -105,31 +105,22 @@ fn a_glob_for_directories_is_compiled_or_memory_ran_out(rt: HostRuntime) -> Resu
     assert_calls(rt.alloc(), CALLS)
 }
 
-/// Copies of these texts.
-fn copies(alloc: Global, texts: &[&str]) -> Result<Vec<Vec<u8>>, Fail> {
-    let mut copies = Vec::new(alloc);
-    for text in texts {
-        copies.push(Vec::from_slice(alloc, text.as_bytes())?)?;
-    }
-    Ok(copies)
-}
-
 /// The call that groups places by these heads.
-struct GroupPlaces(&'static [&'static str]);
+struct GroupPlaces(&'static [&'static [u8]]);
 
 impl Making for GroupPlaces {
-    type Given = Vec<Vec<u8>>;
+    type Given = ();
 
     type Value = Option<usize>;
 
     type Fault = AllocError;
 
-    fn given(&self, alloc: Global) -> Result<Vec<Vec<u8>>, Fail> {
-        copies(alloc, self.0)
+    fn given(&self, _: Global) -> Result<(), Fail> {
+        Ok(())
     }
 
-    fn make(&self, alloc: Global, given: Vec<Vec<u8>>) -> Result<Option<usize>, AllocError> {
-        let places = PlacesByHead::new(alloc, given)?;
+    fn make(&self, alloc: Global, _: ()) -> Result<Option<usize>, AllocError> {
+        let places = PlacesByHead::new(alloc, self.0)?;
         let mut scratch = places.new_scratch();
         Ok(first_place(&places, &mut scratch, b"a/b/c"))
     }
@@ -225,8 +216,8 @@ fn a_table_of_paths_is_made_or_memory_ran_out(rt: HostRuntime) -> Result<(), Fai
 #[test]
 fn heads_and_stems_are_sorted_or_memory_ran_out(rt: HostRuntime) -> Result<(), Fail> {
     const CALLS: &[Makes<GroupPlaces>] = &[
-        Makes(GroupPlaces(&["x", "a", "a/b", "a", "", "a/"])),
-        Makes(GroupPlaces(&[""])),
+        Makes(GroupPlaces(&[b"x", b"a", b"a/b", b"a", b"", b"a/"])),
+        Makes(GroupPlaces(&[b""])),
     ];
     assert_calls(rt.alloc(), CALLS)?;
     assert_calls(rt.alloc(), &[Makes(NewTable)])

@@ -286,10 +286,13 @@ pub(super) fn error_at(number: usize, error: Error) -> BuildError
     }
 }
 
-/// Excludes before includes, each group in its order.
+/// Excludes before includes, each group in its order. Where there is no exclude, no spec is moved.
 fn in_search_order(alloc: Global, specs: Vec<CompiledSpec>) -> Result<Vec<CompiledSpec>, AllocError>
     ensures { IfOk result (λ ordered. ordered.items ≡ in_search_order specs.items) }
 {
+    if !specs.iter().any(|spec| spec.pattern.is_excluded()) {
+        return Ok(specs);
+    }
     let mut ordered = Vec::with_capacity(alloc, specs.len())?;
     let mut includes = Vec::new(alloc);
     for spec in specs {
@@ -317,7 +320,7 @@ fn takers_by_head(alloc: Global, specs: &[CompiledSpec]) -> Result<TakersByHead,
     ensures { IfOk result (λ takers. takers ≡ takers_of (specs_of specs.now)) }
 {
     let (takers, heads) = takers_with_heads(alloc, specs)?;
-    let places = PlacesByHead::new(alloc, heads)?;
+    let places = PlacesByHead::new(alloc, &heads)?;
     let heads = Box::new(alloc, CountedHeads::new(places))?;
     Ok(TakersByHead::new(CountedTakers::new(takers), heads))
 }
@@ -326,18 +329,19 @@ fn takers_by_head(alloc: Global, specs: &[CompiledSpec]) -> Result<TakersByHead,
 fn places_by_head(alloc: Global, specs: &[CompiledSpec]) -> Result<Box<CountedHeads>, AllocError>
     ensures { IfOk result (λ places. ArePlacesOf specs.now (box_value places)) }
 {
-    let places = PlacesByHead::new(alloc, heads_in_order(alloc, specs)?)?;
+    let heads = heads_in_order(alloc, specs)?;
+    let places = PlacesByHead::new(alloc, &heads)?;
     Ok(Box::new(alloc, CountedHeads::new(places))?)
 }
 
 /// The heads of specs in their order.
-fn heads_in_order(alloc: Global, specs: &[CompiledSpec]) -> Result<Vec<Vec<u8>>, AllocError>
+fn heads_in_order(alloc: Global, specs: &[CompiledSpec]) -> Result<Vec<&[u8]>, AllocError>
     ensures { IfOk result (λ heads.
-        map (λ head. head.items) heads.items ≡ heads_in_order specs.now) }
+        map (λ head. head.now) heads.items ≡ heads_in_order specs.now) }
 {
     let mut heads = Vec::with_capacity(alloc, specs.len())?;
     for spec in specs {
-        heads.push(Vec::from_slice(alloc, spec.head())?)?;
+        heads.push(spec.head())?;
     }
     Ok(heads)
 }

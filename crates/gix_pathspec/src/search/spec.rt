@@ -5,6 +5,7 @@ ghost use Rattle.gix_pathspec.specs.Errors.{IsMemory};
 ghost use Rattle.gix_pathspec.specs.Paths.{IsBytes};
 ghost use Rattle.gix_pathspec.specs.Patterns.{pattern_spec};
 ghost use Rattle.gix_pathspec.specs.Room.{glob_of};
+ghost use Rattle.gix_pathspec.specs.Specs.{has_wildcard};
 
 use crate::search::matching;
 use crate::{Error, MagicSignature, Pattern, SearchMode};
@@ -71,10 +72,10 @@ impl CompiledSpec {
         ensures spec { IfOk result (λ spec. spec ≡ numbered_pattern number pattern) }
         ensures bytes { IfOk result (λ spec. IsBytes spec.spec.path) }
     {
-        // The proof reads here that the path is bytes.
-        let _ = pattern.path();
         let stem = CompiledSpec::stem_length(&pattern);
-        let glob = compile_glob(alloc, &pattern)?;
+        // The proof reads here, too, that the path is bytes.
+        let is_wild = stem < pattern.path().as_bytes().len();
+        let glob = compile_glob(alloc, &pattern, is_wild)?;
         Ok(CompiledSpec {
             pattern,
             number,
@@ -310,12 +311,14 @@ impl CompiledSpec {
     }
 }
 
-/// The mode of the glob that a pattern is compared as; None for a pattern that isn't compared as one.
-pub(super) fn glob_mode(pattern: &Pattern) -> Option<Mode>
+/// The mode of the glob that a pattern is compared as; None for a pattern that isn't compared as one. Whether it has a wildcard
+/// was found out before.
+pub(super) fn glob_mode(pattern: &Pattern, is_wild: bool) -> Option<Mode>
+    requires { is_wild ≡ has_wildcard (pattern_spec pattern.now) }
     ensures { let spec = pattern_spec pattern.now in
         option_map (λ mode. record { mode = mode; pattern = spec.path }) result ≡ glob_of spec }
 {
-    if !pattern.has_wildcard() {
+    if !is_wild {
         return None;
     }
     match pattern.search_mode {
@@ -329,10 +332,11 @@ pub(super) fn glob_mode(pattern: &Pattern) -> Option<Mode>
 ///
 /// # Errors
 /// Memory runs out.
-fn compile_glob(alloc: Global, pattern: &Pattern) -> Result<Option<Glob>, AllocError>
+fn compile_glob(alloc: Global, pattern: &Pattern, is_wild: bool) -> Result<Option<Glob>, AllocError>
+    requires { is_wild ≡ has_wildcard (pattern_spec pattern.now) }
     ensures { IfOk result (λ glob. glob ≡ glob_of (pattern_spec pattern.now)) }
 {
-    match glob_mode(pattern) {
+    match glob_mode(pattern, is_wild) {
         Some(mode) => Ok(Some(Glob::compile(alloc, pattern.path().as_bytes(), mode)?)),
         None => Ok(None),
     }

@@ -119,17 +119,17 @@ impl CompiledSpec {
 pub(super) fn takers_with_heads(
     alloc: Global,
     specs: &[CompiledSpec],
-) -> Result<(Vec<Taker>, Vec<Vec<u8>>), AllocError>
+) -> Result<(Vec<Taker>, Vec<&[u8]>), AllocError>
     ensures takers { IfOk result (λ pair. pair.0.items ≡ takers_of (specs_of specs.now)) }
     ensures heads { IfOk result (λ pair.
-        map (λ head. head.items) pair.1.items ≡ map taker_head pair.0.items) }
+        map (λ head. head.now) pair.1.items ≡ map taker_head pair.0.items) }
 {
     let mut takers = Vec::new(alloc);
     let mut heads = Vec::new(alloc);
     for spec in specs {
         if let Some(taker) = Taker::of_spec(alloc, spec)? {
             takers.push(taker)?;
-            heads.push(Vec::from_slice(alloc, spec.taker_head())?)?;
+            heads.push(spec.taker_head())?;
         }
     }
     Ok((takers, heads))
@@ -145,7 +145,7 @@ fn rest_glob(alloc: Global, spec: &CompiledSpec) -> Result<Option<DirectoryGlob>
     if !spec.pattern().attributes.is_empty() || spec.wants_directory() {
         return Ok(None);
     }
-    let Some(mode) = glob_mode(spec.pattern()) else {
+    let Some(mode) = glob_mode(spec.pattern(), spec.has_wildcard()) else {
         return Ok(None);
     };
     let glob = DirectoryGlob::compile(alloc, spec.path(), mode)?;

@@ -1,46 +1,40 @@
 -- What neighbours agree in says where the next one stands.
-use Rattle.std.proofs.Common.{◌≡◌, ◌∙◌, ◌+◌, ◌-◌, ◌<◌, sym, ap, subst, arith, List, ℕ, false, length}
+use Rattle.std.proofs.Common.{◌≡◌, ◌∙◌, ◌+◌, ◌-◌, ◌<◌, sym, ap, subst, arith, false, length}
 use Rattle.pathspec_heads.specs.Agreement.{agreement, is_behind}
 use Rattle.pathspec_heads.specs.Heads.{head_at}
 use Rattle.pathspec_heads.proofs.HeadProofs.{before-not_behind, after-behind}
 use Rattle.pathspec_heads.proofs.chains.narrowed.Goals as goal
 
 pub returns-then-shared_len-comparison-clause-so_far : goal.returns-then-shared_len-comparison-clause-so_far
-returns-then-shared_len-comparison-clause-so_far c =
+returns-then-shared_len-comparison-clause-so_far c = λ t so_far compared.
     let h = c.args.heads.now in
-    let t = c.args.text.now in
     let before = c.args.index - 1 in
     let e : before + 1 ≡ c.args.index = omega (arith, c.if-low-index.true) in
-    let agree : (r : ℕ) → r ≡ agreement (head_at c.texts-texts.result.now before) (head_at c.texts-texts.result.now (before + 1)) → r ≡ agreement (head_at h before) (head_at h (before + 1))
-    = λ r is. is ∙ ap (λ (g : List (List ℕ)). agreement (head_at g before) (head_at g (before + 1))) c.texts-texts.ensures in
-    let further : c.compare-comparison.result.agreed ≡ agreement (head_at h (before + 1)) t = c.compare-comparison.ensures.agreed ∙ ap (λ k. agreement (head_at h k) t) (sym e) in
-    let inside : before + 1 < length h = omega (arith, e, c.requires.index.1, c.requires.so_far.within) in
-    let now = before-not_behind h c.requires.rising t before inside (omega (arith, agree c.shared_len.result c.shared_len.ensures, further, c.if-shared_len-comparison.true)) in
+    let further : c.args.comparison.agreed ≡ agreement (head_at h (before + 1)) t = compared.agrees ∙ ap (λ k. agreement (head_at h k) t) (sym e) in
+    let inside : before + 1 < length h = omega (arith, e, c.requires.index.1, c.requires.within) in
+    let now = before-not_behind h c.requires.rising t before inside (omega (arith, c.shared_len.ensures, further, c.if-shared_len-comparison.true)) in
     record {
       order = omega arith;
-      within = omega (arith, c.requires.index.1, c.requires.so_far.within);
+      within = omega (arith, c.requires.index.1, c.requires.within);
       below = λ k is.
           let same : before ≡ k = omega (arith, is, e) in (
             subst (λ x. is_behind (head_at h x) t ≡ false) same now.0,
-            subst (λ x. c.shared_len-then-shared_len-comparison.result ≡ agreement (head_at h x) t) same (agree c.shared_len-then-shared_len-comparison.result c.shared_len-then-shared_len-comparison.ensures ∙ now.1),
+            subst (λ x. c.shared_len-then-shared_len-comparison.result ≡ agreement (head_at h x) t) same (c.shared_len-then-shared_len-comparison.ensures ∙ now.1),
           );
-      above = λ _. sym c.compare-comparison.ensures.behind ∙ c.if-comparison.true;
+      above = λ _. sym compared.stands ∙ c.if-comparison.true;
     }
 
 pub returns-then-shared_len-agreed-clause-so_far : goal.returns-then-shared_len-agreed-clause-so_far
-returns-then-shared_len-agreed-clause-so_far c =
+returns-then-shared_len-agreed-clause-so_far c = λ t so_far compared.
     let h = c.args.heads.now in
-    let t = c.args.text.now in
     let i = c.args.index in
-    let agree : c.shared_len-then-next-high.result ≡ agreement (head_at h i) (head_at h (i + 1))
-    = c.shared_len-then-next-high.ensures ∙ ap (λ (g : List (List ℕ)). agreement (head_at g i) (head_at g (i + 1))) c.texts-texts.ensures in
     record {
       order = omega arith;
-      within = omega (arith, c.requires.index.1, c.requires.so_far.within);
+      within = omega (arith, c.requires.index.1, c.requires.within);
       below = λ k is.
           let same : i ≡ k = omega (arith, is) in (
-            subst (λ x. is_behind (head_at h x) t ≡ false) same (sym c.compare-comparison.ensures.behind ∙ c.if-comparison.false),
-            subst (λ x. c.compare-comparison.result.agreed ≡ agreement (head_at h x) t) same c.compare-comparison.ensures.agreed,
+            subst (λ x. is_behind (head_at h x) t ≡ false) same (sym compared.stands ∙ c.if-comparison.false),
+            subst (λ x. c.args.comparison.agreed ≡ agreement (head_at h x) t) same compared.agrees,
           );
-      above = λ inside. after-behind h c.requires.rising t i inside (omega (arith, agree, c.compare-comparison.ensures.agreed, c.if-shared_len-agreed.true));
+      above = λ inside. after-behind h c.requires.rising t i inside (omega (arith, c.shared_len-then-next-high.ensures, compared.agrees, c.if-shared_len-agreed.true));
     }

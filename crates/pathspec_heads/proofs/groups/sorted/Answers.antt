@@ -1,9 +1,14 @@
-use Rattle.std.proofs.Common.{map, rules}
-use Rattle.std.specs.Vec.Iter.{into_iter_items}
-use Rattle.pathspec_heads.proofs.PlacedProofs.{sorted_places, placed-all}
+use Rattle.std.proofs.Common.{◌∙◌, arith, map, refl}
+use Rattle.std.proofs.lemmas.List.{length-map}
+use Rattle.pathspec_heads.proofs.PlacedProofs.{placed-next, placed-all, sorted_places}
 use Rattle.pathspec_heads.proofs.groups.sorted.Goals as goal
+
+pub loop-place-preserved : goal.loop-place-preserved
+loop-place-preserved c = rw c.in_ok-push.ensures.items
+    (placed-next (λ entry. (entry.0.now, entry.1)) (λ text. text.now) c.loop-place.entries.items _ c.args.texts.now c.loop-place.place _ c.loop-place.invariant c.loop-place-test.true refl)
 
 pub returns : goal.returns
 returns c =
-    sorted_places (λ entry. (entry.0.items, entry.1)) (map (λ text. text.items) c.args.texts.items) c.loop-text.entries.items c.sort_unstable.new.self.items
-    (placed-all _ _ _ c.loop-text.entries.items (into_iter_items c.loop-text.text-iterator) c.loop-text.invariant (search rules)) c.sort_unstable.ensures.permutation c.sort_unstable.ensures.sorted
+    let texts = map (λ text. text.now) c.args.texts.now in
+    let done = placed-all texts c.loop-place.place (omega (arith, c.loop-place-test.false, c.loop-place.auto.place-end, length-map c.args.texts.now (λ text. text.now))) in
+    sorted_places (λ entry. (entry.0.now, entry.1)) texts c.loop-place.entries.items c.sort_unstable.new.self.items (c.loop-place.invariant ∙ done) c.sort_unstable.ensures.permutation c.sort_unstable.ensures.sorted

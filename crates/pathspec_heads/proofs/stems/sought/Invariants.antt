@@ -3,8 +3,8 @@ use Rattle.pathspec_heads.specs.Heads.{Brackets}
 use Rattle.pathspec_heads.specs.Stems.{with_slash}
 use Rattle.pathspec_heads.proofs.stems.sought.Given as goal
 
-abbrev pub invariant-loop-low : goal.invariant-loop-low
-invariant-loop-low l = Brackets l.texts (with_slash l.ignore_case l.path) l.low l.high l.agreed
+abbrev pub invariant-loop-between : goal.invariant-loop-between
+invariant-loop-between l = Brackets l.texts (with_slash l.ignore_case l.path) l.between.low l.between.high l.between.agreed
 
-abbrev pub decreases-loop-low : goal.decreases-loop-low
-decreases-loop-low l = l.high - l.low
+abbrev pub decreases-loop-between : goal.decreases-loop-between
+decreases-loop-between l = l.between.high - l.between.low

@@ -6,5 +6,5 @@ use Rattle.gix_pathspec.proofs.search.takers.takers_with_heads.Given as goal
 abbrev pub invariant-loop-spec : goal.invariant-loop-spec
 invariant-loop-spec l = record {
   takers : l.takers.items ≡ takers_of (specs_of (take l.spec-index l.specs));
-  heads : map (λ head. head.items) l.heads.items ≡ map taker_head l.takers.items;
+  heads : map (λ head. head.now) l.heads.items ≡ map taker_head l.takers.items;
 }
