@@ -1,41 +1,56 @@
--- Entries in numbers, of a file mostly in eight bytes.
-use Rattle.std.specs.Prelude.{◌≡◌, ℕ, ◌+◌, ◌*◌, ◌^◌, ◌<◌, List, length, get_or, slice_get, Some}
+-- Entries in numbers, of a file mostly in four bytes.
+use Rattle.std.specs.Prelude.{◌≡◌, ℕ, ◌+◌, ◌*◌, ◌/◌, ◌^◌, ◌<◌, ◌≤◌, List, [], ◌∷◌, ◌++◌, length, map, get_or, slice_get, Some, nat_lt, if◌then◌else◌}
+use Rattle.std.specs.List.{range_with_len}
 use Rattle.pathspec_select.specs.declared.listing.spans.Span.{Span}
-use Rattle.pathspec_select.specs.declared.listing.spans.Bounds.{Bounds}
+use Rattle.pathspec_select.specs.declared.listing.spans.Anchor.{Anchor}
 use Rattle.pathspec_select.specs.declared.listing.spans.Packed.{Packed}
-use Rattle.pathspec_select.specs.declared.listing.spans.Packed.TheVariants.{File, Short, Long}
+use Rattle.pathspec_select.specs.declared.listing.spans.Packed.TheVariants.{File, Other}
 
 abbrev pub no_span : Span
 no_span = record { start = 0; length = 0; end = 0 }
 
-abbrev pub no_bounds : Bounds
-no_bounds = record { start = 0; end = 0 }
+abbrev pub no_anchor : Anchor
+no_anchor = record { start = 0; others = 0 }
 
--- the number whose bits from the 32nd on are these, and whose others those
-unfoldable pub long_number : ℕ → ℕ → ℕ
-long_number high low = high * 2 ^ 32 + low
+abbrev pub no_entry : Packed
+no_entry = File 0 0
 
--- the numbers of an entry, where others have these bounds and spans
-abbrev pub span_of : List Bounds → List Span → Packed → Span
-span_of bounds spans (File count start) = record { start = start; length = count; end = 0 }
-span_of bounds spans (Short count n) = record { start = (get_or bounds n no_bounds).start; length = count; end = (get_or bounds n no_bounds).end }
-span_of bounds spans (Long high low) = get_or spans (long_number high low) no_span
+-- the anchor of an entry's block
+abbrev pub anchor_of : List Anchor → ℕ → Anchor
+anchor_of anchors i = get_or anchors (i / 256) no_anchor
 
--- a file with these numbers
-abbrev pub IsFile : Span → Packed → Type 0
-IsFile span packed = (packed ≡ File span.length span.start) × (span.end ≡ 0)
+-- the numbers of an entry, where its block has this anchor and others these spans
+abbrev pub span_of : Anchor → List Span → Packed → Span
+span_of anchor others (File count start) = record { start = anchor.start + start; length = count; end = 0 }
+span_of anchor others (Other number) = get_or others (anchor.others + number) no_span
 
--- an entry of this length whose bounds have this number
-abbrev pub IsShort : Span → ℕ → Packed → Type 0
-IsShort span number packed = packed ≡ Short span.length number
+abbrev pub span_at : List Packed → List Anchor → List Span → ℕ → Span
+span_at packed anchors others i = span_of (anchor_of anchors i) others (get_or packed i no_entry)
 
--- an entry whose span has this number
-abbrev pub IsLong : ℕ → Packed → Type 0
-IsLong number packed = (high : ℕ) × (low : ℕ) × (packed ≡ Long high low) × (long_number high low ≡ number)
+-- the numbers of all entries
+unfoldable pub unpacked : List Packed → List Anchor → List Span → List Span
+unpacked packed anchors others = map (span_at packed anchors others) (range_with_len 0 (length packed))
 
--- Bounds and spans are there, and are those of one entry.
-pub record ArePacked (packed : List Packed) (bounds : List Bounds) (spans : List Span) : Type 0 where
-  pub short_inside : (i count n : ℕ) → slice_get packed i ≡ Some (Short count n) → n < length bounds
-  pub short_once : (i j count other n : ℕ) → slice_get packed i ≡ Some (Short count n) → slice_get packed j ≡ Some (Short other n) → i ≡ j
-  pub long_inside : (i high low : ℕ) → slice_get packed i ≡ Some (Long high low) → long_number high low < length spans
-  pub long_once : (i j high low other_high other_low : ℕ) → slice_get packed i ≡ Some (Long high low) → slice_get packed j ≡ Some (Long other_high other_low) → long_number high low ≡ long_number other_high other_low → i ≡ j
+-- a file with these numbers, in a block that has an anchor
+pub record IsFile (anchors : List Anchor) (block : ℕ) (span : Span) (packed : Packed) : Type 0 where
+  pub anchor : Anchor
+  pub stands : slice_get anchors block ≡ Some anchor
+  pub behind : ℕ
+  pub is : packed ≡ File span.length behind
+  pub begins : anchor.start + behind ≡ span.start
+  pub fits : span.start < 2 ^ 64
+  pub ends : span.end ≡ 0
+
+-- the anchors, and this one behind them where the block has none
+abbrev pub anchors_with : List Anchor → ℕ → Anchor → List Anchor
+anchors_with anchors block first = if nat_lt block (length anchors) then anchors else anchors ++ first ∷ []
+
+-- Each block has an anchor, and each span is that of one entry.
+pub record ArePacked (packed : List Packed) (anchors : List Anchor) (others : List Span) : Type 0 where
+  pub anchored : length packed ≤ length anchors * 256
+  pub start_fits : (i count start : ℕ) → slice_get packed i ≡ Some (File count start) → (anchor_of anchors i).start + start < 2 ^ 64
+  pub other_inside : (i n : ℕ) → slice_get packed i ≡ Some (Other n) → (anchor_of anchors i).others + n < length others
+  pub other_once : (i j m n : ℕ) → slice_get packed i ≡ Some (Other m) → slice_get packed j ≡ Some (Other n) → (anchor_of anchors i).others + m ≡ (anchor_of anchors j).others + n → i ≡ j
+  -- a block has no more spans than entries
+  pub others_before : (block : ℕ) → block < length anchors → (get_or anchors block no_anchor).others ≤ length others
+  pub others_few : (block : ℕ) → block < length anchors → length others + block * 256 ≤ (get_or anchors block no_anchor).others + length packed

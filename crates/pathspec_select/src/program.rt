@@ -64,7 +64,7 @@ pub fn run<R: Read, W: Write>(
 /// `a/x`, line feed, `b` has the spec `a` and the records `a/x` and `b`. Neither part is copied.
 ///
 /// It looks at each byte of the listing a fixed number of times, and asks the search about each entry at most twice. A
-/// file mostly takes 8 bytes and a directory 24, and 8 more where it is chosen. A directory that comes again is a further
+/// file mostly takes 4 bytes and a directory 28, and 8 more where it is chosen. A directory that comes again is a further
 /// entry, so that a listing which isn't in byte order takes more.
 ///
 /// It doesn't flush the writer, as [`run`] doesn't.

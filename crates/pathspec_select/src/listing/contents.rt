@@ -28,8 +28,8 @@ pub enum ListingError {
 
 /// A listing that was read: an entry for each record, in their order, and one for each directory that is only implied.
 ///
-/// It is walked where it lies: no name is copied. A file takes eight bytes where its path is shorter than 2^16 bytes and begins
-/// in the first 2^32 bytes of the listing, and any other entry 24, or 32 where its path is longer.
+/// It is walked where it lies: no name is copied. Of a block of 256 entries the first takes 44 bytes. A further file takes four
+/// where its path is shorter than 2^8 bytes and begins less than 2^16 bytes behind the first one's, and any other entry 28.
 #[derive(Drop)]
 pub struct Listing<'a> {
     outline: Outline<'a>,

@@ -16,7 +16,7 @@ use std::marker::Model;
 
 /// The entries of a listing, whose paths are parts of it: what a walk over a [`super::Listing`] is over.
 ///
-/// A file mostly takes eight bytes, and a directory 24.
+/// A file mostly takes four bytes, and a directory 28.
 #[derive(Drop)]
 pub struct Outline<'a> {
     bytes: &'a [u8],

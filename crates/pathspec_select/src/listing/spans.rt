@@ -1,13 +1,14 @@
-//! The entries of a listing in numbers, of a file mostly in eight bytes.
-ghost use Rattle.std.specs.Prelude.{◌≡◌, ◌≢◌, ◌+◌, ◌<◌, ◌≤◌, ◌^◌, ◌==◌, ◌∷◌, ◌++◌, [], length, set, slice_get, get_or, if◌then◌else◌, Some, None, IfSome, MatchOption, OnOk, OnErr};
+//! The entries of a listing in numbers, of a file mostly in four bytes.
+ghost use Rattle.std.specs.Prelude.{◌≡◌, ◌≢◌, ◌+◌, ◌<◌, ◌≤◌, ◌∷◌, ◌++◌, [], length, set, slice_get, get_or, IfSome, OnOk, OnErr};
 ghost use Rattle.pathspec_parts.specs.TreeLayout.{open_end};
-ghost use Rattle.pathspec_select.specs.PackedSpans.{no_span, IsFile, IsShort, IsLong, long_number};
+ghost use Rattle.pathspec_select.specs.PackedSpans.{no_span, IsFile, anchors_with};
 
 use std::alloc::{AllocError, Global};
 use std::marker::Model;
 
-/// What the higher part of a span's number counts.
-const HALF: usize = 1 << 32;
+/// How many entries are counted from one anchor. Where their paths are shorter than 2^8 bytes and their records follow one
+/// another, each begins less than 2^16 bytes behind the first.
+const BLOCK: usize = 256;
 
 /// An entry in numbers.
 #[derive(Clone, Copy)]
@@ -21,42 +22,44 @@ pub(super) struct Span {
     pub(super) end: usize,
 }
 
-/// Where the path of an entry begins, and the end of its [`Span`].
+/// What the numbers of a block of entries are counted from.
 #[derive(Clone, Copy)]
-struct Bounds {
+struct Anchor {
+    /// Where the path of its first entry begins.
     start: usize,
-    end: usize,
+    /// How many spans entries before it have.
+    others: usize,
 }
 
-/// An entry in eight bytes.
+/// An entry in four bytes.
 #[derive(Clone, Copy)]
 enum Packed {
-    /// A file whose numbers are small.
-    File { length: u16, start: u32 },
-    /// Another entry with a short path, by the number of its bounds.
-    Short { length: u16, number: u32 },
-    /// Any other, by the number of its span, whose bits from the 32nd on are `high`.
-    Long { high: u16, low: u32 },
+    /// A file with a short path, which begins so many bytes behind its anchor's.
+    File { length: u8, start: u16 },
+    /// Any other, by the number of its span, from those before its anchor on.
+    Other { number: u8 },
 }
 
-/// Entries in numbers: a file mostly takes eight bytes, and a directory 24.
+const _: () = prove!(size_of::<Packed>() == 4);
+
+/// Entries in numbers: a file mostly takes four bytes, and a directory 28.
 #[derive(Drop)]
 pub(super) struct Spans {
     packed: Vec<Packed>,
-    bounds: Vec<Bounds>,
-    spans: Vec<Span>,
+    anchors: Vec<Anchor>,
+    others: Vec<Span>,
 }
 
 impl Model for Spans {
-    ghost use Rattle.std.specs.Prelude.{List, map};
+    ghost use Rattle.std.specs.Prelude.{List};
     ghost use Rattle.pathspec_select.specs.declared.listing.spans.Span.{Span};
-    ghost use Rattle.pathspec_select.specs.PackedSpans.{span_of, ArePacked};
+    ghost use Rattle.pathspec_select.specs.PackedSpans.{unpacked, ArePacked};
 
     ghost Value = { List Span };
 
-    ghost view = { λ s. map (span_of s.bounds.items s.spans.items) s.packed.items };
+    ghost view = { λ s. unpacked s.packed.items s.anchors.items s.others.items };
 
-    ghost invariant = { λ s. ArePacked s.packed.items s.bounds.items s.spans.items };
+    ghost invariant = { λ s. ArePacked s.packed.items s.anchors.items s.others.items };
 }
 
 impl Spans {
@@ -66,8 +69,8 @@ impl Spans {
     {
         Spans {
             packed: Vec::new(alloc),
-            bounds: Vec::new(alloc),
-            spans: Vec::new(alloc),
+            anchors: Vec::new(alloc),
+            others: Vec::new(alloc),
         }
     }
 
@@ -82,7 +85,7 @@ impl Spans {
     pub(super) fn get(&self, number: usize) -> Option<Span>
         ensures { result ≡ slice_get self.now number }
     {
-        if number < self.packed.len() {
+        if number < self.len() {
             Some(self.at(number))
         } else {
             None
@@ -94,35 +97,28 @@ impl Spans {
         requires { number < length self.now }
         ensures { result ≡ get_or self.now number no_span }
     {
+        let anchor = self.anchors[number / BLOCK];
         match self.packed[number] {
             Packed::File { length, start } => Span {
-                start: start as usize,
+                start: anchor.start + usize::from(start),
                 length: usize::from(length),
                 end: 0,
             },
-            Packed::Short { length, number } => {
-                let bounds = self.bounds[number as usize];
-                Span {
-                    start: bounds.start,
-                    length: usize::from(length),
-                    end: bounds.end,
-                }
-            }
-            Packed::Long { high, low } => self.spans[long_number(high, low)],
+            Packed::Other { number } => self.others[anchor.others + usize::from(number)],
         }
     }
 
     /// Adds one after the others.
     ///
     /// # Errors
-    /// Memory runs out, as it has long before 2^48 of them have a span. All is then as it was.
+    /// Memory runs out. All is then as it was.
     #[inline(always)]
     pub(super) fn push(&mut self, span: Span) -> Result<(), AllocError>
         ensures ok { OnOk result (self.new ≡ self.old ++ span ∷ []) }
         ensures room { OnOk result (length self.new + 1 < open_end) }
         ensures err { OnErr result (self.new ≡ self.old) }
     {
-        match pack_file(span) {
+        match pack_file(&self.anchors, self.packed.len() / BLOCK, span) {
             Some(packed) => {
                 self.packed.push(packed)?;
                 Ok(())
@@ -131,7 +127,7 @@ impl Spans {
         }
     }
 
-    /// The same of one with numbers elsewhere.
+    /// The same of one with a span elsewhere, as the first of a block.
     ///
     /// # Errors
     /// As above.
@@ -141,35 +137,19 @@ impl Spans {
         ensures room { OnOk result (length self.new + 1 < open_end) }
         ensures err { OnErr result (self.new ≡ self.old) }
     {
-        match pack_short(span, self.bounds.len()) {
-            Some(packed) => {
-                self.packed.reserve(1)?;
-                self.bounds.push(Bounds {
-                    start: span.start,
-                    end: span.end,
-                })?;
-                self.packed.push(packed)?;
-                Ok(())
-            }
-            None => self.push_long(span),
-        }
-    }
-
-    /// The same of one with a span elsewhere.
-    ///
-    /// # Errors
-    /// As above.
-    fn push_long(&mut self, span: Span) -> Result<(), AllocError>
-        ensures ok { OnOk result (self.new ≡ self.old ++ span ∷ []) }
-        ensures room { OnOk result (length self.new + 1 < open_end) }
-        ensures err { OnErr result (self.new ≡ self.old) }
-    {
-        let Some(packed) = pack_long(self.spans.len()) else {
-            return Err(AllocError);
-        };
         self.packed.reserve(1)?;
-        self.spans.push(span)?;
-        self.packed.push(packed)?;
+        self.others.reserve(1)?;
+        let block = self.packed.len() / BLOCK;
+        let first = Anchor {
+            start: span.start,
+            others: self.others.len(),
+        };
+        add_anchor(&mut self.anchors, block, first)?;
+        let number = self.others.len() - self.anchors[block].others;
+        self.others.push(span)?;
+        self.packed.push(Packed::Other {
+            number: number as u8,
+        })?;
         Ok(())
     }
 
@@ -180,47 +160,37 @@ impl Spans {
         ensures { self.new ≡ set self.old number
             (record (get_or self.old number no_span) { end = end }) }
     {
+        let before = self.anchors[number / BLOCK].others;
         match self.packed[number] {
             Packed::File { .. } => {}
-            Packed::Short { number, .. } => self.bounds[number as usize].end = end,
-            Packed::Long { high, low } => self.spans[long_number(high, low)].end = end,
+            Packed::Other { number } => self.others[before + usize::from(number)].end = end,
         }
     }
 }
 
-/// A file in eight bytes, if its numbers are small.
-fn pack_file(span: Span) -> Option<Packed>
-    ensures { IfSome result (IsFile span) }
+/// A file in four bytes, if its block has an anchor and its numbers are small.
+fn pack_file(anchors: &[Anchor], block: usize, span: Span) -> Option<Packed>
+    ensures { IfSome result (IsFile anchors.now block span) }
 {
+    let anchor = anchors.get(block)?;
     if span.end != 0 {
         return None;
     }
-    let length = u16::try_from(span.length).ok()?;
-    let start = u32::try_from(span.start).ok()?;
+    let length = u8::try_from(span.length).ok()?;
+    let start = u16::try_from(span.start.checked_sub(anchor.start)?).ok()?;
     Some(Packed::File { length, start })
 }
 
-/// An entry by the number of its bounds, if that and its path's length are small.
-fn pack_short(span: Span, number: usize) -> Option<Packed>
-    ensures { IfSome result (IsShort span number) }
+/// Adds an anchor for a block, if it has none.
+///
+/// # Errors
+/// Memory runs out. The anchors are then as they were.
+fn add_anchor(anchors: &mut Vec<Anchor>, block: usize, first: Anchor) -> Result<(), AllocError>
+    ensures ok { OnOk result (anchors.new.items ≡ anchors_with anchors.old.items block first) }
+    ensures err { OnErr result (anchors.new.items ≡ anchors.old.items) }
 {
-    let length = u16::try_from(span.length).ok()?;
-    let number = u32::try_from(number).ok()?;
-    Some(Packed::Short { length, number })
-}
-
-/// An entry by the number of its span, if that is less than 2^48.
-fn pack_long(number: usize) -> Option<Packed>
-    ensures { MatchOption result (2 ^ 48 ≤ number) (IsLong number) }
-{
-    let high = u16::try_from(number / HALF).ok()?;
-    let low = u32::try_from(number % HALF).ok()?;
-    Some(Packed::Long { high, low })
-}
-
-/// The number of a span.
-fn long_number(high: u16, low: u32) -> usize
-    ensures { result ≡ long_number high low }
-{
-    usize::from(high) * HALF + low as usize
+    if block >= anchors.len() {
+        anchors.push(first)?;
+    }
+    Ok(())
 }
