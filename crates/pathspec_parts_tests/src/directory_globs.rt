@@ -1,33 +1,40 @@
 //! Globs that are asked of directories: their answers, their ends and the scratches that fit them.
+use crate::globs::answer;
 use pathspec_parts::glob::Case::{self, Fold, Sensitive};
+use pathspec_parts::glob::DirectoryGlob;
 use pathspec_parts::glob::Mode::{self, PathAware, Shell};
-use pathspec_parts::glob::{DirectoryGlob, Glob};
 use pathspec_test_support::support::{Row, assert_each, boxed_room};
 use std::alloc::{AllocError, Global};
 use std::test::Fail;
 
 /// A pattern with its mode and case, a directory, and whether they match.
-#[derive(Clone, Copy)]
 struct Matches(Mode, Case, &'static str, &'static str, bool);
 
+/// The glob of a pattern for directories, boxed as searches are.
+fn glob_of(alloc: Global, mode: Mode, pattern: &str) -> Result<Box<DirectoryGlob>, AllocError> {
+    Ok(Box::new(
+        alloc,
+        DirectoryGlob::compile(alloc, pattern.as_bytes(), mode)?,
+    )?)
+}
+
 /// What the glob of a pattern says of a directory.
-fn of_directory(alloc: Global, row: Matches) -> Result<bool, AllocError> {
-    let glob = DirectoryGlob::compile(alloc, row.2.as_bytes(), row.0)?;
+fn of_directory(alloc: Global, row: &Matches) -> Result<bool, AllocError> {
+    let glob = glob_of(alloc, row.0, row.2)?;
     let mut scratch = boxed_room(alloc, glob.tokens())?;
     Ok(glob.matches(row.3.as_bytes(), row.1, &mut scratch))
 }
 
 /// What it says of the text of the directory and a slash.
-fn of_text(alloc: Global, row: Matches) -> Result<bool, AllocError> {
-    let glob = Glob::compile(alloc, row.2.as_bytes(), row.0)?;
-    let mut scratch = boxed_room(alloc, glob.tokens())?;
+fn of_text(alloc: Global, row: &Matches) -> Result<bool, AllocError> {
     let text = format!(in alloc; "{}/", row.3)?;
-    Ok(glob.matches(text.as_bytes(), row.1, &mut scratch))
+    let (found, _) = answer(alloc, row.0, row.1, row.2, text.as_bytes())?;
+    Ok(found)
 }
 
 impl Row for Matches {
     fn holds(&self, alloc: Global) -> Result<bool, Fail> {
-        Ok(of_directory(alloc, *self)? == self.4 && of_text(alloc, *self)? == self.4)
+        Ok(of_directory(alloc, self)? == self.4 && of_text(alloc, self)? == self.4)
     }
 }
 
@@ -86,7 +93,7 @@ struct Ends(Mode, &'static str, usize, bool);
 
 impl Row for Ends {
     fn holds(&self, alloc: Global) -> Result<bool, Fail> {
-        let glob = DirectoryGlob::compile(alloc, self.1.as_bytes(), self.0)?;
+        let glob = glob_of(alloc, self.0, self.1)?;
         Ok(glob.tokens() == self.2 && glob.has_open_end() == self.3)
     }
 }
@@ -115,7 +122,7 @@ struct IsOpen(Mode, &'static str, bool);
 
 impl Row for IsOpen {
     fn holds(&self, alloc: Global) -> Result<bool, Fail> {
-        let glob = DirectoryGlob::compile(alloc, self.1.as_bytes(), self.0)?;
+        let glob = glob_of(alloc, self.0, self.1)?;
         Ok(glob.has_open_end() == self.2)
     }
 }
@@ -141,7 +148,7 @@ struct Fits(usize, bool);
 
 impl Row for Fits {
     fn holds(&self, alloc: Global) -> Result<bool, Fail> {
-        let glob = DirectoryGlob::compile(alloc, b"a?*", Shell)?;
+        let glob = glob_of(alloc, Shell, "a?*")?;
         Ok(glob.fits(&*boxed_room(alloc, self.0)?) == self.1)
     }
 }
@@ -157,7 +164,7 @@ struct Steps(&'static str, bool, u128);
 
 impl Row for Steps {
     fn holds(&self, alloc: Global) -> Result<bool, Fail> {
-        let glob = DirectoryGlob::compile(alloc, b"a/**", PathAware)?;
+        let glob = glob_of(alloc, PathAware, "a/**")?;
         let mut scratch = boxed_room(alloc, glob.tokens())?;
         let is_new = scratch.last_steps() == 0 && scratch.total_steps() == 0;
         let found = glob.matches(self.0.as_bytes(), Sensitive, &mut scratch);

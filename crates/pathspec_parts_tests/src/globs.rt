@@ -7,7 +7,7 @@ use std::alloc::{AllocError, Global};
 use std::test::Fail;
 
 /// What a glob of this pattern says of a text in a new scratch, and how many steps that took.
-fn answer(
+pub(super) fn answer(
     alloc: Global,
     mode: Mode,
     case: Case,

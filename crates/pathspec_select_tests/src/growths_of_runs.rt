@@ -217,10 +217,21 @@ impl Call for Run {
     fn end(&self, alloc: Global, number: usize) -> Result<Ended, Fail> {
         let words = words_of(alloc, self.0)?;
         let environment = environment_of(alloc, self.1)?;
-        let end = end_of_words(alloc, number, &words, &environment, self)?;
-        let again = end_of_words(alloc, NONE, &words, &environment, self)?;
-        Ok(with_again(end, again))
+        end_of_runs(alloc, number, &words, &environment, self)
     }
+}
+
+/// How a run ends with these words, in this environment, made again with memory.
+fn end_of_runs(
+    alloc: Global,
+    number: usize,
+    words: &[String],
+    environment: &Environment,
+    row: &Run,
+) -> Result<Ended, Fail> {
+    let end = end_of_words(alloc, number, words, environment, row)?;
+    let again = end_of_words(alloc, NONE, words, environment, row)?;
+    Ok(with_again(end, again))
 }
 
 const RUNS: &[Run] = &[

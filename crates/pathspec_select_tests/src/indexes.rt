@@ -5,7 +5,8 @@ use pathspec_select::index::{IndexError, IndexPlace, IndexWalk, SortedPaths, cho
 use pathspec_select::listing::read;
 use pathspec_select::select;
 use pathspec_test_support::look_ups::Marks;
-use pathspec_test_support::support::{Row, are_same, assert_each, search_of};
+use pathspec_test_support::searches::search_of_line;
+use pathspec_test_support::support::{Row, are_same, assert_each};
 use std::alloc::{AllocError, Global};
 use std::test::Fail;
 
@@ -92,11 +93,11 @@ fn paths_make_entries_and_imply_directories(rt: HostRuntime) -> Result<(), Fail>
     assert_each(rt.alloc(), ROWS)
 }
 
-/// Texts, the directory that they are given in, paths, the numbers of the entries that a cursor gives and enters, the
-/// places, a path's number and a length each, that a walk over the paths gives and enters, and the numbers of the paths
-/// that are chosen.
+/// The texts in a line, the directory that they are given in, paths, the numbers of the entries that a cursor gives and
+/// enters, the places, a path's number and a length each, that a walk over the paths gives and enters, and the numbers of
+/// the paths that are chosen.
 struct Choice(
-    &'static [&'static str],
+    &'static str,
     &'static str,
     &'static [&'static str],
     (&'static [usize], &'static [usize]),
@@ -106,17 +107,20 @@ struct Choice(
 
 impl Row for Choice {
     fn holds(&self, alloc: Global) -> Result<bool, Fail> {
-        let search = search_of(alloc, self.0, self.1)?;
-        let paths = bytes_of(alloc, self.2)?;
-        let Ok(sorted) = SortedPaths::new(&paths) else {
-            return Ok(false);
-        };
+        let search = search_of_line(alloc, self.0, self.1)?;
         let lines = lines_of(alloc, self.2)?;
-        Ok(
-            is_chosen(alloc, &sorted, &search, self.5)?
-                && is_by_tree(alloc, &lines, &search, self.3)?
-                && is_by_paths(alloc, &sorted, &search, self.4)?,
-        )
+        let is_by_tree = is_by_tree(alloc, &lines, &search, self.3)?;
+        Ok(is_by_tree && self.is_of_paths(alloc, &search)?)
+    }
+}
+
+impl Choice {
+    /// Whether just these paths are chosen, and a walk over all gives and enters these places.
+    fn is_of_paths(&self, alloc: Global, search: &Search) -> Result<bool, Fail> {
+        let paths = bytes_of(alloc, self.2)?;
+        let sorted = SortedPaths::new(&paths)?;
+        let is_chosen = is_chosen(alloc, &sorted, search, self.5)?;
+        Ok(is_chosen && is_by_paths(alloc, &sorted, search, self.4)?)
     }
 }
 
@@ -176,15 +180,15 @@ fn are_places(places: &[IndexPlace], wanted: &[(usize, usize)]) -> bool {
 fn a_walk_over_paths_gives_what_a_cursor_gives(rt: HostRuntime) -> Result<(), Fail> {
     const SOURCES: &[&str] = &["README.md", "doc/a.md", "src/gen/x.rs", "src/lib.rs", "src/lib/y.rs", "src/main.c"];
     const ROWS: &[Choice] = &[
-        Choice(&["src/*.rs", ":!src/gen"], "", SOURCES, (&[6, 8], &[3, 7]), (&[(3, 10), (4, 12)], &[(2, 3), (4, 7)]), &[3, 4]),
-        Choice(&["*.md"], "", SOURCES, (&[0, 2], &[1, 3, 4, 7]), (&[(0, 9), (1, 8)], &[(1, 3), (2, 3), (2, 7), (4, 7)]), &[0, 1]),
-        Choice(&["doc"], "", SOURCES, (&[1, 2], &[1]), (&[(1, 3), (1, 8)], &[(1, 3)]), &[1]),
-        Choice(&["src/lib"], "", SOURCES, (&[7, 8], &[3, 7]), (&[(4, 7), (4, 12)], &[(2, 3), (4, 7)]), &[4]),
-        Choice(&["none"], "", SOURCES, (&[], &[]), (&[], &[]), &[]),
-        Choice(&["lib.rs"], "src", SOURCES, (&[6], &[3]), (&[(3, 10)], &[(2, 3)]), &[3]),
-        Choice(&["a"], "", &["a", "a-b", "a/b"], (&[0, 2, 3], &[2]), (&[(0, 1), (2, 1), (2, 3)], &[(2, 1)]), &[0, 2]),
-        Choice(&["a/b"], "", &["a", "a-b", "a/b", "ab"], (&[3], &[2]), (&[(2, 3)], &[(2, 1)]), &[2]),
-        Choice(&["a"], "", &[], (&[], &[]), (&[], &[]), &[]),
+        Choice("src/*.rs :!src/gen", "", SOURCES, (&[6, 8], &[3, 7]), (&[(3, 10), (4, 12)], &[(2, 3), (4, 7)]), &[3, 4]),
+        Choice("*.md", "", SOURCES, (&[0, 2], &[1, 3, 4, 7]), (&[(0, 9), (1, 8)], &[(1, 3), (2, 3), (2, 7), (4, 7)]), &[0, 1]),
+        Choice("doc", "", SOURCES, (&[1, 2], &[1]), (&[(1, 3), (1, 8)], &[(1, 3)]), &[1]),
+        Choice("src/lib", "", SOURCES, (&[7, 8], &[3, 7]), (&[(4, 7), (4, 12)], &[(2, 3), (4, 7)]), &[4]),
+        Choice("none", "", SOURCES, (&[], &[]), (&[], &[]), &[]),
+        Choice("lib.rs", "src", SOURCES, (&[6], &[3]), (&[(3, 10)], &[(2, 3)]), &[3]),
+        Choice("a", "", &["a", "a-b", "a/b"], (&[0, 2, 3], &[2]), (&[(0, 1), (2, 1), (2, 3)], &[(2, 1)]), &[0, 2]),
+        Choice("a/b", "", &["a", "a-b", "a/b", "ab"], (&[3], &[2]), (&[(2, 3)], &[(2, 1)]), &[2]),
+        Choice("a", "", &[], (&[], &[]), (&[], &[]), &[]),
     ];
     assert_each(rt.alloc(), ROWS)
 }
@@ -282,12 +286,16 @@ const EXAMPLE: &[&str] = &["README.md", "doc/a.md", "src/gen/x.rs", "src/lib.rs"
 
 #[test]
 fn the_example_for_callers_does_what_it_says(rt: HostRuntime) -> Result<(), Fail> {
-    let search = search_of(rt.alloc(), &["src/*.rs", ":!src/gen"], "")?;
-    let names = bytes_of(rt.alloc(), EXAMPLE)?;
-    let paths = SortedPaths::new(&names)?;
-    let is_chosen = is_chosen(rt.alloc(), &paths, &search, &[3])?;
-    let wanted: (&[(usize, usize)], &[(usize, usize)]) = (&[(3, 10)], &[(2, 3)]);
-    assert!(rt; is_chosen && is_by_paths(rt.alloc(), &paths, &search, wanted)?);
+    const ROW: &Choice = &Choice(
+        "src/*.rs :!src/gen",
+        "",
+        EXAMPLE,
+        (&[], &[]),
+        (&[(3, 10)], &[(2, 3)]),
+        &[3],
+    );
+    let search = search_of_line(rt.alloc(), ROW.0, ROW.1)?;
+    assert!(rt; ROW.is_of_paths(rt.alloc(), &search)?);
     Ok(())
 }
 

@@ -178,7 +178,6 @@ fn the_first_fault_is_refused_and_nothing_is_written(rt: HostRuntime) -> Result<
 }
 
 /// Words, a last one, which may be empty or hold a space, an input, and what is written or told for them.
-#[derive(Clone, Copy)]
 pub(super) struct LastWord(
     pub(super) &'static str,
     pub(super) &'static str,
@@ -237,7 +236,6 @@ fn refusals_have_a_line_each(rt: HostRuntime) -> Result<(), Fail> {
 
 /// Words, an input that is a text, another one so many times, and an end, and what is written, or None for the whole
 /// input.
-#[derive(Clone, Copy)]
 pub(super) struct Large(
     pub(super) &'static str,
     pub(super) &'static str,
@@ -382,7 +380,6 @@ fn no_read_is_made_again_nor_after_the_end(rt: HostRuntime) -> Result<(), Fail> 
 }
 
 /// Words, what a reader answers, and how it fails: before its first answer, its second, and so on, and after its last.
-#[derive(Clone, Copy)]
 pub(super) struct Unread(
     pub(super) &'static str,
     pub(super) &'static [Given],
@@ -601,7 +598,6 @@ fn what_cannot_be_chosen_is_not_asked_about(rt: HostRuntime) -> Result<(), Fail>
 
 /// Words of a job, after how many answers its look-up fails, once, and how often it does; inputs, and what the job writes
 /// for one after another, or is told.
-#[derive(Clone, Copy)]
 pub(super) struct Again(
     pub(super) &'static str,
     pub(super) u64,

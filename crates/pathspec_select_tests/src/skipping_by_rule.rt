@@ -1,14 +1,11 @@
 //! What walks that skip directories give, beside asking about each entry by itself.
-use bstr::BStr;
 use gix_pathspec::Search;
 use gix_pathspec::search::Scratch;
 use pathspec_parts::tree::{Cursor, Tree, TreeError, Walk as _};
-use pathspec_select::select;
-use pathspec_test_support::look_ups::Marks;
-use pathspec_test_support::searches::scratch_of;
+use pathspec_test_support::searches::{is_selected, may_skip, scratch_of};
 use pathspec_test_support::support::{are_same, search_of};
+use pathspec_test_support::trees::given;
 use std::alloc::{AllocError, Global};
-use std::process::Abort;
 use std::test::Fail;
 
 /// An entry of a tree.
@@ -141,28 +138,11 @@ fn selected(
 ) -> Result<Vec<usize>, Fail> {
     let mut selected = Vec::new(alloc);
     for (number, entry) in entries.iter().enumerate() {
-        if is_selected(search, scratch, entry)? {
+        if is_selected(search, &entry.path, entry.is_dir, scratch)? {
             selected.push(number)?;
         }
     }
     Ok(selected)
-}
-
-/// Whether a search selects an entry.
-fn is_selected(search: &Search, scratch: &mut Scratch, entry: &Entry) -> Result<bool, Fail> {
-    if !search.fits(scratch) {
-        return Err("the scratch doesn't fit the search".into());
-    }
-    let path = BStr::new(&entry.path);
-    Ok(search.is_selected(path, Some(entry.is_dir), scratch, &mut Marks::new())?)
-}
-
-/// Whether a walk may skip what lies below an entry.
-fn may_skip(search: &Search, scratch: &mut Scratch, entry: &Entry) -> Result<bool, Fail> {
-    if !search.fits(scratch) {
-        return Err("the scratch doesn't fit the search".into());
-    }
-    Ok(search.may_skip(BStr::new(&entry.path), scratch))
 }
 
 /// Whether one of the selected entries lies below a directory.
@@ -186,7 +166,7 @@ fn loses_nothing(
 ) -> Result<bool, Fail> {
     for entry in entries {
         if entry.is_dir
-            && may_skip(search, scratch, entry)?
+            && may_skip(search, &entry.path, scratch)?
             && has_below(entries, selected, entry)
         {
             return Ok(false);
@@ -203,8 +183,7 @@ fn is_alike(
     scratch: &mut Scratch,
     grown: &Grown,
 ) -> Result<bool, Fail> {
-    let mut cursor = Cursor::new(alloc, &grown.tree)?;
-    let given = select(alloc, &mut cursor, search, &mut Marks::new())?;
+    let given = given(alloc, &grown.tree, search)?;
     let selected = selected(alloc, search, scratch, &grown.entries)?;
     Ok(are_same(&given, &selected) && loses_nothing(search, scratch, &grown.entries, &selected)?)
 }
@@ -212,7 +191,7 @@ fn is_alike(
 /// A rule for lists of specs, in what it is asked about.
 trait Rule {
     /// Asserts the rule of a list.
-    fn assert_of(&mut self, rt: &impl Abort, alloc: Global, texts: &[&str]) -> Result<(), Fail>;
+    fn assert_of(&mut self, alloc: Global, texts: &[&str]) -> Result<(), Fail>;
 }
 
 /// That walks over trees give what is selected one by one. Each list is asked of a few of the trees, in turn.
@@ -225,25 +204,34 @@ struct Alike {
 }
 
 impl Rule for Alike {
-    fn assert_of(&mut self, rt: &impl Abort, alloc: Global, texts: &[&str]) -> Result<(), Fail> {
+    fn assert_of(&mut self, alloc: Global, texts: &[&str]) -> Result<(), Fail> {
         let search = search_of(alloc, texts, "")?;
         let mut scratch = scratch_of(alloc, &search)?;
         for _ in 0..14 {
-            let grown = self.draws.one_of(&self.trees).ok_or("no tree")?;
-            assert!(rt;
-                is_alike(alloc, &search, &mut scratch, grown)?,
-                "{texts:?}, pair {}",
-                self.pairs
-            );
-            self.pairs = self.pairs.saturating_add(1);
+            if !self.is_next_alike(alloc, &search, &mut scratch)? {
+                return Err(Fail::new(format_args!("{texts:?}, pair {}", self.pairs)));
+            }
         }
         Ok(())
     }
 }
 
+impl Alike {
+    /// Whether the rule holds for a search and the next tree.
+    fn is_next_alike(
+        &mut self,
+        alloc: Global,
+        search: &Search,
+        scratch: &mut Scratch,
+    ) -> Result<bool, Fail> {
+        self.pairs = self.pairs.saturating_add(1);
+        let grown = self.draws.one_of(&self.trees).ok_or("no tree")?;
+        is_alike(alloc, search, scratch, grown)
+    }
+}
+
 /// Asserts a rule of the lists of two texts and one of those from a place on.
 fn assert_of_three<R: Rule>(
-    rt: &impl Abort,
     alloc: Global,
     rule: &mut R,
     texts: &[&str],
@@ -251,14 +239,13 @@ fn assert_of_three<R: Rule>(
     [first, second]: [&str; 2],
 ) -> Result<(), Fail> {
     for third in texts.iter().skip(from) {
-        rule.assert_of(rt, alloc, &[first, second, third])?;
+        rule.assert_of(alloc, &[first, second, third])?;
     }
     Ok(())
 }
 
 /// Asserts a rule of the lists of a text and one or two of those from a place on.
 fn assert_of_two<R: Rule>(
-    rt: &impl Abort,
     alloc: Global,
     rule: &mut R,
     texts: &[&str],
@@ -266,29 +253,17 @@ fn assert_of_two<R: Rule>(
     first: &str,
 ) -> Result<(), Fail> {
     for (place, second) in texts.iter().enumerate().skip(from) {
-        rule.assert_of(rt, alloc, &[first, second])?;
-        assert_of_three(
-            rt,
-            alloc,
-            rule,
-            texts,
-            place.saturating_add(1),
-            [first, second],
-        )?;
+        rule.assert_of(alloc, &[first, second])?;
+        assert_of_three(alloc, rule, texts, place.saturating_add(1), [first, second])?;
     }
     Ok(())
 }
 
 /// Asserts a rule of all lists of one, two or three of these texts.
-fn assert_rule<R: Rule>(
-    rt: &impl Abort,
-    alloc: Global,
-    rule: &mut R,
-    texts: &[&str],
-) -> Result<(), Fail> {
+fn assert_rule<R: Rule>(alloc: Global, rule: &mut R, texts: &[&str]) -> Result<(), Fail> {
     for (place, first) in texts.iter().enumerate() {
-        rule.assert_of(rt, alloc, &[first])?;
-        assert_of_two(rt, alloc, rule, texts, place.saturating_add(1), first)?;
+        rule.assert_of(alloc, &[first])?;
+        assert_of_two(alloc, rule, texts, place.saturating_add(1), first)?;
     }
     Ok(())
 }
@@ -320,26 +295,28 @@ const TEXTS: &[&str] = &[
 ];
 
 /// Asserts that walks give what is selected one by one: by each list of [`TEXTS`], over trees that are drawn from a number on.
-fn assert_alike(rt: &impl Abort, alloc: Global, seed: u64) -> Result<(), Fail> {
+fn assert_alike(alloc: Global, seed: u64) -> Result<(), Fail> {
     let mut draws = Draws(seed);
     let mut rule = Alike {
         trees: drawn_trees(alloc, &mut draws)?,
         draws,
         pairs: 0,
     };
-    assert_rule(rt, alloc, &mut rule, TEXTS)?;
-    assert!(rt; rule.pairs >= 25_000);
-    Ok(())
+    assert_rule(alloc, &mut rule, TEXTS)?;
+    if rule.pairs >= 25_000 {
+        return Ok(());
+    }
+    Err("too few pairs are asked".into())
 }
 
 #[test]
 fn walks_give_what_is_selected_one_by_one(rt: HostRuntime) -> Result<(), Fail> {
-    assert_alike(&rt, rt.alloc(), 1)
+    assert_alike(rt.alloc(), 1)
 }
 
 #[test]
 fn walks_over_other_trees_give_it_too(rt: HostRuntime) -> Result<(), Fail> {
-    assert_alike(&rt, rt.alloc(), 2)
+    assert_alike(rt.alloc(), 2)
 }
 
 /// Specs without wildcards and attributes.
@@ -474,10 +451,10 @@ fn holders(
 
 /// Whether just those directories may be skipped that hold nothing which is selected. The root isn't asked.
 fn is_exact(alloc: Global, search: &Search, all: &All) -> Result<bool, Fail> {
-    let mut scratch = scratch_of(alloc, &search)?;
+    let mut scratch = scratch_of(alloc, search)?;
     let holders = holders(alloc, search, &mut scratch, all)?;
     for (entry, holds) in all.directories.iter().zip(&holders).skip(1) {
-        if may_skip(search, &mut scratch, entry)? == *holds {
+        if may_skip(search, &entry.path, &mut scratch)? == *holds {
             return Ok(false);
         }
     }
@@ -494,14 +471,15 @@ struct Exact {
 }
 
 impl Rule for Exact {
-    fn assert_of(&mut self, rt: &impl Abort, alloc: Global, texts: &[&str]) -> Result<(), Fail> {
+    fn assert_of(&mut self, alloc: Global, texts: &[&str]) -> Result<(), Fail> {
         if has(texts, false, true) && has(texts, true, false) {
             return Ok(());
         }
-        let search = search_of(alloc, texts, "")?;
-        assert!(rt; is_exact(alloc, &search, &self.all)?, "{texts:?}");
         self.lists = self.lists.saturating_add(1);
-        Ok(())
+        if is_exact(alloc, &*search_of(alloc, texts, "")?, &self.all)? {
+            return Ok(());
+        }
+        Err(Fail::new(format_args!("{texts:?}")))
     }
 }
 
@@ -515,7 +493,7 @@ fn skipping_by_plain_specs_is_exact(rt: HostRuntime) -> Result<(), Fail> {
         },
         lists: 0,
     };
-    assert_rule(&rt, rt.alloc(), &mut rule, PLAIN)?;
+    assert_rule(rt.alloc(), &mut rule, PLAIN)?;
     assert!(rt; paths.len() == 121 && rule.lists > 300);
     Ok(())
 }

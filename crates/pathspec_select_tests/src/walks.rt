@@ -3,24 +3,25 @@ use gix_pathspec::Search;
 use pathspec_parts::tree::{Cursor, Tree, Walk as _};
 use pathspec_select::{SelectError, select};
 use pathspec_test_support::look_ups::Marks;
+use pathspec_test_support::searches::search_of_line;
 use pathspec_test_support::support::{Row, are_same, assert_each, search_of};
 use pathspec_test_support::trees::tree_of;
 use std::alloc::{AllocError, Global};
 use std::test::Fail;
 
-/// Texts, the directory that they are given in, the words of a tree, and the numbers of the entries that are given and
-/// entered.
-struct Walk(
-    &'static [&'static str],
-    &'static str,
-    &'static [&'static str],
-    &'static [usize],
-    &'static [usize],
+/// The texts in a line, the directory that they are given in, the words of a tree, and the numbers of the entries that are
+/// given and entered.
+pub(super) struct Walk(
+    pub(super) &'static str,
+    pub(super) &'static str,
+    pub(super) &'static [&'static str],
+    pub(super) &'static [usize],
+    pub(super) &'static [usize],
 );
 
 impl Row for Walk {
     fn holds(&self, alloc: Global) -> Result<bool, Fail> {
-        let search = search_of(alloc, self.0, self.1)?;
+        let search = search_of_line(alloc, self.0, self.1)?;
         let tree = tree_of(alloc, self.2)?;
         let end = End::Gives(self.3, self.4);
         Ok(is_walk(alloc, &tree, &search, &mut Marks::new(), end)?)
@@ -67,18 +68,18 @@ fn is_walk(
 #[rattlefmt::skip]
 fn a_walk_gives_what_is_chosen_and_enters_what_can_hold_it(rt: HostRuntime) -> Result<(), Fail> {
     const ROWS: &[Walk] = &[
-        Walk(&["a/b"], "", &["a/", "b", "..", "c/", "d"], &[1], &[0]),
-        Walk(&["."], "", &["a/", "b", "..", "c/", "d"], &[0, 1, 2, 3], &[0, 2]),
-        Walk(&[], "", &["a/", "b", "..", "c/", "d"], &[0, 1, 2, 3], &[0, 2]),
-        Walk(&[":!c"], "", &["a/", "b", "..", "c/", "d"], &[0, 1], &[0]),
-        Walk(&["d", ":!."], "", &["a/", "b", "..", "c/", "d"], &[], &[]),
-        Walk(&[":(icase)B"], "a", &["a/", "b", "..", "A/", "b"], &[1], &[0]),
-        Walk(&["a"], "", &["a/", "b/", "c", "..", "d", "..", "e/", "f"], &[0, 1, 2, 3], &[0, 1]),
-        Walk(&["a", ":!a/b"], "", &["a/", "b/", "c", "..", "d"], &[0, 3], &[0]),
-        Walk(&["a"], "", &["a", "b/", "a"], &[0], &[]),
-        Walk(&["*.c"], "", &["s/", "t/", "x.c", "y.h", "..", "..", "z.c"], &[2, 4], &[0, 1]),
-        Walk(&[":(attr:gen)."], "", &["x", "a/", "b"], &[0], &[1]),
-        Walk(&["a"], "", &[], &[], &[]),
+        Walk("a/b", "", &["a/", "b", "..", "c/", "d"], &[1], &[0]),
+        Walk(".", "", &["a/", "b", "..", "c/", "d"], &[0, 1, 2, 3], &[0, 2]),
+        Walk("", "", &["a/", "b", "..", "c/", "d"], &[0, 1, 2, 3], &[0, 2]),
+        Walk(":!c", "", &["a/", "b", "..", "c/", "d"], &[0, 1], &[0]),
+        Walk("d :!.", "", &["a/", "b", "..", "c/", "d"], &[], &[]),
+        Walk(":(icase)B", "a", &["a/", "b", "..", "A/", "b"], &[1], &[0]),
+        Walk("a", "", &["a/", "b/", "c", "..", "d", "..", "e/", "f"], &[0, 1, 2, 3], &[0, 1]),
+        Walk("a :!a/b", "", &["a/", "b/", "c", "..", "d"], &[0, 3], &[0]),
+        Walk("a", "", &["a", "b/", "a"], &[0], &[]),
+        Walk("*.c", "", &["s/", "t/", "x.c", "y.h", "..", "..", "z.c"], &[2, 4], &[0, 1]),
+        Walk(":(attr:gen).", "", &["x", "a/", "b"], &[0], &[1]),
+        Walk("a", "", &[], &[], &[]),
     ];
     assert_each(rt.alloc(), ROWS)
 }

@@ -69,6 +69,27 @@ pub fn visited(
     Ok(search.visit(BStr::new(path), is_dir, scratch, &mut Marks::new())?)
 }
 
+/// Whether a path is selected, in a scratch of the search's, by [`Marks`].
+pub fn is_selected(
+    search: &Search,
+    path: &[u8],
+    is_dir: bool,
+    scratch: &mut Scratch,
+) -> Result<bool, Fail> {
+    if !search.fits(scratch) {
+        return Err("the scratch doesn't fit the search".into());
+    }
+    Ok(search.is_selected(BStr::new(path), Some(is_dir), scratch, &mut Marks::new())?)
+}
+
+/// Whether a walk may skip what lies below a directory, in a scratch of the search's.
+pub fn may_skip(search: &Search, path: &[u8], scratch: &mut Scratch) -> Result<bool, Fail> {
+    if !search.fits(scratch) {
+        return Err("the scratch doesn't fit the search".into());
+    }
+    Ok(search.may_skip(BStr::new(path), scratch))
+}
+
 /// Whether a pattern has this long text.
 pub fn is_written(pattern: &Pattern, text: &str) -> Result<bool, Error> {
     Ok(pattern.to_bstring()?.as_bytes() == text.as_bytes())
@@ -97,6 +118,23 @@ pub fn search_of_bytes(alloc: Global, specs: &[&[u8]], prefix: &str) -> Result<B
     search_from(alloc, patterns_of(alloc, specs)?, prefix)
 }
 
+/// The patterns of the words of a line, between spaces.
+fn patterns_of_line(alloc: Global, line: &str) -> Result<Vec<Pattern>, Error> {
+    let mut patterns = Vec::new(alloc);
+    for word in line.split(' ') {
+        if !word.is_empty() {
+            patterns.push(pattern_of(alloc, word)?)?;
+        }
+    }
+    Ok(patterns)
+}
+
+/// The search of the words of a line, given in this directory of a repository at `/r`. A table whose rows have one text for
+/// all specs is proved sooner than one with a list in each row.
+pub fn search_of_line(alloc: Global, line: &str, prefix: &str) -> Result<Box<Search>, Fail> {
+    search_from(alloc, patterns_of_line(alloc, line)?, prefix)
+}
+
 /// The search of these texts, which comes from a list.
 pub fn search_of_list(alloc: Global, texts: &[&str], prefix: &str) -> Result<Box<Search>, Fail> {
     let mut search = search_of(alloc, texts, prefix)?;
@@ -109,6 +147,8 @@ pub fn search_of_list(alloc: Global, texts: &[&str], prefix: &str) -> Result<Box
 pub enum Texts {
     /// The file `f` in a directory that has the number of the spec.
     Files,
+    /// A number from 10,000 on, between two texts.
+    Between(&'static str, &'static str),
     /// One text.
     Same(&'static str),
     /// The first at even numbers, and the second at odd ones.
@@ -122,6 +162,10 @@ impl Texts {
     fn at(self, alloc: Global, number: u32) -> Result<String, AllocError> {
         match self {
             Texts::Files => format!(in alloc; "d{number}/f"),
+            Texts::Between(before, after) => {
+                let number = number.saturating_add(10_000);
+                format!(in alloc; "{before}{number}{after}")
+            }
             Texts::Same(text) => String::from_str(alloc, text),
             Texts::InTurn(even, odd) => {
                 String::from_str(alloc, if number % 2 == 0 { even } else { odd })

@@ -13,12 +13,17 @@ impl Row for Fault {
     fn holds(&self, alloc: Global) -> Result<bool, Fail> {
         match build(alloc, self.0, "")? {
             Ok(_) => Ok(false),
-            Err(error) => Ok(self.is(&error) && is_printed(alloc, &error, self.3)?),
+            Err(error) => self.is_told(alloc, &error),
         }
     }
 }
 
 impl Fault {
+    /// Whether this is the number, the kind and the text of an error.
+    fn is_told(&self, alloc: Global, error: &BuildError) -> Result<bool, Fail> {
+        Ok(self.is(error) && is_printed(alloc, error, self.3)?)
+    }
+
     /// Whether this is the number and the kind of an error.
     fn is(&self, error: &BuildError) -> bool {
         match error {

@@ -2,6 +2,7 @@
 use bstr::BStr;
 use gix_pathspec::search::{IntoPatterns, Patterns};
 use gix_pathspec::{Pattern, Search};
+use pathspec_test_support::searches::search_of_line;
 use pathspec_test_support::support::{Row, assert_each, search_of};
 use std::alloc::Global;
 use std::test::Fail;
@@ -17,12 +18,12 @@ enum Question {
 
 use Question::{CanMatch, InPrefix};
 
-/// Texts, a question, the path that it is about, and the answer.
-struct Leads(&'static [&'static str], Question, &'static str, bool);
+/// The texts in a line, a question, the path that it is about, and the answer.
+struct Leads(&'static str, Question, &'static str, bool);
 
 impl Row for Leads {
     fn holds(&self, alloc: Global) -> Result<bool, Fail> {
-        let search = search_of(alloc, self.0, "")?;
+        let search = search_of_line(alloc, self.0, "")?;
         Ok(answer(&search, self.1, BStr::new(self.2.as_bytes())) == self.3)
     }
 }
@@ -39,36 +40,31 @@ fn answer(search: &Search, question: Question, path: BStr<'_>) -> bool {
 fn stems_and_directories_lead_to_one_another(rt: HostRuntime) -> Result<(), Fail> {
     const ROWS: &[Leads] = &[
         Leads(
-            &["src/**", ":!src/generated/**"],
+            "src/** :!src/generated/**",
             CanMatch(Some(true)),
             "src",
             true,
         ),
-        Leads(&["a/"], CanMatch(Some(true)), "abc", false),
-        Leads(&["a/"], CanMatch(Some(false)), "a", false),
-        Leads(&["a/"], CanMatch(None), "a", true),
-        Leads(&["a*/"], CanMatch(Some(true)), "ab", true),
-        Leads(&["[x]/y"], CanMatch(Some(true)), "[x]", true),
-        Leads(&[":(icase)Ab*"], CanMatch(Some(true)), "aBc", true),
-        Leads(&[":(icase)Ab*"], CanMatch(Some(true)), "aC", false),
-        Leads(&[":(icase)Ab*"], CanMatch(Some(true)), "a", false),
-        Leads(&[":(icase)Ab/C"], CanMatch(Some(true)), "aB", true),
-        Leads(&[":(icase)Ab/C"], CanMatch(Some(true)), "aBx", false),
-        Leads(&["a/b", "a/c"], CanMatch(Some(true)), "a", true),
-        Leads(&[], CanMatch(Some(true)), "x", true),
-        Leads(&[], CanMatch(None), "", true),
-        Leads(
-            &["a", ":(exclude,attr:gen)."],
-            CanMatch(Some(true)),
-            "a",
-            true,
-        ),
-        Leads(&["a", ":(exclude)."], CanMatch(Some(true)), "a", false),
-        Leads(&[":!a"], CanMatch(Some(true)), "b", true),
-        Leads(&[":!a"], CanMatch(Some(true)), "a", true),
+        Leads("a/", CanMatch(Some(true)), "abc", false),
+        Leads("a/", CanMatch(Some(false)), "a", false),
+        Leads("a/", CanMatch(None), "a", true),
+        Leads("a*/", CanMatch(Some(true)), "ab", true),
+        Leads("[x]/y", CanMatch(Some(true)), "[x]", true),
+        Leads(":(icase)Ab*", CanMatch(Some(true)), "aBc", true),
+        Leads(":(icase)Ab*", CanMatch(Some(true)), "aC", false),
+        Leads(":(icase)Ab*", CanMatch(Some(true)), "a", false),
+        Leads(":(icase)Ab/C", CanMatch(Some(true)), "aB", true),
+        Leads(":(icase)Ab/C", CanMatch(Some(true)), "aBx", false),
+        Leads("a/b a/c", CanMatch(Some(true)), "a", true),
+        Leads("", CanMatch(Some(true)), "x", true),
+        Leads("", CanMatch(None), "", true),
+        Leads("a :(exclude,attr:gen).", CanMatch(Some(true)), "a", true),
+        Leads("a :(exclude).", CanMatch(Some(true)), "a", false),
+        Leads(":!a", CanMatch(Some(true)), "b", true),
+        Leads(":!a", CanMatch(Some(true)), "a", true),
         // A directory's path has no slash at its end.
-        Leads(&["src/lib"], CanMatch(Some(true)), "src", true),
-        Leads(&["src/lib"], CanMatch(Some(true)), "src/", false),
+        Leads("src/lib", CanMatch(Some(true)), "src", true),
+        Leads("src/lib", CanMatch(Some(true)), "src/", false),
     ];
     assert_each(rt.alloc(), ROWS)
 }
@@ -76,25 +72,25 @@ fn stems_and_directories_lead_to_one_another(rt: HostRuntime) -> Result<(), Fail
 #[test]
 fn directories_lie_in_the_prefix(rt: HostRuntime) -> Result<(), Fail> {
     const ROWS: &[Leads] = &[
-        Leads(&["d/"], InPrefix(false), "d", true),
-        Leads(&["d*/"], InPrefix(false), "d", true),
-        Leads(&["d/*"], InPrefix(false), "d", true),
-        Leads(&["d/d/*"], InPrefix(false), "d", false),
-        Leads(&["dir"], InPrefix(false), "d", false),
-        Leads(&["d/d"], InPrefix(true), "d", true),
-        Leads(&["dir"], InPrefix(true), "d", false),
-        Leads(&[":!x*"], InPrefix(false), "q", true),
-        Leads(&[":!."], InPrefix(true), "q", false),
-        Leads(&[":(exclude,attr:a)."], InPrefix(true), "q", true),
-        Leads(&[], InPrefix(false), "q", true),
+        Leads("d/", InPrefix(false), "d", true),
+        Leads("d*/", InPrefix(false), "d", true),
+        Leads("d/*", InPrefix(false), "d", true),
+        Leads("d/d/*", InPrefix(false), "d", false),
+        Leads("dir", InPrefix(false), "d", false),
+        Leads("d/d", InPrefix(true), "d", true),
+        Leads("dir", InPrefix(true), "d", false),
+        Leads(":!x*", InPrefix(false), "q", true),
+        Leads(":!.", InPrefix(true), "q", false),
+        Leads(":(exclude,attr:a).", InPrefix(true), "q", true),
+        Leads("", InPrefix(false), "q", true),
     ];
     assert_each(rt.alloc(), ROWS)
 }
 
-/// Texts, the directory that they are given in, and the common prefix, the prefix directory and the longest common
-/// directory, where "" stands for none.
+/// The texts in a line, the directory that they are given in, and the common prefix, the prefix directory and the longest
+/// common directory, where "" stands for none.
 struct Tells(
-    &'static [&'static str],
+    &'static str,
     &'static str,
     &'static str,
     &'static str,
@@ -103,7 +99,7 @@ struct Tells(
 
 impl Row for Tells {
     fn holds(&self, alloc: Global) -> Result<bool, Fail> {
-        let search = search_of(alloc, self.0, self.1)?;
+        let search = search_of_line(alloc, self.0, self.1)?;
         if search.common_prefix().as_bytes() != self.2.as_bytes() {
             return Ok(false);
         }
@@ -121,20 +117,20 @@ impl Row for Tells {
 #[rattlefmt::skip]
 fn prefixes_and_directories_are_told(rt: HostRuntime) -> Result<(), Fail> {
     const ROWS: &[Tells] = &[
-        Tells(&["src/**", ":!src/generated/**"], "", "src/", "", "src"),
-        Tells(&[":(icase)B", ":(top)x"], "a", "", "a", ""),
-        Tells(&[":(icase)B"], "a", "a", "a", ""),
-        Tells(&["abc/", "abd/"], "", "ab", "", ""),
-        Tells(&["a/b/", "a/b/c"], "", "a/b", "", "a/b"),
-        Tells(&["a/b/c", "a/b/"], "", "a/b", "", "a"),
-        Tells(&["x"], "a", "a/x", "a", "a"),
-        Tells(&["a/b", "a/c"], "", "a/", "", "a"),
-        Tells(&["a*b", "abc"], "", "a", "", ""),
-        Tells(&[":(literal)a*b"], "", "a", "", ""),
-        Tells(&[":!a", ":!b"], "", "", "", ""),
-        Tells(&[".", ".x"], "", "", "", ""),
-        Tells(&[":"], "a", "", "", ""),
-        Tells(&[], "", "", "", ""),
+        Tells("src/** :!src/generated/**", "", "src/", "", "src"),
+        Tells(":(icase)B :(top)x", "a", "", "a", ""),
+        Tells(":(icase)B", "a", "a", "a", ""),
+        Tells("abc/ abd/", "", "ab", "", ""),
+        Tells("a/b/ a/b/c", "", "a/b", "", "a/b"),
+        Tells("a/b/c a/b/", "", "a/b", "", "a"),
+        Tells("x", "a", "a/x", "a", "a"),
+        Tells("a/b a/c", "", "a/", "", "a"),
+        Tells("a*b abc", "", "a", "", ""),
+        Tells(":(literal)a*b", "", "a", "", ""),
+        Tells(":!a :!b", "", "", "", ""),
+        Tells(". .x", "", "", "", ""),
+        Tells(":", "a", "", "", ""),
+        Tells("", "", "", "", ""),
     ];
     assert_each(rt.alloc(), ROWS)
 }

@@ -1,10 +1,11 @@
 //! Rows on how many specs a match asks, and how many heads it compares.
 use gix_pathspec::Search;
 use gix_pathspec::search::MatchKind;
-use pathspec_test_support::searches::{Settled, Texts, nested, search_of_many, settled};
-use pathspec_test_support::support::{Row, assert_each, search_of};
+use pathspec_test_support::searches::{
+    Settled, Texts, nested, search_of_line, search_of_many, settled,
+};
+use pathspec_test_support::support::{Row, assert_each};
 use std::alloc::Global;
-use std::process::Abort;
 use std::test::Fail;
 
 /// What a match told: the number and the kind, if there is one, and how many specs were asked.
@@ -28,9 +29,10 @@ fn compares_few(search: &Search) -> bool {
     some <= compared && compared <= most_compared(search.patterns().len())
 }
 
-/// Texts, the directory that they are given in, a file, the match, and the fewest and the most specs that it may ask.
+/// The texts in a line, the directory that they are given in, a file, the match, and the fewest and the most specs that it
+/// may ask.
 struct Asks(
-    &'static [&'static str],
+    &'static str,
     &'static str,
     &'static str,
     Settled,
@@ -40,7 +42,7 @@ struct Asks(
 
 impl Row for Asks {
     fn holds(&self, alloc: Global) -> Result<bool, Fail> {
-        let mut search = search_of(alloc, self.0, self.1)?;
+        let mut search = search_of_line(alloc, self.0, self.1)?;
         let unasked = search.last_tested() == 0 && search.last_compared() == 0;
         let (found, tested) = told(&mut search, self.2)?;
         let is_within = self.4 <= tested && tested <= self.5;
@@ -60,36 +62,36 @@ const ALWAYS: MatchKind = MatchKind::Always;
 #[rattlefmt::skip]
 fn only_specs_whose_head_begins_the_path_are_asked(rt: HostRuntime) -> Result<(), Fail> {
     const ROWS: &[Asks] = &[
-        Asks(&["a/x", "a/y", "b", ":!a/x/z"], "", "a/x/q", Some((0, PREFIX)), 1, 1),
-        Asks(&["a/x", "a/y", "b", ":!a/x/z"], "", "a/x/z", Some((3, VERBATIM)), 1, 1),
-        Asks(&["a/x", "a/y", "b", ":!a/x/z"], "", "a/yy", None, 0, 1),
-        Asks(&["a/x", "a/y", "b", ":!a/x/z"], "", "c", None, 0, 0),
-        Asks(&["a/x", "a/y", "b", ":!a/x/z"], "", "", Some((0, ALWAYS)), 0, 0),
-        Asks(&["a/x", "a/y"], "", "b", None, 0, 0),
-        Asks(&["[x]/y", "z"], "", "z", Some((1, VERBATIM)), 1, 2),
-        Asks(&["*.c", "*.c", "*.h", "a"], "", "a", Some((3, VERBATIM)), 1, 4),
-        Asks(&["a", "a/b", "a/b/c", ":!a/b/c/d", "*"], "", "a/b/c/d", Some((3, VERBATIM)), 1, 1),
-        Asks(&[":!a/b/x", ":!a/b", "a"], "", "a/b/c", Some((1, PREFIX)), 1, 1),
-        Asks(&["a/b", "a"], "", "a/b/c", Some((0, PREFIX)), 1, 1),
-        Asks(&["a", "a/b"], "", "a/b/c", Some((0, PREFIX)), 1, 1),
-        Asks(&["b", ":"], "", "c", Some((1, ALWAYS)), 1, 1),
+        Asks("a/x a/y b :!a/x/z", "", "a/x/q", Some((0, PREFIX)), 1, 1),
+        Asks("a/x a/y b :!a/x/z", "", "a/x/z", Some((3, VERBATIM)), 1, 1),
+        Asks("a/x a/y b :!a/x/z", "", "a/yy", None, 0, 1),
+        Asks("a/x a/y b :!a/x/z", "", "c", None, 0, 0),
+        Asks("a/x a/y b :!a/x/z", "", "", Some((0, ALWAYS)), 0, 0),
+        Asks("a/x a/y", "", "b", None, 0, 0),
+        Asks("[x]/y z", "", "z", Some((1, VERBATIM)), 1, 2),
+        Asks("*.c *.c *.h a", "", "a", Some((3, VERBATIM)), 1, 4),
+        Asks("a a/b a/b/c :!a/b/c/d *", "", "a/b/c/d", Some((3, VERBATIM)), 1, 1),
+        Asks(":!a/b/x :!a/b a", "", "a/b/c", Some((1, PREFIX)), 1, 1),
+        Asks("a/b a", "", "a/b/c", Some((0, PREFIX)), 1, 1),
+        Asks("a a/b", "", "a/b/c", Some((0, PREFIX)), 1, 1),
+        Asks("b :", "", "c", Some((1, ALWAYS)), 1, 1),
         // Of excludes alone those that fit are asked.
-        Asks(&[":!a", ":!a/b", ":!b"], "", "a/b", Some((0, PREFIX)), 1, 1),
-        Asks(&[":!a", ":!a/b", ":!b"], "", "b", Some((2, VERBATIM)), 1, 1),
-        Asks(&[":!a", ":!a/b", ":!b"], "", "c", Some((3, ALWAYS)), 0, 0),
-        Asks(&[":!a", ":!a/b", ":!b"], "", "ab", Some((3, ALWAYS)), 1, 1),
-        Asks(&[":!*.c", ":!b"], "", "b", Some((1, VERBATIM)), 1, 2),
-        Asks(&[":!a"], "d", "a", Some((1, ALWAYS)), 0, 0),
-        Asks(&[":!a"], "d", "d/a", Some((0, VERBATIM)), 1, 1),
+        Asks(":!a :!a/b :!b", "", "a/b", Some((0, PREFIX)), 1, 1),
+        Asks(":!a :!a/b :!b", "", "b", Some((2, VERBATIM)), 1, 1),
+        Asks(":!a :!a/b :!b", "", "c", Some((3, ALWAYS)), 0, 0),
+        Asks(":!a :!a/b :!b", "", "ab", Some((3, ALWAYS)), 1, 1),
+        Asks(":!*.c :!b", "", "b", Some((1, VERBATIM)), 1, 2),
+        Asks(":!a", "d", "a", Some((1, ALWAYS)), 0, 0),
+        Asks(":!a", "d", "d/a", Some((0, VERBATIM)), 1, 1),
         // Specs without case stand at their prefix directory.
-        Asks(&[":(icase)A", ":(icase)B"], "", "b", Some((1, VERBATIM)), 1, 2),
-        Asks(&[":(icase)A", ":(icase)B"], "", "c", None, 0, 2),
-        Asks(&[":(icase)A", ":(icase)B"], "d", "d/b", Some((1, VERBATIM)), 1, 2),
-        Asks(&[":(icase)A", ":(icase)B"], "d", "d/c", None, 0, 2),
-        Asks(&[":(icase)A", ":(icase)B"], "d", "D/b", None, 0, 0),
-        Asks(&[":(icase)A", ":(icase)B"], "d", "b", None, 0, 0),
-        Asks(&[":(icase)A", ":(top)d"], "d", "d/a", Some((0, VERBATIM)), 1, 2),
-        Asks(&[":(icase)A", ":(top)d"], "d", "d/b", Some((1, PREFIX)), 1, 2),
+        Asks(":(icase)A :(icase)B", "", "b", Some((1, VERBATIM)), 1, 2),
+        Asks(":(icase)A :(icase)B", "", "c", None, 0, 2),
+        Asks(":(icase)A :(icase)B", "d", "d/b", Some((1, VERBATIM)), 1, 2),
+        Asks(":(icase)A :(icase)B", "d", "d/c", None, 0, 2),
+        Asks(":(icase)A :(icase)B", "d", "D/b", None, 0, 0),
+        Asks(":(icase)A :(icase)B", "d", "b", None, 0, 0),
+        Asks(":(icase)A :(top)d", "d", "d/a", Some((0, VERBATIM)), 1, 2),
+        Asks(":(icase)A :(top)d", "d", "d/b", Some((1, PREFIX)), 1, 2),
     ];
     assert_each(rt.alloc(), ROWS)
 }
@@ -113,15 +115,23 @@ fn compares(search: &Search, heads: Option<u128>) -> bool {
     }
 }
 
+/// The texts of a search of so many specs, and what matches tell in it, one after the other.
+struct Tells(u32, Texts, &'static [Telling]);
+
+impl Row for Tells {
+    fn holds(&self, alloc: Global) -> Result<bool, Fail> {
+        let mut search = search_of_many(alloc, self.0, self.1)?;
+        assert_told(alloc, &mut search, self.2)?;
+        Ok(true)
+    }
+}
+
 /// Asserts what matches tell in a search, one after the other.
-fn assert_told(
-    rt: &impl Abort,
-    alloc: Global,
-    mut search: Box<Search>,
-    rows: &[Telling],
-) -> Result<(), Fail> {
+fn assert_told(alloc: Global, search: &mut Search, rows: &[Telling]) -> Result<(), Fail> {
     for (number, row) in rows.iter().enumerate() {
-        assert!(rt; is_told(alloc, &mut search, row)?, "row {number}");
+        if !is_told(alloc, search, row)? {
+            return Err(Fail::new(format_args!("match {number}")));
+        }
     }
     Ok(())
 }
@@ -136,8 +146,7 @@ fn one_of_a_thousand_files_is_found_by_few_comparisons(rt: HostRuntime) -> Resul
         (0, "d7/g", (None, 0), None),
         (0, "e", (None, 0), None),
     ];
-    let search = search_of_many(rt.alloc(), 1000, Texts::Files)?;
-    assert_told(&rt, rt.alloc(), search, ROWS)
+    assert_each(rt.alloc(), &[Tells(1000, Texts::Files, ROWS)])
 }
 
 #[test]
@@ -150,8 +159,7 @@ fn paths_near_the_head_of_the_last_compare_one(rt: HostRuntime) -> Result<(), Fa
         (0, "d7/fa", (None, 1), Some(1)),
         (0, "d7/g", (None, 0), Some(1)),
     ];
-    let search = search_of_many(rt.alloc(), 1000, Texts::Files)?;
-    assert_told(&rt, rt.alloc(), search, ROWS)
+    assert_each(rt.alloc(), &[Tells(1000, Texts::Files, ROWS)])
 }
 
 #[test]
@@ -161,8 +169,7 @@ fn ten_thousand_specs_of_one_head_are_compared_once(rt: HostRuntime) -> Result<(
         (0, "a/b", (None, 10_000), Some(1)),
         (0, "a/c", (None, 0), Some(0)),
     ];
-    let search = search_of_many(rt.alloc(), 10_000, Texts::Same("a/b*c"))?;
-    assert_told(&rt, rt.alloc(), search, ROWS)
+    assert_each(rt.alloc(), &[Tells(10_000, Texts::Same("a/b*c"), ROWS)])
 }
 
 #[test]
@@ -172,8 +179,7 @@ fn heads_may_begin_one_another_a_thousand_times(rt: HostRuntime) -> Result<(), F
         (0, "a/a", (Some((998, VERBATIM)), 1), None),
         (0, "a/b", (Some((999, PREFIX)), 1), None),
     ];
-    let search = search_of_many(rt.alloc(), 1000, Texts::Nested(999, "a"))?;
-    assert_told(&rt, rt.alloc(), search, ROWS)
+    assert_each(rt.alloc(), &[Tells(1000, Texts::Nested(999, "a"), ROWS)])
 }
 
 #[test]
@@ -182,6 +188,5 @@ fn heads_of_globs_may_begin_one_another_a_thousand_times(rt: HostRuntime) -> Res
         (1001, "b", (None, 1000), None),
         (1001, "b.c", (Some((0, WILDCARD)), 1), None),
     ];
-    let search = search_of_many(rt.alloc(), 1000, Texts::Nested(999, "*.c"))?;
-    assert_told(&rt, rt.alloc(), search, ROWS)
+    assert_each(rt.alloc(), &[Tells(1000, Texts::Nested(999, "*.c"), ROWS)])
 }

@@ -23,7 +23,6 @@ const TEXT: &str = ":(top,icase,attr:a=x\\,y)p/";
 const TEXTS: &[&str] = &[TEXT, "../c", ":(exclude,glob)d/**"];
 
 /// A call that makes a pattern.
-#[derive(Clone, Copy)]
 enum PatternCall {
     Parse,
     FromBytes,
@@ -70,7 +69,6 @@ fn a_pattern_is_made_or_memory_ran_out(rt: HostRuntime) -> Result<(), Fail> {
 }
 
 /// A call that tells a fault with bytes.
-#[derive(Clone, Copy)]
 enum FaultCall {
     /// Of a text.
     Text(&'static str),
@@ -230,7 +228,6 @@ fn a_pattern_is_normalised_or_as_before(rt: HostRuntime) -> Result<(), Fail> {
 }
 
 /// A call that makes a search.
-#[derive(Clone, Copy)]
 enum SearchCall {
     FromSpecs,
     FromNoSpecs,

@@ -7,7 +7,6 @@ use std::alloc::Global;
 use std::test::Fail;
 
 /// A spec as it is given, and as the include that fits the same paths.
-#[derive(Clone, Copy)]
 struct Given(&'static [u8], &'static [u8]);
 
 /// Specs whose heads begin one another, with wildcards at every place, without case, with bytes that are no text, and
@@ -133,7 +132,7 @@ fn answers_of(
 }
 
 /// Asks a spec alone about each path.
-fn ask_alone(alloc: Global, spec: Given, asked: Asked) -> Result<Alone, Fail> {
+fn ask_alone(alloc: Global, spec: &Given, asked: Asked) -> Result<Alone, Fail> {
     let mut search = search_of_bytes(alloc, &[spec.1], asked.prefix)?;
     let answers = answers_of(alloc, &mut search, asked.is_dir)?;
     Ok(Alone {
@@ -148,7 +147,7 @@ fn ask_alone(alloc: Global, spec: Given, asked: Asked) -> Result<Alone, Fail> {
 fn each_alone(alloc: Global, asked: Asked) -> Result<Vec<Alone>, Fail> {
     let mut specs = Vec::new(alloc);
     for spec in SPECS {
-        specs.push(ask_alone(alloc, *spec, asked)?)?;
+        specs.push(ask_alone(alloc, spec, asked)?)?;
     }
     Ok(specs)
 }

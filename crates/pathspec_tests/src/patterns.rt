@@ -9,11 +9,18 @@ use std::test::Fail;
 #[test]
 fn a_literal_pattern_is_its_text(rt: HostRuntime) -> Result<(), Fail> {
     let pattern = Pattern::from_literal(rt.alloc(), b"a*/", MagicSignature::EXCLUDE)?;
-    assert!(rt; pattern.path() == BStr::new(b"a*/"));
-    assert!(rt; pattern.search_mode == SearchMode::Literal);
-    assert!(rt; pattern.is_excluded() && pattern.has_wildcard());
-    assert!(rt; !pattern.is_nil() && !pattern.always_matches());
+    assert!(rt; is_literal_exclude(&pattern));
     Ok(())
+}
+
+/// Whether a pattern is the exclude of the path `a*/`, to be compared as it is.
+fn is_literal_exclude(pattern: &Pattern) -> bool {
+    pattern.path() == BStr::new(b"a*/")
+        && pattern.search_mode == SearchMode::Literal
+        && pattern.is_excluded()
+        && pattern.has_wildcard()
+        && !pattern.is_nil()
+        && !pattern.always_matches()
 }
 
 #[test]

@@ -4,11 +4,9 @@ use bstr::{BStr, BString};
 use gix_pathspec::{Defaults, Pattern, Search};
 use pathspec_callers::store::search_and_stored;
 use pathspec_parts::path::is_clean_prefix;
-use pathspec_parts::tree::{Cursor, Tree, Walk as _};
-use pathspec_select::select;
-use pathspec_test_support::look_ups::Marks;
+use pathspec_parts::tree::Tree;
 use pathspec_test_support::support::{Row, are_same, assert_each, pattern_of};
-use pathspec_test_support::trees::tree_of;
+use pathspec_test_support::trees::{given, tree_of};
 use std::alloc::{AllocError, Global};
 use std::test::Fail;
 
@@ -161,23 +159,26 @@ fn a_million_digits_are_read(rt: HostRuntime) -> Result<(), Fail> {
     assert_each(rt.alloc(), ROWS)
 }
 
-/// Whether two searches select the same entries of two trees.
-fn select_the_same(alloc: Global, search: &Search, again: &Search) -> Result<bool, Fail> {
-    let cases = tree_of(alloc, &["a/", "b", "..", "A/", "b", "..", "b"])?;
-    let names = tree_of(alloc, &["a/", "x", "..", "b"])?;
-    Ok(selects(alloc, &cases, search, again)? && selects(alloc, &names, search, again)?)
-}
+/// The words of two trees.
+const TREES: &[&[&str]] = &[
+    &["a/", "b", "..", "A/", "b", "..", "b"],
+    &["a/", "x", "..", "b"],
+];
 
-/// The numbers of the entries of a tree that a search selects.
-fn selected(alloc: Global, tree: &Tree, search: &Search) -> Result<Vec<usize>, Fail> {
-    let mut cursor = Cursor::new(alloc, tree)?;
-    Ok(select(alloc, &mut cursor, search, &mut Marks::new())?)
+/// Whether two searches select the same entries of both trees.
+fn select_the_same(alloc: Global, search: &Search, again: &Search) -> Result<bool, Fail> {
+    for words in TREES {
+        if !select_alike(alloc, &tree_of(alloc, words)?, search, again)? {
+            return Ok(false);
+        }
+    }
+    Ok(true)
 }
 
 /// Whether two searches select the same entries of a tree.
-fn selects(alloc: Global, tree: &Tree, search: &Search, again: &Search) -> Result<bool, Fail> {
-    let first = selected(alloc, tree, search)?;
-    Ok(are_same(first.as_slice(), selected(alloc, tree, again)?.as_slice()))
+fn select_alike(alloc: Global, tree: &Tree, search: &Search, again: &Search) -> Result<bool, Fail> {
+    let first = given(alloc, tree, search)?;
+    Ok(are_same(&first, &given(alloc, tree, again)?))
 }
 
 /// Texts, and the directory that they are given in: a search that is made of what [`search_and_stored`] stores selects the

@@ -38,7 +38,6 @@ fn is_written(alloc: Global, pattern: &Pattern, want: &[u8]) -> Result<bool, Err
 }
 
 /// A text, and the long text of what it says, or its fault with what that carries, as `InvalidKeyword(foo)`.
-#[derive(Clone, Copy)]
 pub(super) struct Reads(pub(super) &'static str, pub(super) &'static [u8]);
 
 impl Row for Reads {

@@ -5,11 +5,12 @@ use gix_pathspec::attributes::NoAttributes;
 use gix_pathspec::search::{MatchKind, Scratch};
 use pathspec_callers::search::count_selected;
 use pathspec_parts::tree::{Cursor, Tree, TreeError, Walk as _};
-use pathspec_select::select;
 use pathspec_test_support::look_ups::Marks;
-use pathspec_test_support::searches::{Settled, scratch_of, settled_in};
+use pathspec_test_support::searches::{
+    Settled, is_selected, scratch_of, search_of_line, settled_in,
+};
 use pathspec_test_support::support::{Row, are_same, assert_each, search_of};
-use pathspec_test_support::trees::{add, tree_of};
+use pathspec_test_support::trees::{add, given, tree_of};
 use std::alloc::{AllocError, Global};
 use std::sync::Arc;
 use std::test::Fail;
@@ -81,10 +82,16 @@ fn goes_on_after_each(search: &Search, scratch: &mut Scratch, asked: &Asked) -> 
 fn a_fault_changes_no_later_answer_in_its_scratch(rt: HostRuntime) -> Result<(), Fail> {
     let search = search_of(rt.alloc(), TEXTS, "")?;
     let mut scratch = scratch_of(rt.alloc(), &search)?;
+    assert_goes_on(rt.alloc(), &search, &mut scratch)
+}
+
+/// Asserts of each path that a new scratch answers what is wanted, and that a scratch goes on after each fault.
+fn assert_goes_on(alloc: Global, search: &Search, scratch: &mut Scratch) -> Result<(), Fail> {
     for asked in ASKED {
-        let is_answered = answers_anew(rt.alloc(), &search, asked)?;
-        let goes_on = goes_on_after_each(&search, &mut scratch, asked)?;
-        assert!(rt; is_answered && goes_on, "{}", asked.0);
+        let is_answered = answers_anew(alloc, search, asked)?;
+        if !goes_on_after_each(search, scratch, asked)? || !is_answered {
+            return Err(Fail::new(format_args!("{}", asked.0)));
+        }
     }
     Ok(())
 }
@@ -176,12 +183,9 @@ impl Walker<'_> {
         let Some(number) = self.cursor.next() else {
             return Ok(());
         };
-        let is_dir = Some(self.cursor.enter());
-        if !search.fits(&self.scratch) {
-            return Err("the scratch doesn't fit the search".into());
-        }
-        let path = self.cursor.path();
-        if search.is_selected(path, is_dir, &mut self.scratch, &mut Marks::new())? {
+        let is_dir = self.cursor.enter();
+        let path = self.cursor.path().as_bytes();
+        if is_selected(search, path, is_dir, &mut self.scratch)? {
             self.selected.push(self.before.saturating_add(number))?;
         }
         Ok(())
@@ -237,24 +241,23 @@ fn selected_by(alloc: Global, walkers: &[Walker<'_>]) -> Result<Vec<usize>, Allo
 }
 
 /// Whether walkers of the parts, who go in turn, select what is chosen.
-fn walkers_choose(alloc: Global, search: &Search, parts: &[Tree]) -> Result<bool, Fail> {
-    let mut walkers = walkers(alloc, search, parts)?;
+fn walkers_choose(alloc: Global, search: &Search) -> Result<bool, Fail> {
+    let parts = parts(alloc)?;
+    let mut walkers = walkers(alloc, search, &parts)?;
     step_in_turn(&mut walkers, search)?;
     Ok(are_same(&selected_by(alloc, &walkers)?, CHOSEN))
 }
 
-/// Whether one walk over a tree of so many entries gives what is chosen.
-fn walk_chooses(alloc: Global, search: &Search, tree: &Tree) -> Result<bool, Fail> {
-    let mut cursor = Cursor::new(alloc, tree)?;
-    let given = select(alloc, &mut cursor, search, &mut Marks::new())?;
-    Ok(tree.len() == ENTRIES && are_same(&given, CHOSEN))
+/// Whether one walk over the whole tree gives what is chosen.
+fn walk_chooses(alloc: Global, search: &Search) -> Result<bool, Fail> {
+    let tree = whole_tree(alloc)?;
+    Ok(tree.len() == ENTRIES && are_same(&given(alloc, &tree, search)?, CHOSEN))
 }
 
 #[test]
 fn walkers_of_four_parts_select_what_one_walk_gives(rt: HostRuntime) -> Result<(), Fail> {
     let search = search_of(rt.alloc(), TEXTS, "")?;
-    let is_chosen = walk_chooses(rt.alloc(), &search, &whole_tree(rt.alloc())?)?;
-    assert!(rt; is_chosen && walkers_choose(rt.alloc(), &search, &parts(rt.alloc())?)?);
+    assert!(rt; walk_chooses(rt.alloc(), &search)? && walkers_choose(rt.alloc(), &search)?);
     Ok(())
 }
 
@@ -335,12 +338,12 @@ fn a_scratch_fits_what_wants_no_other_room(rt: HostRuntime) -> Result<(), Fail> 
     assert_each(rt.alloc(), ROWS)
 }
 
-/// Texts, a file, what settles it where no attributes are known, and whether it is selected.
-struct Unknown(&'static [&'static str], &'static str, Settled, bool);
+/// The texts in a line, a file, what settles it where no attributes are known, and whether it is selected.
+struct Unknown(&'static str, &'static str, Settled, bool);
 
 impl Row for Unknown {
     fn holds(&self, alloc: Global) -> Result<bool, Fail> {
-        let search = search_of(alloc, self.0, "")?;
+        let search = search_of_line(alloc, self.0, "")?;
         let mut scratch = scratch_of(alloc, &search)?;
         let (path, file) = (self.1.as_bytes(), Some(false));
         let is_selected = search.is_selected(
@@ -358,19 +361,19 @@ impl Row for Unknown {
 #[rattlefmt::skip]
 fn no_attributes_match_no_spec_that_lists_some(rt: HostRuntime) -> Result<(), Fail> {
     const ROWS: &[Unknown] = &[
-        Unknown(&[":(attr:gen)x"], "x", None, false),
-        Unknown(&[":(attr:!gen)x"], "x", None, false),
-        Unknown(&[":(attr:gen)x", "x"], "x", Some((1, MatchKind::Verbatim)), true),
-        Unknown(&[":(exclude,attr:!gen)a", "a"], "a/b", Some((1, MatchKind::Prefix)), true),
-        Unknown(&["x"], "x", Some((0, MatchKind::Verbatim)), true),
-        Unknown(&["x"], "y", None, false),
+        Unknown(":(attr:gen)x", "x", None, false),
+        Unknown(":(attr:!gen)x", "x", None, false),
+        Unknown(":(attr:gen)x x", "x", Some((1, MatchKind::Verbatim)), true),
+        Unknown(":(exclude,attr:!gen)a a", "a/b", Some((1, MatchKind::Prefix)), true),
+        Unknown("x", "x", Some((0, MatchKind::Verbatim)), true),
+        Unknown("x", "y", None, false),
         // A match that is excluded selects nothing, and the nil pattern is not excluded.
-        Unknown(&[":!a"], "a/b", Some((0, MatchKind::Prefix)), false),
-        Unknown(&[":!a"], "b", Some((1, MatchKind::Always)), true),
-        Unknown(&[":!a"], "", Some((0, MatchKind::Always)), true),
-        Unknown(&["a", ":!a/b"], "a/b", Some((1, MatchKind::Verbatim)), false),
-        Unknown(&["a", ":!a/b"], "a/c", Some((0, MatchKind::Prefix)), true),
-        Unknown(&["a", ":!a/b"], "", Some((0, MatchKind::Always)), true),
+        Unknown(":!a", "a/b", Some((0, MatchKind::Prefix)), false),
+        Unknown(":!a", "b", Some((1, MatchKind::Always)), true),
+        Unknown(":!a", "", Some((0, MatchKind::Always)), true),
+        Unknown("a :!a/b", "a/b", Some((1, MatchKind::Verbatim)), false),
+        Unknown("a :!a/b", "a/c", Some((0, MatchKind::Prefix)), true),
+        Unknown("a :!a/b", "", Some((0, MatchKind::Always)), true),
     ];
     assert_each(rt.alloc(), ROWS)
 }

@@ -1,47 +1,54 @@
 //! Rows on the directories that a walk may skip, and on what that question counts.
 use bitflags::Flags;
-use bstr::BStr;
 use gix_pathspec::search::{Scratch, Visit};
 use gix_pathspec::{Error, MagicSignature, Pattern, Search};
-use pathspec_test_support::look_ups::Marks;
-use pathspec_test_support::searches::{scratch_of, search_from, visited};
+use pathspec_test_support::searches::{
+    Texts, is_selected, may_skip, scratch_of, search_from, search_of_line, search_of_many, visited,
+};
 use pathspec_test_support::support::{Row, assert_each, pattern_of, search_of};
 use std::alloc::Global;
-use std::process::Abort;
 use std::test::Fail;
 
-/// Texts, the directory that they are given in, a directory, and whether a walk may skip what lies below it.
-struct Skips(&'static [&'static str], &'static str, &'static str, bool);
+/// The texts in a line, the directory that they are given in, a directory, and whether a walk may skip what lies below it.
+struct Skips(&'static str, &'static str, &'static str, bool);
 
 impl Row for Skips {
     fn holds(&self, alloc: Global) -> Result<bool, Fail> {
-        let search = search_of(alloc, self.0, self.1)?;
-        let mut scratch = scratch_of(alloc, &search)?;
-        Ok(search.may_skip(BStr::new(self.2.as_bytes()), &mut scratch) == self.3)
+        let search = search_of_line(alloc, self.0, self.1)?;
+        Ok(may_skip_anew(alloc, &search, self.2)? == self.3)
     }
+}
+
+/// Whether a walk may skip what lies below a directory, asked in a new scratch.
+fn may_skip_anew(alloc: Global, search: &Search, directory: &str) -> Result<bool, Fail> {
+    may_skip(
+        search,
+        directory.as_bytes(),
+        &mut *scratch_of(alloc, search)?,
+    )
 }
 
 #[test]
 #[rattlefmt::skip]
 fn excludes_take_directories_whole(rt: HostRuntime) -> Result<(), Fail> {
     const ROWS: &[Skips] = &[
-        Skips(&[":!crates"], "", "crates", true),
-        Skips(&[":!crates"], "", "crates/x", true),
-        Skips(&[":!crates"], "", "docs", false),
-        Skips(&[":!crates"], "", "cratesx", false),
-        Skips(&["*.md", ":!crates"], "", "crates", true),
-        Skips(&["*.md", ":!crates"], "", "docs", false),
-        Skips(&["a/b", ":!a"], "", "a", true),
-        Skips(&["a", ":!a/b"], "", "a", false),
-        Skips(&["a", ":!a/b"], "", "a/b", true),
-        Skips(&[":!a/"], "", "a", true),
-        Skips(&[":!."], "", "a", true),
-        Skips(&[":(exclude,icase)A"], "", "a", true),
-        Skips(&[":(exclude)A"], "", "a", false),
-        Skips(&[":(exclude,icase)B"], "p", "p/b", true),
-        Skips(&[":(exclude,icase)B"], "p", "P/b", false),
-        Skips(&[":(exclude,attr:x)a"], "", "a", false),
-        Skips(&[":(exclude,literal)a/*"], "", "a", false),
+        Skips(":!crates", "", "crates", true),
+        Skips(":!crates", "", "crates/x", true),
+        Skips(":!crates", "", "docs", false),
+        Skips(":!crates", "", "cratesx", false),
+        Skips("*.md :!crates", "", "crates", true),
+        Skips("*.md :!crates", "", "docs", false),
+        Skips("a/b :!a", "", "a", true),
+        Skips("a :!a/b", "", "a", false),
+        Skips("a :!a/b", "", "a/b", true),
+        Skips(":!a/", "", "a", true),
+        Skips(":!.", "", "a", true),
+        Skips(":(exclude,icase)A", "", "a", true),
+        Skips(":(exclude)A", "", "a", false),
+        Skips(":(exclude,icase)B", "p", "p/b", true),
+        Skips(":(exclude,icase)B", "p", "P/b", false),
+        Skips(":(exclude,attr:x)a", "", "a", false),
+        Skips(":(exclude,literal)a/*", "", "a", false),
     ];
     assert_each(rt.alloc(), ROWS)
 }
@@ -50,19 +57,19 @@ fn excludes_take_directories_whole(rt: HostRuntime) -> Result<(), Fail> {
 #[rattlefmt::skip]
 fn excludes_take_the_rest_of_directories(rt: HostRuntime) -> Result<(), Fail> {
     const ROWS: &[Skips] = &[
-        Skips(&[":(exclude,glob)**/node_modules/**"], "", "a/node_modules", true),
-        Skips(&[":(exclude,glob)**/node_modules/**"], "", "node_modules", true),
-        Skips(&[":(exclude,glob)**/node_modules/**"], "", "a/node_modulesx", false),
-        Skips(&[":(exclude,glob)**/node_modules/**"], "", "a/node_modules/b", true),
-        Skips(&[":(exclude,glob)**/node_modules"], "", "node_modules", false),
-        Skips(&[":!*/gen/*"], "", "src/gen", true),
-        Skips(&[":!*/gen/*"], "", "gen", false),
-        Skips(&[":(exclude,glob)*/gen/*"], "", "src/gen", false),
-        Skips(&[":!a*"], "", "ab", true),
-        Skips(&[":(exclude,glob)a*"], "", "ab", false),
-        Skips(&[":(exclude,glob,attr:x)a/**"], "", "a", false),
+        Skips(":(exclude,glob)**/node_modules/**", "", "a/node_modules", true),
+        Skips(":(exclude,glob)**/node_modules/**", "", "node_modules", true),
+        Skips(":(exclude,glob)**/node_modules/**", "", "a/node_modulesx", false),
+        Skips(":(exclude,glob)**/node_modules/**", "", "a/node_modules/b", true),
+        Skips(":(exclude,glob)**/node_modules", "", "node_modules", false),
+        Skips(":!*/gen/*", "", "src/gen", true),
+        Skips(":!*/gen/*", "", "gen", false),
+        Skips(":(exclude,glob)*/gen/*", "", "src/gen", false),
+        Skips(":!a*", "", "ab", true),
+        Skips(":(exclude,glob)a*", "", "ab", false),
+        Skips(":(exclude,glob,attr:x)a/**", "", "a", false),
         // A glob that wants a directory takes no file in it.
-        Skips(&[":(exclude,glob)a/**/"], "", "a", false),
+        Skips(":(exclude,glob)a/**/", "", "a", false),
     ];
     assert_each(rt.alloc(), ROWS)
 }
@@ -71,17 +78,17 @@ fn excludes_take_the_rest_of_directories(rt: HostRuntime) -> Result<(), Fail> {
 #[rattlefmt::skip]
 fn excludes_bury_includes(rt: HostRuntime) -> Result<(), Fail> {
     const ROWS: &[Skips] = &[
-        Skips(&["a/b", ":!a/b"], "", "a", true),
-        Skips(&["a/b/c", ":!a/b"], "", "a", true),
-        Skips(&["a/b", "a/c", ":!a/b"], "", "a", false),
-        Skips(&["a/b/", ":!a/b/"], "", "a", true),
+        Skips("a/b :!a/b", "", "a", true),
+        Skips("a/b/c :!a/b", "", "a", true),
+        Skips("a/b a/c :!a/b", "", "a", false),
+        Skips("a/b/ :!a/b/", "", "a", true),
         // Such an exclude leaves a file of its path.
-        Skips(&["a/b", ":!a/b/"], "", "a", false),
+        Skips("a/b :!a/b/", "", "a", false),
         // An exclude with case leaves other letters, and is told nothing of names without letters.
-        Skips(&[":(icase)a/b", ":!a/b"], "", "a", false),
-        Skips(&[":(icase)a/1", ":!a/1"], "", "a", false),
+        Skips(":(icase)a/b :!a/b", "", "a", false),
+        Skips(":(icase)a/1 :!a/1", "", "a", false),
         // An include with a wildcard stays.
-        Skips(&["a/b/*.c", ":!a/b"], "", "a", false),
+        Skips("a/b/*.c :!a/b", "", "a", false),
     ];
     assert_each(rt.alloc(), ROWS)
 }
@@ -90,13 +97,13 @@ fn excludes_bury_includes(rt: HostRuntime) -> Result<(), Fail> {
 #[rattlefmt::skip]
 fn the_root_is_never_skipped(rt: HostRuntime) -> Result<(), Fail> {
     const ROWS: &[Skips] = &[
-        Skips(&["a"], "", "", false),
-        Skips(&[":!."], "", "", false),
-        Skips(&[":![!a]*"], "", "", false),
-        Skips(&["a", ":!a"], "", "", false),
-        Skips(&[":(exclude,glob)**"], "", "", false),
-        Skips(&[], "", "", false),
-        Skips(&[], "", "a", false),
+        Skips("a", "", "", false),
+        Skips(":!.", "", "", false),
+        Skips(":![!a]*", "", "", false),
+        Skips("a :!a", "", "", false),
+        Skips(":(exclude,glob)**", "", "", false),
+        Skips("", "", "", false),
+        Skips("", "", "a", false),
     ];
     assert_each(rt.alloc(), ROWS)
 }
@@ -106,37 +113,37 @@ fn the_root_is_never_skipped(rt: HostRuntime) -> Result<(), Fail> {
 fn excludes_stand_above_at_and_below_includes(rt: HostRuntime) -> Result<(), Fail> {
     const ROWS: &[Skips] = &[
         // Above.
-        Skips(&["a/b/c", ":!a"], "", "a", true),
-        Skips(&["a/b/c", ":!a"], "", "a/b", true),
-        Skips(&["a/b/c", ":!a"], "", "b", true),
-        Skips(&["a/b/c", "d", ":!a"], "", "d", false),
+        Skips("a/b/c :!a", "", "a", true),
+        Skips("a/b/c :!a", "", "a/b", true),
+        Skips("a/b/c :!a", "", "b", true),
+        Skips("a/b/c d :!a", "", "d", false),
         // At.
-        Skips(&["a", ":!a"], "", "a", true),
-        Skips(&["a", ":!a"], "", "a/b", true),
-        Skips(&["a", ":!a"], "", "b", true),
-        Skips(&["a/b", ":!a/b"], "", "a/b", true),
-        Skips(&["a/b", "a/b", ":!a/b", ":!a/b"], "", "a", true),
-        Skips(&["a/b/", ":!a/b"], "", "a", true),
-        Skips(&[":(icase)a/B", ":(exclude,icase)A/b"], "", "a", true),
-        Skips(&["a/b", ":(exclude,icase)A/B"], "", "a", true),
-        Skips(&["a/b", ":(exclude)A/b"], "", "a", false),
-        Skips(&["*.c", ":!*.c"], "", "x.c", false),
-        Skips(&[".", ":!."], "", "a", true),
+        Skips("a :!a", "", "a", true),
+        Skips("a :!a", "", "a/b", true),
+        Skips("a :!a", "", "b", true),
+        Skips("a/b :!a/b", "", "a/b", true),
+        Skips("a/b a/b :!a/b :!a/b", "", "a", true),
+        Skips("a/b/ :!a/b", "", "a", true),
+        Skips(":(icase)a/B :(exclude,icase)A/b", "", "a", true),
+        Skips("a/b :(exclude,icase)A/B", "", "a", true),
+        Skips("a/b :(exclude)A/b", "", "a", false),
+        Skips("*.c :!*.c", "", "x.c", false),
+        Skips(". :!.", "", "a", true),
         // Below.
-        Skips(&["a/b", ":!a/b/c"], "", "a", false),
-        Skips(&["a/b", ":!a/b/c"], "", "a/b", false),
-        Skips(&["a/b", ":!a/b/c"], "", "a/b/c", true),
-        Skips(&["a/b", ":!a/b/c"], "", "a/b/c/d", true),
-        Skips(&["a/b", ":!a/b/c"], "", "a/b/d", false),
-        Skips(&["a/b", ":!a/b/c"], "", "a/c", true),
+        Skips("a/b :!a/b/c", "", "a", false),
+        Skips("a/b :!a/b/c", "", "a/b", false),
+        Skips("a/b :!a/b/c", "", "a/b/c", true),
+        Skips("a/b :!a/b/c", "", "a/b/c/d", true),
+        Skips("a/b :!a/b/c", "", "a/b/d", false),
+        Skips("a/b :!a/b/c", "", "a/c", true),
         // Each include has one of its own.
-        Skips(&["a/b", "a/c/d", ":!a/b", ":!a/c"], "", "a", true),
-        Skips(&["a/b", "a/c/d", ":!a/c", ":!a/b"], "", "a", true),
-        Skips(&["a/b", "a/c/d", ":!a/b", ":!a/c/d/e"], "", "a", false),
+        Skips("a/b a/c/d :!a/b :!a/c", "", "a", true),
+        Skips("a/b a/c/d :!a/c :!a/b", "", "a", true),
+        Skips("a/b a/c/d :!a/b :!a/c/d/e", "", "a", false),
         // An exclude with attributes buries none.
-        Skips(&["a/b", ":(exclude,attr:x)a/b"], "", "a", false),
+        Skips("a/b :(exclude,attr:x)a/b", "", "a", false),
         // An include with attributes is buried.
-        Skips(&[":(attr:x)a/b", ":!a/b"], "", "a", true),
+        Skips(":(attr:x)a/b :!a/b", "", "a", true),
     ];
     assert_each(rt.alloc(), ROWS)
 }
@@ -145,21 +152,21 @@ fn excludes_stand_above_at_and_below_includes(rt: HostRuntime) -> Result<(), Fai
 #[rattlefmt::skip]
 fn excludes_may_cover_one_another(rt: HostRuntime) -> Result<(), Fail> {
     const ROWS: &[Skips] = &[
-        Skips(&[":!a", ":!a/b"], "", "a", true),
-        Skips(&[":!a", ":!a/b"], "", "a/b", true),
-        Skips(&[":!a", ":!a/b"], "", "a/c", true),
-        Skips(&[":!a/b", ":!a/b/c"], "", "a", false),
-        Skips(&[":!a/b", ":!a/b/c"], "", "a/b", true),
-        Skips(&[":!a/b", ":!a/b/c"], "", "a/b/c/d", true),
-        Skips(&[":!a", ":!a"], "", "a", true),
-        Skips(&[":!a/", ":!a"], "", "a", true),
-        Skips(&[":(exclude,glob)a/**", ":!a"], "", "a", true),
-        Skips(&[":(exclude,glob)a/**", ":(exclude,glob)a/b/**"], "", "a", true),
-        Skips(&[":(exclude,glob)a/**", ":(exclude,glob)a/b/**"], "", "a/b", true),
-        Skips(&[":(exclude,glob)a/b/**", ":(exclude,glob)**/b/**"], "", "a", false),
-        Skips(&[":(exclude,glob)a/b/**", ":(exclude,glob)**/b/**"], "", "a/b", true),
-        Skips(&[":(exclude,glob)a/b/**", ":(exclude,glob)**/b/**"], "", "b", true),
-        Skips(&[":!.", ":!a"], "", "b", true),
+        Skips(":!a :!a/b", "", "a", true),
+        Skips(":!a :!a/b", "", "a/b", true),
+        Skips(":!a :!a/b", "", "a/c", true),
+        Skips(":!a/b :!a/b/c", "", "a", false),
+        Skips(":!a/b :!a/b/c", "", "a/b", true),
+        Skips(":!a/b :!a/b/c", "", "a/b/c/d", true),
+        Skips(":!a :!a", "", "a", true),
+        Skips(":!a/ :!a", "", "a", true),
+        Skips(":(exclude,glob)a/** :!a", "", "a", true),
+        Skips(":(exclude,glob)a/** :(exclude,glob)a/b/**", "", "a", true),
+        Skips(":(exclude,glob)a/** :(exclude,glob)a/b/**", "", "a/b", true),
+        Skips(":(exclude,glob)a/b/** :(exclude,glob)**/b/**", "", "a", false),
+        Skips(":(exclude,glob)a/b/** :(exclude,glob)**/b/**", "", "a/b", true),
+        Skips(":(exclude,glob)a/b/** :(exclude,glob)**/b/**", "", "b", true),
+        Skips(":!. :!a", "", "b", true),
     ];
     assert_each(rt.alloc(), ROWS)
 }
@@ -169,21 +176,21 @@ fn excludes_may_cover_one_another(rt: HostRuntime) -> Result<(), Fail> {
 fn names_may_have_wildcard_bytes(rt: HostRuntime) -> Result<(), Fail> {
     const ROWS: &[Skips] = &[
         // A directory that is called like the glob is taken whole, by its name.
-        Skips(&[":(exclude,glob)a*"], "", "a*", true),
-        Skips(&[":(exclude,glob)a*"], "", "a*/b", true),
-        Skips(&[":(exclude,glob)a*"], "", "ab/c", false),
-        Skips(&[":(exclude,literal)a*"], "", "a*", true),
-        Skips(&[":(exclude,literal)a*"], "", "ab", false),
-        Skips(&[":![a]"], "", "[a]", true),
-        Skips(&[":![a]"], "", "a", false),
-        Skips(&[":!a?"], "", "a?", true),
-        Skips(&[":!a?"], "", "ab", false),
+        Skips(":(exclude,glob)a*", "", "a*", true),
+        Skips(":(exclude,glob)a*", "", "a*/b", true),
+        Skips(":(exclude,glob)a*", "", "ab/c", false),
+        Skips(":(exclude,literal)a*", "", "a*", true),
+        Skips(":(exclude,literal)a*", "", "ab", false),
+        Skips(":![a]", "", "[a]", true),
+        Skips(":![a]", "", "a", false),
+        Skips(":!a?", "", "a?", true),
+        Skips(":!a?", "", "ab", false),
         // A star behind a backslash is a byte.
-        Skips(&[":!a\\*"], "", "a\\*", true),
-        Skips(&[":!a\\*"], "", "a*", false),
-        Skips(&["a*/b", ":!a*"], "", "a*", true),
-        Skips(&["a*/b", ":(exclude,literal)a*"], "", "a*", true),
-        Skips(&["a*/b", ":(exclude,literal)a*"], "", "ab", false),
+        Skips(":!a\\*", "", "a\\*", true),
+        Skips(":!a\\*", "", "a*", false),
+        Skips("a*/b :!a*", "", "a*", true),
+        Skips("a*/b :(exclude,literal)a*", "", "a*", true),
+        Skips("a*/b :(exclude,literal)a*", "", "ab", false),
     ];
     assert_each(rt.alloc(), ROWS)
 }
@@ -193,19 +200,19 @@ fn names_may_have_wildcard_bytes(rt: HostRuntime) -> Result<(), Fail> {
 fn a_path_with_a_slash_at_its_end_is_another(rt: HostRuntime) -> Result<(), Fail> {
     const ROWS: &[Skips] = &[
         // It begins with the path and a slash.
-        Skips(&[":!a"], "", "a/", true),
-        Skips(&[":!a/"], "", "a/", true),
-        Skips(&[":!b"], "", "a/", false),
-        Skips(&[":!a"], "", "a//", true),
-        Skips(&[":!a"], "", "/a", false),
-        Skips(&[":!a"], "", "/", false),
-        Skips(&[":(exclude,glob)a/**"], "", "a/", true),
-        Skips(&[":(exclude,glob)**/b/**"], "", "a/b/", true),
-        Skips(&[":(exclude,glob)**/b/**"], "", "a/", false),
+        Skips(":!a", "", "a/", true),
+        Skips(":!a/", "", "a/", true),
+        Skips(":!b", "", "a/", false),
+        Skips(":!a", "", "a//", true),
+        Skips(":!a", "", "/a", false),
+        Skips(":!a", "", "/", false),
+        Skips(":(exclude,glob)a/**", "", "a/", true),
+        Skips(":(exclude,glob)**/b/**", "", "a/b/", true),
+        Skips(":(exclude,glob)**/b/**", "", "a/", false),
         // Pruning says no to it where it says yes to the directory.
-        Skips(&["src/lib"], "", "src", false),
-        Skips(&["src/lib"], "", "src/", true),
-        Skips(&[], "", "a/", false),
+        Skips("src/lib", "", "src", false),
+        Skips("src/lib", "", "src/", true),
+        Skips("", "", "a/", false),
     ];
     assert_each(rt.alloc(), ROWS)
 }
@@ -214,44 +221,42 @@ fn a_path_with_a_slash_at_its_end_is_another(rt: HostRuntime) -> Result<(), Fail
 #[rattlefmt::skip]
 fn the_prefix_directory_keeps_its_case(rt: HostRuntime) -> Result<(), Fail> {
     const ROWS: &[Skips] = &[
-        Skips(&[":(exclude,icase)B"], "p", "p/B", true),
-        Skips(&[":(exclude,icase)B"], "p", "p/b/c", true),
-        Skips(&[":(exclude,icase)B"], "p", "p", false),
-        Skips(&[":(exclude,icase)B"], "p", "p/bc", false),
-        Skips(&[":(exclude,icase)B"], "p", "b", false),
-        Skips(&[":(exclude,icase,top)B"], "p", "b", true),
-        Skips(&[":(exclude,icase,top)B"], "p", "p/b", false),
-        Skips(&[":(exclude,icase)*"], "p", "p", true),
-        Skips(&[":(exclude,icase)*"], "p", "p/q", true),
-        Skips(&[":(exclude,icase)*"], "p", "P", false),
-        Skips(&[":(exclude,icase)*"], "p", "P/q", false),
-        Skips(&[":(exclude,icase)*"], "p", "q", false),
-        Skips(&[":(exclude,icase,glob)**/B/**"], "p", "p/q/b", true),
-        Skips(&[":(exclude,icase,glob)**/B/**"], "p", "P/q/b", false),
+        Skips(":(exclude,icase)B", "p", "p/B", true),
+        Skips(":(exclude,icase)B", "p", "p/b/c", true),
+        Skips(":(exclude,icase)B", "p", "p", false),
+        Skips(":(exclude,icase)B", "p", "p/bc", false),
+        Skips(":(exclude,icase)B", "p", "b", false),
+        Skips(":(exclude,icase,top)B", "p", "b", true),
+        Skips(":(exclude,icase,top)B", "p", "p/b", false),
+        Skips(":(exclude,icase)*", "p", "p", true),
+        Skips(":(exclude,icase)*", "p", "p/q", true),
+        Skips(":(exclude,icase)*", "p", "P", false),
+        Skips(":(exclude,icase)*", "p", "P/q", false),
+        Skips(":(exclude,icase)*", "p", "q", false),
+        Skips(":(exclude,icase,glob)**/B/**", "p", "p/q/b", true),
+        Skips(":(exclude,icase,glob)**/B/**", "p", "P/q/b", false),
         // The last name of a path is part of its prefix directory only where a directory is wanted.
-        Skips(&[":(exclude,icase)."], "p", "p", true),
-        Skips(&[":(exclude,icase)."], "p", "P", true),
-        Skips(&[":(exclude,icase)./"], "p", "p", true),
-        Skips(&[":(exclude,icase)./"], "p", "P", false),
+        Skips(":(exclude,icase).", "p", "p", true),
+        Skips(":(exclude,icase).", "p", "P", true),
+        Skips(":(exclude,icase)./", "p", "p", true),
+        Skips(":(exclude,icase)./", "p", "P", false),
         // Such an exclude buries no include.
-        Skips(&[":(icase)B", ":(exclude,icase)B"], "p", "p", false),
-        Skips(&[":(icase)B", ":(exclude,icase)B"], "p", "p/b", true),
-        Skips(&["B", ":(exclude,icase)B"], "p", "p", false),
-        Skips(&["B", ":!B"], "p", "p", true),
+        Skips(":(icase)B :(exclude,icase)B", "p", "p", false),
+        Skips(":(icase)B :(exclude,icase)B", "p", "p/b", true),
+        Skips("B :(exclude,icase)B", "p", "p", false),
+        Skips("B :!B", "p", "p", true),
     ];
     assert_each(rt.alloc(), ROWS)
 }
 
-/// Texts, a path, whether it is that of a directory, and whether it is selected.
-struct Selects(&'static [&'static str], &'static str, bool, bool);
+/// The texts in a line, a path, whether it is that of a directory, and whether it is selected.
+struct Selects(&'static str, &'static str, bool, bool);
 
 impl Row for Selects {
     fn holds(&self, alloc: Global) -> Result<bool, Fail> {
-        let search = search_of(alloc, self.0, "")?;
+        let search = search_of_line(alloc, self.0, "")?;
         let mut scratch = scratch_of(alloc, &search)?;
-        let path = BStr::new(self.1.as_bytes());
-        let answer = search.is_selected(path, Some(self.2), &mut scratch, &mut Marks::new())?;
-        Ok(answer == self.3)
+        Ok(is_selected(&search, self.1.as_bytes(), self.2, &mut scratch)? == self.3)
     }
 }
 
@@ -260,19 +265,19 @@ impl Row for Selects {
 fn what_is_left_of_a_directory_is_selected(rt: HostRuntime) -> Result<(), Fail> {
     const ROWS: &[Selects] = &[
         // The glob takes a slash and what follows it, but not this file of the root.
-        Selects(&[":![!a]*"], "a", false, true),
+        Selects(":![!a]*", "a", false, true),
         // The rest of a directory is taken, and not the directory.
-        Selects(&[":(exclude,glob)a/**"], "a", true, true),
-        Selects(&[":(exclude,glob)a/**"], "a/x", false, false),
+        Selects(":(exclude,glob)a/**", "a", true, true),
+        Selects(":(exclude,glob)a/**", "a/x", false, false),
         // A star of a glob that isn't path-aware takes what lies below a directory.
-        Selects(&[":!a*"], "ab/x", false, false),
-        Selects(&[":(exclude,glob)a*"], "ab/x", false, true),
-        Selects(&[":(exclude,glob)a/**/"], "a/x", false, true),
-        Selects(&[":(exclude,glob)a/**/"], "a/x", true, false),
-        Selects(&[":!a/"], "a", false, true),
-        Selects(&["a/b", ":!a/b/"], "a/b", false, true),
-        Selects(&[":(icase)a/b", ":!a/b"], "a/B", false, true),
-        Selects(&[":(icase)B", ":(exclude,icase)B"], "b", false, false),
+        Selects(":!a*", "ab/x", false, false),
+        Selects(":(exclude,glob)a*", "ab/x", false, true),
+        Selects(":(exclude,glob)a/**/", "a/x", false, true),
+        Selects(":(exclude,glob)a/**/", "a/x", true, false),
+        Selects(":!a/", "a", false, true),
+        Selects("a/b :!a/b/", "a/b", false, true),
+        Selects(":(icase)a/b :!a/b", "a/B", false, true),
+        Selects(":(icase)B :(exclude,icase)B", "b", false, false),
     ];
     assert_each(rt.alloc(), ROWS)
 }
@@ -298,8 +303,7 @@ impl ByHand {
 impl Row for ByHand {
     fn holds(&self, alloc: Global) -> Result<bool, Fail> {
         let search = search_from(alloc, self.patterns(alloc)?, "")?;
-        let mut scratch = scratch_of(alloc, &search)?;
-        Ok(search.may_skip(BStr::new(self.3.as_bytes()), &mut scratch) == self.4)
+        Ok(may_skip_anew(alloc, &search, self.3)? == self.4)
     }
 }
 
@@ -384,13 +388,9 @@ struct Step(Question, &'static str, bool, usize, u128);
 
 /// Asks the question of a step.
 fn ask(search: &Search, scratch: &mut Scratch, step: Step) -> Result<bool, Fail> {
-    if !search.fits(scratch) {
-        return Err("the scratch doesn't fit the search".into());
-    }
-    let path = BStr::new(step.1.as_bytes());
     match step.0 {
-        MaySkip => Ok(search.may_skip(path, scratch)),
-        IsSelected => { Ok(search.is_selected(path, Some(false), scratch, &mut Marks::new())?) }
+        MaySkip => may_skip(search, step.1.as_bytes(), scratch),
+        IsSelected => is_selected(search, step.1.as_bytes(), false, scratch),
     }
 }
 
@@ -431,16 +431,6 @@ fn both_questions_are_counted_in_a_scratch(rt: HostRuntime) -> Result<(), Fail> 
     Ok(())
 }
 
-/// The patterns of ten thousand texts, each a number between two others, from 10,000 on.
-fn numbered(alloc: Global, before: &str, after: &str) -> Result<Vec<Pattern>, Error> {
-    let mut patterns = Vec::new(alloc);
-    for number in 10_000..20_000 {
-        let text = format!(in alloc; "{before}{number}{after}")?;
-        patterns.push(pattern_of(alloc, &text)?)?;
-    }
-    Ok(patterns)
-}
-
 /// A directory, whether a walk may skip what lies below it, and how many excludes are asked.
 #[derive(Clone, Copy)]
 struct Asked(&'static str, bool, usize);
@@ -453,17 +443,24 @@ fn answers(search: &Search, scratch: &mut Scratch, asked: Asked) -> Result<bool,
     Ok(answer == asked.1 && is_counted)
 }
 
-/// Asserts that a search of these patterns answers so.
-fn assert_answers(
-    rt: &impl Abort,
-    alloc: Global,
-    patterns: Vec<Pattern>,
-    rows: &[Asked],
-) -> Result<(), Fail> {
-    let search = search_from(alloc, patterns, "")?;
-    let mut scratch = scratch_of(alloc, &search)?;
+/// What stands before and behind a number in the text of each of ten thousand excludes, and what a search of them answers.
+struct Tells(&'static str, &'static str, &'static [Asked]);
+
+impl Row for Tells {
+    fn holds(&self, alloc: Global) -> Result<bool, Fail> {
+        let search = search_of_many(alloc, 10_000, Texts::Between(self.0, self.1))?;
+        let mut scratch = scratch_of(alloc, &search)?;
+        assert_answers(&search, &mut scratch, self.2)?;
+        Ok(true)
+    }
+}
+
+/// Asserts that a search answers so.
+fn assert_answers(search: &Search, scratch: &mut Scratch, rows: &[Asked]) -> Result<(), Fail> {
     for asked in rows {
-        assert!(rt; answers(&search, &mut scratch, *asked)?, "{}", asked.0);
+        if !answers(search, scratch, *asked)? {
+            return Err(Fail::new(format_args!("{}", asked.0)));
+        }
     }
     Ok(())
 }
@@ -481,8 +478,7 @@ fn ten_thousand_excludes_in_one_directory_ask_one(rt: HostRuntime) -> Result<(),
         Asked("15000", false, 0),
         Asked("", false, 0),
     ];
-    let patterns = numbered(rt.alloc(), ":(exclude,glob)x/", "/**")?;
-    assert_answers(&rt, rt.alloc(), patterns, ROWS)
+    assert_each(rt.alloc(), &[Tells(":(exclude,glob)x/", "/**", ROWS)])
 }
 
 #[test]
@@ -497,8 +493,7 @@ fn ten_thousand_excludes_of_many_heads_ask_one(rt: HostRuntime) -> Result<(), Fa
         Asked("d", false, 0),
         Asked("y", false, 0),
     ];
-    let patterns = numbered(rt.alloc(), ":(exclude,glob)d", "/x/**")?;
-    assert_answers(&rt, rt.alloc(), patterns, ROWS)
+    assert_each(rt.alloc(), &[Tells(":(exclude,glob)d", "/x/**", ROWS)])
 }
 
 #[test]
@@ -511,8 +506,7 @@ fn ten_thousand_excludes_of_one_head_are_asked_in_turn(rt: HostRuntime) -> Resul
         Asked("x", false, 10_000),
         Asked("y/a10000", false, 0),
     ];
-    let patterns = numbered(rt.alloc(), ":(exclude,glob)x/*", "/**")?;
-    assert_answers(&rt, rt.alloc(), patterns, ROWS)
+    assert_each(rt.alloc(), &[Tells(":(exclude,glob)x/*", "/**", ROWS)])
 }
 
 #[test]
@@ -524,21 +518,16 @@ fn ten_thousand_plain_excludes_are_not_asked(rt: HostRuntime) -> Result<(), Fail
         Asked("x/199990", false, 0),
         Asked("x", false, 0),
     ];
-    assert_answers(&rt, rt.alloc(), numbered(rt.alloc(), ":!x/", "")?, ROWS)
+    assert_each(rt.alloc(), &[Tells(":!x/", "", ROWS)])
 }
 
-/// Texts, a path, whether it is a directory, whether a walk gives it and enters it, and how many specs are asked for that.
-struct Visits(
-    &'static [&'static str],
-    &'static str,
-    bool,
-    (bool, bool),
-    u128,
-);
+/// The texts in a line, a path, whether it is a directory, whether a walk gives it and enters it, and how many specs are asked
+/// for that.
+struct Visits(&'static str, &'static str, bool, (bool, bool), u128);
 
 impl Row for Visits {
     fn holds(&self, alloc: Global) -> Result<bool, Fail> {
-        let search = search_of(alloc, self.0, "")?;
+        let search = search_of_line(alloc, self.0, "")?;
         let mut scratch = scratch_of(alloc, &search)?;
         let visit = visited(&search, self.1.as_bytes(), self.2, &mut scratch)?;
         let (is_selected, is_entered) = self.3;
@@ -556,24 +545,24 @@ impl Row for Visits {
 fn a_walk_visits_each_entry_once(rt: HostRuntime) -> Result<(), Fail> {
     const ROWS: &[Visits] = &[
         // One match tells that an exclude takes the directory whole.
-        Visits(&[":!node_modules"], "node_modules", true, (false, false), 1),
-        Visits(&[":!node_modules"], "node_modules/a", true, (false, false), 1),
-        Visits(&[":!node_modules"], "node_modules", false, (false, false), 1),
-        Visits(&[":!node_modules"], "src", true, (true, true), 0),
-        Visits(&[":!node_modules"], "src", false, (true, false), 0),
+        Visits(":!node_modules", "node_modules", true, (false, false), 1),
+        Visits(":!node_modules", "node_modules/a", true, (false, false), 1),
+        Visits(":!node_modules", "node_modules", false, (false, false), 1),
+        Visits(":!node_modules", "src", true, (true, true), 0),
+        Visits(":!node_modules", "src", false, (true, false), 0),
         // An include in a glob that nothing prunes.
-        Visits(&["*.md", ":!crates"], "docs", true, (false, true), 1),
-        Visits(&["*.md", ":!crates"], "crates", true, (false, false), 1),
+        Visits("*.md :!crates", "docs", true, (false, true), 1),
+        Visits("*.md :!crates", "crates", true, (false, false), 1),
         // The match of a glob tells nothing of what lies below, so the exclude is asked a second time where it may take it.
-        Visits(&[":(exclude,glob)*.d"], "x.d", true, (false, true), 1),
-        Visits(&[":(exclude,glob)**/target/**"], "target", true, (true, false), 2),
-        Visits(&[":(exclude,glob)**/target/**"], "target/a", true, (false, false), 2),
-        Visits(&[":(exclude,glob)**/target/**"], "target/a", false, (false, false), 1),
+        Visits(":(exclude,glob)*.d", "x.d", true, (false, true), 1),
+        Visits(":(exclude,glob)**/target/**", "target", true, (true, false), 2),
+        Visits(":(exclude,glob)**/target/**", "target/a", true, (false, false), 2),
+        Visits(":(exclude,glob)**/target/**", "target/a", false, (false, false), 1),
         // No include reaches the directory, or an exclude takes all that one does.
-        Visits(&["a/b"], "c", true, (false, false), 0),
-        Visits(&["a/b", ":!a/b"], "a", true, (false, false), 0),
+        Visits("a/b", "c", true, (false, false), 0),
+        Visits("a/b :!a/b", "a", true, (false, false), 0),
         // The empty path is the tree itself.
-        Visits(&[":!a"], "", true, (true, true), 0),
+        Visits(":!a", "", true, (true, true), 0),
     ];
     assert_each(rt.alloc(), ROWS)
 }
