@@ -21,7 +21,7 @@ use crate::search::MatchKind;
 use crate::search::counted::{CountedHeads, CountedSpecs, SpecScratch};
 use crate::search::texts::begins_with;
 use bstr::BStr;
-use pathspec_heads::places;
+use pathspec_heads::places::{self, Deepest};
 use pathspec_heads::tables::StemHints;
 use pathspec_parts::attributes::LookUp;
 use std::fmt;
@@ -252,8 +252,8 @@ impl SpecsByHead {
         ensures unasked { IsTrue (is_unasked self.now (bstr_bytes path.entry))
             → (scratch.new.counts.last_tested ≡ 0) × (scratch.new.counts.last_compared ≡ 0) }
     {
-        scratch.effort = NO_EFFORT;
         if self.is_unasked(path.as_bytes()) {
+            scratch.effort = NO_EFFORT;
             return Ok(None);
         }
         let is_dir = is_dir.unwrap_or(false);
@@ -279,7 +279,6 @@ fn first_match<L: LookUp>(
 ) -> Result<Option<(usize, MatchKind)>, L::Fault>
     requires grouped { ArePlacesOf specs.now heads.now }
     requires fits { Fits specs.now scratch.old }
-    requires none { scratch.old.counts.last_tested ≡ 0 }
     ensures room { scratch.new.room ≡ scratch.old.room }
     ensures first { IfOk result (λ found.
         IsFirstFound (L.table look_up.old) specs.now (bstr_bytes path.entry) is_dir found) }
@@ -292,23 +291,24 @@ fn first_match<L: LookUp>(
     ensures looked { IfOk result (λ found. IsSome found
         → (1 ≤ scratch.new.counts.last_tested) × (1 ≤ scratch.new.counts.last_compared)) }
 {
-    let deepest = heads.deepest(path.as_bytes(), &mut scratch.heads);
-    scratch.effort.compared = deepest.compared;
-    match deepest.head {
-        Some(head) => {
-            first_candidate(
-                specs,
-                heads,
-                head,
-                &mut scratch.specs,
-                &mut scratch.effort.tested,
-                path,
-                is_dir,
-                look_up,
-            )
-        }
-        None => Ok(None),
-    }
+    let Deepest { head, compared } = heads.deepest(path.as_bytes(), &mut scratch.heads);
+    let mut tested = 0;
+    let Some(head) = head else {
+        scratch.effort = Effort { tested, compared };
+        return Ok(None);
+    };
+    let found = first_candidate(
+        specs,
+        heads,
+        head,
+        &mut scratch.specs,
+        &mut tested,
+        path,
+        is_dir,
+        look_up,
+    );
+    scratch.effort = Effort { tested, compared };
+    found
 }
 
 /// The place of the first spec that matches a path, and how it does, of those whose head begins the one with a number.

@@ -61,22 +61,22 @@ glob-answers-tail mode pattern glob case text given view is =
 
 module _ (mode : Mode) (case : Case) (pattern : List ℕ) (h m t : TokenList) (parted : IsParted mode pattern h m t) (text : List ℕ) (fit : (k : ℕ) → get_or text k 0 < 256) where
   -- a glob matches where its parts do
-  whole : matches mode case (tokens mode pattern) text ≡ (takes_front h case text && (takes_end t case (behind_front h text) && matches m.mode case m.tokens (before_end t (behind_front h text))))
+  whole : matches mode case (tokens mode pattern) text ≡ (takes_end t case text && (takes_front h case (before_end t text) && matches m.mode case m.tokens (behind_front h (before_end t text))))
   whole = rw (parted.head_is, parted.middle_is, parted.tail_is) (sym (matches-listed mode case (tokens mode pattern) text fit) ∙ parts-match mode case (listed_tokens mode pattern) text)
 
-  -- where the head takes no front, it doesn't match
-  pub no-front : false ≡ takes_front h case text → false ≡ matches mode case (tokens mode pattern) text
-  no-front off = sym (whole ∙ rw (sym off) refl)
+  -- where the tail takes no end, it doesn't match
+  pub no-end : false ≡ takes_end t case text → false ≡ matches mode case (tokens mode pattern) text
+  no-end off = sym (whole ∙ rw (sym off) refl)
 
-  -- nor where the tail takes no end
-  pub no-end : (behind : List ℕ) → behind ≡ behind_front h text → true ≡ takes_front h case text → false ≡ takes_end t case behind → false ≡ matches mode case (tokens mode pattern) text
-  no-end behind is on off = sym (whole ∙ rw (sym on, sym (off ∙ ap (takes_end t case) is)) refl)
+  -- nor where the head takes no front
+  pub no-front : (before : List ℕ) → before ≡ before_end t text → true ≡ takes_end t case text → false ≡ takes_front h case before → false ≡ matches mode case (tokens mode pattern) text
+  no-front before is on off = sym (whole ∙ rw (sym on, sym (off ∙ ap (takes_front h case) is)) refl)
 
   -- and where both do, what stands between decides
-  pub between-decides : (behind between : List ℕ) (given : Bool) → behind ≡ behind_front h text → true ≡ takes_front h case text → between ≡ before_end t behind → true ≡ takes_end t case behind
+  pub between-decides : (before between : List ℕ) (given : Bool) → before ≡ before_end t text → true ≡ takes_end t case text → between ≡ behind_front h before → true ≡ takes_front h case before
       → given ≡ matches m.mode case m.tokens between → given ≡ matches mode case (tokens mode pattern) text
-  between-decides behind between given is on before end found =
-      found ∙ ap (matches m.mode case m.tokens) (before ∙ ap (before_end t) is) ∙ sym (whole ∙ rw (sym on, sym (end ∙ ap (takes_end t case) is)) refl)
+  between-decides before between given is on behind front found =
+      found ∙ ap (matches m.mode case m.tokens) (behind ∙ ap (behind_front h) is) ∙ sym (whole ∙ rw (sym on, sym (front ∙ ap (takes_front h case) is)) refl)
 
   -- ---- steps
 

@@ -3,7 +3,7 @@ use Rattle.std.proofs.Common.{◌≡◌, ℕ, zero, suc, ◌+◌, ◌-◌, ◌�
 use Rattle.std.proofs.lemmas.Bool.{cases_Bool, cases_lt, eqb-true, false_from_ne_true, and_parts, not-true, or_right}
 use Rattle.std.proofs.Math.Bool.{or-false, and-false, and-true}
 use Rattle.std.proofs.Math.Seq.{drop-length}
-use Rattle.std.proofs.lemmas.List.{drop_more, take_all}
+use Rattle.std.proofs.lemmas.List.{append_assoc, drop_more, take_all}
 use Rattle.std.specs.Prelude.{bytes_eq, nat_eq}
 use Rattle.std.specs.Char.{to_ascii_lowercase}
 use Rattle.std.specs.Cmp.Lexicographic.{pointwise}
@@ -220,17 +220,30 @@ module _ (mode : Mode) (case : Case) where
 
   -- ---- all parts
 
-  -- what stands behind a head
-  abbrev behind : List Token → List ℕ → List ℕ
-  behind ts text = drop (length (head_of ts)) text
+  -- a tail stands behind more tokens, too
+  stands-behind_head : (hs ms ss : List Token) → list_all is_single hs ≡ true → stands mode ms ss ≡ true → stands mode (hs ++ ms) ss ≡ true
+  stands-behind_head [] ms ss h s = s
+  stands-behind_head (One single ∷ []) [] [] h s = refl
+  stands-behind_head (One single ∷ []) [] (u ∷ ss) h s = refl
+  stands-behind_head (One single ∷ []) (m ∷ ms) ss h s = s
+  stands-behind_head (One single ∷ t ∷ hs) ms ss h s = stands-behind_head (t ∷ hs) ms ss h s
+  stands-behind_head (Star ∷ hs) ms ss h s = cc
+  stands-behind_head (Deep ∷ hs) ms ss h s = cc
+
+  -- the head takes a front, and what stands behind it passes
+  abbrev after : List Token → (List ℕ → Bool) → List ℕ → Bool
+  after hs f text = takes_each mode case hs (take (length hs) text) && f (drop (length hs) text)
 
   pub parts-match : (ts : List Token) (text : List ℕ)
-      → matches mode case ts text
-      ≡ (takes_each mode case (head_of ts) (take (length (head_of ts)) text) && before (tail_of mode ts) (matches mode case (middle_of mode ts)) (behind ts text))
+      → matches mode case ts text ≡ before (tail_of mode ts) (after (head_of ts) (matches mode case (middle_of mode ts))) text
   parts-match ts text =
-      ap (λ x. matches mode case x text) (sym (parts-all mode ts))
-      ∙ head-splits (head_of ts) (middle_of mode ts ++ tail_of mode ts) (head-singles ts) text
-      ∙ ap (λ x. takes_each mode case (head_of ts) (take (length (head_of ts)) text) && x) (tail-splits (middle_of mode ts) (tail_of mode ts) (tail-singles mode ts) (tail-stands mode ts) (behind ts text))
+      let head = head_of ts in
+      let middle = middle_of mode ts in
+      let tail = tail_of mode ts in
+      let front = take (length text - length tail) text in
+      ap (λ x. matches mode case x text) (sym (append_assoc head middle tail ∙ parts-all mode ts))
+      ∙ tail-splits (head ++ middle) tail (tail-singles mode ts) (stands-behind_head head middle tail (head-singles ts) (tail-stands mode ts)) text
+      ∙ ap (λ x. ends tail text && x) (head-splits head middle (head-singles ts) front)
 
   -- ---- one token for any number of bytes
 

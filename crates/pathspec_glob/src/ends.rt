@@ -92,6 +92,9 @@ impl End {
             steps.new.last + length behind.now ≡ steps.old.last + length text.now) }
         ensures counted { KeepsCount steps.old steps.new }
     {
+        if self.len() == 0 {
+            return Some(text);
+        }
         if text.len() < self.len() {
             return None;
         }
@@ -115,6 +118,9 @@ impl End {
             steps.new.last + length before.now ≡ steps.old.last + length text.now) }
         ensures counted { KeepsCount steps.old steps.new }
     {
+        if self.len() == 0 {
+            return Some(text);
+        }
         if text.len() < self.len() {
             return None;
         }

@@ -92,8 +92,8 @@ impl Glob {
         self.tokens() <= scratch.places.room()
     }
 
-    /// Whether the whole text matches. It takes no memory. The tokens before the first star are tested on the text's front,
-    /// one a byte, and those after the last star on its end, all at once where they are bytes of the pattern. Then it keeps
+    /// Whether the whole text matches. It takes no memory. The tokens after the last star are tested on the text's end, one a
+    /// byte, and those before the first star on its front, all at once where they are bytes of the pattern. Then it keeps
     /// the set of places in the others that the front of the rest leads to. So it takes at most (pattern bytes + 1) ×
     /// (text bytes + 1) steps.
     ///
@@ -116,10 +116,10 @@ impl Glob {
         let places = &mut scratch.places;
         let steps = &mut scratch.steps;
         steps.begin();
-        let Some(behind) = parts.head.behind_front(text, case, steps) else {
+        let Some(before) = parts.tail.before_end(text, case, steps) else {
             return false;
         };
-        let Some(between) = parts.tail.before_end(behind, case, steps) else {
+        let Some(between) = parts.head.behind_front(before, case, steps) else {
             return false;
         };
         parts.middle.matches(between, case, places, steps)
@@ -142,7 +142,7 @@ impl Parts {
         let (head, mut behind) = split_head(alloc, pattern, mode)?;
         let middle_size = behind.wide_size();
         let tail = behind.split_off(middle_size)?;
-        // They were read into room for one a byte, and get a list that has none to spare.
+        // The list has room for a token a byte of the pattern; `split_off` makes one that is just as long as it has to be.
         let middle = behind.split_off(0)?;
         Ok(Parts {
             source: Source::of(pattern),

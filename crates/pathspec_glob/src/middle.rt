@@ -84,10 +84,9 @@ impl Middle {
         self.tokens.len()
     }
 
-    // Out of line, so that the loops of words have the registers to themselves.
     /// Whether the tokens match the whole of a text: by the first alone where this takes the same texts, and else by sets
     /// of places, in one word where they fit it and else in bit vectors. It takes no memory.
-    #[inline(never)]
+    #[inline(always)]
     pub fn matches(&self, text: &[u8], case: Case, places: &mut Places, steps: &mut Steps) -> bool
         requires room { HasRoom (length self.now.tokens) places.old }
         requires steps { steps.old.last + length self.now.tokens * length text.now < 2 ^ 128 }
@@ -165,6 +164,7 @@ impl Way {
 
 /// Tests the first token, which takes any number of bytes, on the bytes of a text up to one that it doesn't take, each
 /// of which is counted as one step: whether it takes them all.
+#[inline(never)]
 fn test_first(tokens: &CountedTokens, text: &[u8], steps: &mut Steps) -> bool
     requires wide { IsTrue (is_wide_at tokens.now.tokens) }
     requires room { steps.old.last + length text.now < 2 ^ 128 }

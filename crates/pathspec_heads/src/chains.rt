@@ -68,7 +68,7 @@ pub fn next_look(low: usize, high: usize, hint: usize, looks: usize) -> usize
     }
 }
 
-/// What a search is between after the head at the index was compared with its text. If they agree in more bytes than the head
+/// What is left to search after the head at the index was compared with the text. If they agree in more bytes than the head
 /// and its neighbour do, the neighbour stands on the other side of the text.
 #[inline(always)]
 pub fn narrowed(heads: &Texts, between: Between, index: usize, comparison: Comparison) -> Between

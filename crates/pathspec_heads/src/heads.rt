@@ -343,6 +343,12 @@ fn compared(head: &[u8], text: &[u8]) -> Comparison
     ensures agreed { result.agreed ≡ agreement head.now text.now }
     ensures behind { result.is_behind ≡ is_behind head.now text.now }
 {
+    if head.is_empty() {
+        return Comparison {
+            agreed: 0,
+            is_behind: false,
+        };
+    }
     for at in agreed_by_eights(head, text)..head.len() {
         if at == text.len() {
             return Comparison {

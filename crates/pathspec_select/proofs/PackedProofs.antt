@@ -83,6 +83,19 @@ module _ (packed : List Packed) (anchors : List Anchor) (others : List Span) (h 
   pub anchor-read : (i : ℕ) (anchor : Anchor) → i < length packed → anchor ≡ get_or anchors (i / 256) anchor → anchor ≡ anchor_of anchors i
   anchor-read i anchor l = block_anchor anchors (i / 256) anchor (anchor_inside i l)
 
+  -- what look-ups of an entry and of its anchor tell
+  module _ (i : ℕ) (inside : i < length packed) (entry : Packed) (found : entry ≡ get_or packed i entry) where
+    pub entry-read : (x : Packed) → entry ≡ x → slice_get packed i ≡ Some x
+    entry-read x is = slice_get_read packed (length packed) i entry refl inside found ∙ ap Some is
+
+    -- the span stands among the others
+    pub other-place : (from : Anchor) → from ≡ get_or anchors (i / 256) from → (n : ℕ) → entry ≡ Other n
+        → (from.others ≡ (anchor_of anchors i).others) × (from.others + n < length others)
+    other-place from from_found n is =
+        let same = ap (λ (a : Anchor). a.others) (anchor-read i from inside from_found) in
+        let there = h.other_inside i n (entry-read (Other n) is) in
+        (same, omega (arith, same, there))
+
   -- ---- one more anchor
 
   module _ (first : Anchor) (is_first : first.others ≡ length others) where

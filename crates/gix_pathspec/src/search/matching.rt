@@ -157,19 +157,19 @@ pub(super) fn ignores_case(pattern: &Pattern) -> bool
 }
 
 impl CompiledSpec {
-    ghost use Rattle.std.specs.Prelude.{IfOk, OnOk, OnErr};
+    ghost use Rattle.std.specs.Prelude.{IfOk, OnOk, OnErr, false};
+    ghost use Rattle.gix_pathspec.specs.Bytes.{is_empty};
     ghost use Rattle.pathspec_parts.specs.Attributes.{next_count};
     ghost use Rattle.gix_pathspec.specs.Matching.{has_attributes};
     ghost use Rattle.gix_pathspec.specs.Found.{matched_kind};
     ghost use Rattle.gix_pathspec.specs.Room.{attribute_names};
 
-    // Out of line, since few specs list attributes.
     /// Whether the path has each attribute that the spec lists. The look-up is asked at most once, on a reset outcome, and
     /// only where the spec lists any.
     ///
     /// # Errors
     /// The look-up's fault.
-    #[inline(never)]
+    #[inline(always)]
     fn has_attributes<L: LookUp>(
         &self,
         path: BStr<'_>,
@@ -189,6 +189,32 @@ impl CompiledSpec {
         if self.pattern.attributes.is_empty() {
             return Ok(true);
         }
+        self.has_listed_attributes(path, is_dir, outcome, look_up)
+    }
+
+    // Out of line, since few specs list attributes.
+    /// The same for a spec that lists some.
+    ///
+    /// # Errors
+    /// The look-up's fault.
+    #[inline(never)]
+    fn has_listed_attributes<L: LookUp>(
+        &self,
+        path: BStr<'_>,
+        is_dir: bool,
+        outcome: &mut Outcome,
+        look_up: &mut L,
+    ) -> Result<bool, L::Fault>
+        requires listed { is_empty self.now.spec.attributes ≡ false }
+        requires names { names_of outcome.old ≡ attribute_names self.now.spec }
+        ensures answer { IfOk result (λ has. has
+            ≡ has_attributes (L.table look_up.old) self.now.spec (bstr_bytes path.entry) is_dir) }
+        ensures names { names_of outcome.new ≡ names_of outcome.old }
+        ensures table_stays { L.table look_up.new ≡ L.table look_up.old }
+        ensures ok_leaves_count { OnOk result (L.failures look_up.new ≡ L.failures look_up.old) }
+        ensures err_counts { OnErr result
+            (L.failures look_up.new ≡ next_count (L.failures look_up.old)) }
+    {
         outcome.reset();
         let found = look_up.look_up(path, Case::Sensitive, is_dir, outcome)?;
         Ok(found && have_states(outcome, &self.pattern.attributes))

@@ -328,7 +328,8 @@ pub(super) fn glob_mode(pattern: &Pattern, is_wild: bool) -> Option<Mode>
     }
 }
 
-/// The glob that a pattern is compared as; None for a pattern that isn't compared as one. The cost is linear in the path.
+/// The glob that a pattern is compared as; None for a pattern that isn't compared as one. Whether it has a wildcard was found out
+/// before. The cost is linear in the path.
 ///
 /// # Errors
 /// Memory runs out.

@@ -107,6 +107,7 @@ impl Pattern {
     }
 
     /// Whether the pattern is resolved as it stands: on the top of the repository, with a path that is clean, as a prefix is.
+    /// There `a/b` is, and `a//b` and `a/../b` are not.
     ///
     /// It looks at each byte of the path once, and takes no memory.
     fn is_resolved(&self, prefix: BStr<'_>) -> bool

@@ -27,7 +27,7 @@ pub(super) struct Span {
 struct Anchor {
     /// Where the path of its first entry begins.
     start: usize,
-    /// How many spans entries before it have.
+    /// How many of the entries before it have a span elsewhere.
     others: usize,
 }
 
@@ -36,7 +36,7 @@ struct Anchor {
 enum Packed {
     /// A file with a short path, which begins so many bytes behind its anchor's.
     File { length: u8, start: u16 },
-    /// Any other, by the number of its span, from those before its anchor on.
+    /// Any other, by the number of its span, counted from the first of its block.
     Other { number: u8 },
 }
 
@@ -127,10 +127,10 @@ impl Spans {
         }
     }
 
-    /// The same of one with a span elsewhere, as the first of a block.
+    /// Adds one that four bytes can't hold, such as a directory or the first of a block.
     ///
     /// # Errors
-    /// As above.
+    /// Memory runs out. All is then as it was.
     #[inline(never)]
     fn push_other(&mut self, span: Span) -> Result<(), AllocError>
         ensures ok { OnOk result (self.new ≡ self.old ++ span ∷ []) }

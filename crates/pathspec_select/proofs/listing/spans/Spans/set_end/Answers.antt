@@ -3,9 +3,8 @@ use Rattle.std.proofs.lemmas.Option.{slice_get_read, get_or_from_slice_get}
 use Rattle.std.specs.Prelude.{slice_get}
 use Rattle.pathspec_select.specs.PackedSpans.{no_span, anchor_of, unpacked}
 use Rattle.pathspec_select.specs.declared.listing.spans.Span.{Span}
-use Rattle.pathspec_select.specs.declared.listing.spans.Anchor.{Anchor}
 use Rattle.pathspec_select.specs.declared.listing.spans.Packed.TheVariants.{File, Other}
-use Rattle.pathspec_select.proofs.PackedProofs.{anchor_inside, anchor-read, inside-of, span-at, view-set_other}
+use Rattle.pathspec_select.proofs.PackedProofs.{anchor_inside, inside-of, entry-read, other-place, span-at, view-set_other}
 use Rattle.pathspec_select.proofs.listing.spans.Spans.set_end.Goals as goal
 
 pub index-requires : goal.index-requires
@@ -25,25 +24,21 @@ pub overflow_add-before : goal.overflow_add-before
 overflow_add-before c =
     let s = c.self.inside in
     let inside = inside-of s.packed.items s.anchors.items s.others.items c.args.self.now c.self.view_is c.args.number c.requires.inside in
-    let at : slice_get s.packed.items c.args.number ≡ Some (Other c.in-Other.number) = slice_get_read s.packed.items (length s.packed.items) c.args.number c.index-2.result.now refl inside c.index-2.ensures ∙ ap Some c.in-Other.is in
-    let anchor = ap (λ (a : Anchor). a.others) (anchor-read s.packed.items s.anchors.items s.others.items c.self.invariant c.args.number c.index.result.now inside c.index.ensures) in
-    let there = c.self.invariant.other_inside c.args.number c.in-Other.number at in
-    omega (arith, anchor, there, c.from.ensures, s.others.ok)
+    let place = other-place s.packed.items s.anchors.items s.others.items c.self.invariant c.args.number inside c.index-2.result.now c.index-2.ensures c.index.result.now c.index.ensures c.in-Other.number c.in-Other.is in
+    omega (arith, place, c.from.ensures, s.others.ok)
 
 pub index_mut-requires : goal.index_mut-requires
 index_mut-requires c =
     let s = c.self.inside in
     let inside = inside-of s.packed.items s.anchors.items s.others.items c.args.self.now c.self.view_is c.args.number c.requires.inside in
-    let at : slice_get s.packed.items c.args.number ≡ Some (Other c.in-Other.number) = slice_get_read s.packed.items (length s.packed.items) c.args.number c.index-2.result.now refl inside c.index-2.ensures ∙ ap Some c.in-Other.is in
-    let anchor = ap (λ (a : Anchor). a.others) (anchor-read s.packed.items s.anchors.items s.others.items c.self.invariant c.args.number c.index.result.now inside c.index.ensures) in
-    let there = c.self.invariant.other_inside c.args.number c.in-Other.number at in
-    omega (arith, anchor, there, c.from.ensures, s.others.ok.0)
+    let place = other-place s.packed.items s.anchors.items s.others.items c.self.invariant c.args.number inside c.index-2.result.now c.index-2.ensures c.index.result.now c.index.ensures c.in-Other.number c.in-Other.is in
+    omega (arith, place, c.from.ensures, s.others.ok.0)
 
 pub returns-in-File : goal.returns-in-File
 returns-in-File c =
     let s = c.self.inside in
     let inside = inside-of s.packed.items s.anchors.items s.others.items c.args.self.now c.self.view_is c.args.number c.requires.inside in
-    let at : slice_get s.packed.items c.args.number ≡ Some (File c.in-File.length c.in-File.start) = slice_get_read s.packed.items (length s.packed.items) c.args.number c.index-2.result.now refl inside c.index-2.ensures ∙ ap Some c.in-File.is in
+    let at = entry-read s.packed.items s.anchors.items s.others.items c.self.invariant c.args.number inside c.index-2.result.now c.index-2.ensures (File c.in-File.length c.in-File.start) c.in-File.is in
     let file = ap (λ (x : Span). x.end) (ap (λ xs. get_or xs c.args.number no_span) (sym c.self.view_is) ∙ span-at s.packed.items s.anchors.items s.others.items c.args.number (File c.in-File.length c.in-File.start) at) in
     absurd (c.requires.is_dir file)
 
@@ -55,10 +50,10 @@ returns-in-Other c =
     let k = c.index.result.now.others + c.from.result in
     let view = unpacked s.packed.items s.anchors.items s.others.items in
     let inside = inside-of s.packed.items s.anchors.items s.others.items c.args.self.now c.self.view_is c.args.number c.requires.inside in
-    let at : slice_get s.packed.items c.args.number ≡ Some (Other n) = slice_get_read s.packed.items (length s.packed.items) c.args.number c.index-2.result.now refl inside c.index-2.ensures ∙ ap Some c.in-Other.is in
-    let anchor = ap (λ (a : Anchor). a.others) (anchor-read s.packed.items s.anchors.items s.others.items c.self.invariant c.args.number c.index.result.now inside c.index.ensures) in
-    let place : k ≡ (anchor_of s.anchors.items c.args.number).others + n = omega (arith, anchor, c.from.ensures) in
-    let there : k < length s.others.items = let r = c.self.invariant.other_inside c.args.number n at in omega (arith, place, r) in
+    let at = entry-read s.packed.items s.anchors.items s.others.items c.self.invariant c.args.number inside c.index-2.result.now c.index-2.ensures (Other n) c.in-Other.is in
+    let stands = other-place s.packed.items s.anchors.items s.others.items c.self.invariant c.args.number inside c.index-2.result.now c.index-2.ensures c.index.result.now c.index.ensures n c.in-Other.is in
+    let place : k ≡ (anchor_of s.anchors.items c.args.number).others + n = omega (arith, stands, c.from.ensures) in
+    let there : k < length s.others.items = omega (arith, stands, c.from.ensures) in
     let read : slice_get s.others.items k ≡ Some old = slice_get_read s.others.items (length s.others.items) k old refl there c.index_mut.ensures.value in
     let is : old ≡ get_or c.args.self.now c.args.number no_span =
     sym (get_or_from_slice_get s.others.items k old no_span read)
