@@ -8,6 +8,7 @@ ghost use Rattle.std.specs.Box.{box_value};
 ghost use Rattle.bstr.specs.BStr.{bstr_bytes};
 ghost use Rattle.pathspec_parts.specs.Attributes.{next_count};
 ghost use Rattle.pathspec_glob.specs.Counts.{Counts};
+ghost use Rattle.pathspec_heads.specs.Groups.{IsInChain, IsLeastFrom};
 ghost use Rattle.pathspec_heads.specs.Heads.{IsChainOf};
 ghost use Rattle.gix_pathspec.specs.Found.{IsFirstFound};
 ghost use Rattle.gix_pathspec.specs.Prefixes.{common_prefix};
@@ -342,7 +343,7 @@ fn first_candidate<L: LookUp>(
     let count = specs.len();
     let mut from = 0;
     while from < count {
-        let place = match heads.next_place(head, from) {
+        let place = match next_candidate(specs, heads, head, from) {
             Some(place) => place,
             None => return Ok(None),
         };
@@ -353,4 +354,26 @@ fn first_candidate<L: LookUp>(
         from = place + 1;
     }
     Ok(None)
+}
+
+// In line, since a match asks for it at each path.
+/// The least place from one on whose head begins the head with a number. Of one spec it is the spec's own, without a search.
+#[inline(always)]
+fn next_candidate(
+    specs: &CountedSpecs,
+    heads: &CountedHeads,
+    head: usize,
+    from: usize,
+) -> Option<usize>
+    requires grouped { ArePlacesOf specs.now heads.now }
+    requires head { head < length heads.now.heads }
+    requires from { from < length specs.now }
+    ensures { IsLeastFrom (IsInChain heads.now.heads heads.now.starts heads.now.order head)
+        from result }
+{
+    if specs.len() == 1 {
+        Some(0)
+    } else {
+        heads.next_place(head, from)
+    }
 }
