@@ -164,41 +164,14 @@ impl CompiledSpec {
     ghost use Rattle.gix_pathspec.specs.Found.{matched_kind};
     ghost use Rattle.gix_pathspec.specs.Room.{attribute_names};
 
-    /// Whether the path has each attribute that the spec lists. The look-up is asked at most once, on a reset outcome, and
-    /// only where the spec lists any.
-    ///
-    /// # Errors
-    /// The look-up's fault.
-    #[inline(always)]
-    fn has_attributes<L: LookUp>(
-        &self,
-        path: BStr<'_>,
-        is_dir: bool,
-        outcome: &mut Outcome,
-        look_up: &mut L,
-    ) -> Result<bool, L::Fault>
-        requires { names_of outcome.old ≡ attribute_names self.now.spec }
-        ensures answer { IfOk result (λ has. has
-            ≡ has_attributes (L.table look_up.old) self.now.spec (bstr_bytes path.entry) is_dir) }
-        ensures names { names_of outcome.new ≡ names_of outcome.old }
-        ensures table_stays { L.table look_up.new ≡ L.table look_up.old }
-        ensures ok_leaves_count { OnOk result (L.failures look_up.new ≡ L.failures look_up.old) }
-        ensures err_counts { OnErr result
-            (L.failures look_up.new ≡ next_count (L.failures look_up.old)) }
-    {
-        if self.pattern.attributes.is_empty() {
-            return Ok(true);
-        }
-        self.has_listed_attributes(path, is_dir, outcome, look_up)
-    }
-
     // Out of line, since few specs list attributes.
-    /// The same for a spec that lists some.
+    /// Whether the path has each attribute that the spec lists, which has to list some: under `:(attr:a -b)x`, whether
+    /// `a` is set and `b` is unset. The look-up is asked once, on a reset outcome.
     ///
     /// # Errors
     /// The look-up's fault.
     #[inline(never)]
-    fn has_listed_attributes<L: LookUp>(
+    fn has_attributes<L: LookUp>(
         &self,
         path: BStr<'_>,
         is_dir: bool,
@@ -246,15 +219,16 @@ impl CompiledSpec {
         ensures err_counts { OnErr result
             (L.failures look_up.new ≡ next_count (L.failures look_up.old)) }
     {
-        match match_kind(&self.pattern, &self.glob, globs, path, is_dir) {
-            Some(kind) => {
-                Ok(
-                    self.has_attributes(path, is_dir, outcome, look_up)?
-                        .then_some(kind),
-                )
-            }
-            None => Ok(None),
+        let Some(kind) = match_kind(&self.pattern, &self.glob, globs, path, is_dir) else {
+            return Ok(None);
+        };
+        if self.pattern.attributes.is_empty() {
+            return Ok(Some(kind));
         }
+        Ok(
+            self.has_attributes(path, is_dir, outcome, look_up)?
+                .then_some(kind),
+        )
     }
 }
 
