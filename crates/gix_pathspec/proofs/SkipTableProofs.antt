@@ -1,5 +1,6 @@
 -- What the tables of a search and the excludes that are asked one by one say of a directory is whether a walk may skip it.
-use Rattle.std.proofs.Common.{◌≡◌, ℕ, Bool, true, false, not, ◌&&◌, ◌||◌, cond, refl, sym, ◌∙◌, ap, List, [], ◌∷◌, ◌++◌, Option, Some, filter}
+use Rattle.std.proofs.Common.{◌≡◌, ℕ, Bool, true, false, not, ◌&&◌, ◌||◌, cond, inl, inr, refl, sym, ◌∙◌, ap, List, [], ◌∷◌, ◌++◌, Option, Some, filter}
+use Rattle.std.proofs.lemmas.Bool.{and_parts, or_cases, or_left, or_right, not-true}
 use Rattle.std.specs.List.{list_any}
 use Rattle.gix_pathspec.specs.Bytes.{slash, is_empty}
 use Rattle.gix_pathspec.specs.PathTables.{PathParts, path_takes}
@@ -11,7 +12,7 @@ use Rattle.gix_pathspec.specs.Prefixes.{common_prefix}
 use Rattle.gix_pathspec.specs.Pruning.{stem_of, reaches, agree, is_total_exclude, can_match}
 use Rattle.gix_pathspec.specs.Reach.{is_tabled, path_of, taken_paths, is_buried, has_stem, stems_of, reaches_live}
 use Rattle.gix_pathspec.specs.Skipping.{takes_whole, takes_rest, has_open_end, buries, is_live, holds_nothing, may_skip}
-use Rattle.gix_pathspec.specs.SkipTables.{skips_by_tables}
+use Rattle.gix_pathspec.specs.SkipTables.{holds_nothing_by_tables, skips_by_tables}
 use Rattle.gix_pathspec.specs.Takers.{is_taker, takers_of, taker_takes}
 use Rattle.gix_pathspec.proofs.ReachProofs.{reached-by-stems}
 use Rattle.pathspec_heads.proofs.StemProofs.{any-ext}
@@ -210,3 +211,55 @@ skips-as-defined (s ∷ ss) d filled = skips-some (s ∷ ss) d refl filled
 pub skips-no-empty : (specs : List Spec) (d : List ℕ) → is_empty d ≡ true → false ≡ may_skip specs d
 unfolding may_skip holds_nothing
 skips-no-empty specs d e = rw e refl
+
+-- ---- what tables say alone
+
+-- an exclude in the table that takes a directory takes it whole
+tabled-whole : (d : List ℕ) (s : Spec) → (is_tabled s && path_takes (path_of s) d true) ≡ true → (is_exclude s && takes_whole s d) ≡ true
+unfolding takes_whole
+tabled-whole d s h = here (is_exclude s) (is_empty s.attributes) (always_matches s) (has_one_case s) (is_in_prefix_directory s d true) (is_verbatim_match s d true) (is_prefix_match s d) (one_case-prefix s d true) h
+  where
+    here : (x e m c k v p : Bool) → (c ≡ true → k ≡ true) → ((x && e && not m && c) && (v || p)) ≡ true → (x && (e && (k && (m || v || p)))) ≡ true
+    here true true false true k v p f h = rw (f refl) h
+    here true true false false k v p f h = cc
+    here true true true c k v p f h = cc
+    here true false m c k v p f h = cc
+    here false e m c k v p f h = cc
+
+-- so do those of a list
+tabled-all : (d : List ℕ) (specs : List Spec) → list_any (λ p. path_takes p d true) (taken_paths specs) ≡ true → list_any (λ e. is_exclude e && takes_whole e d) specs ≡ true
+tabled-all d specs h = any-weaker (λ s. is_tabled s && path_takes (path_of s) d true) (λ e. is_exclude e && takes_whole e d) (tabled-whole d) specs (sym (any-kept (λ p. path_takes p d true) path_of is_tabled (λ s. path_takes (path_of s) d true) (λ s e. refl) specs) ∙ h)
+  where
+    any-weaker : {X : Type 0} (p q : X → Bool) → ((x : X) → p x ≡ true → q x ≡ true) → (xs : List X) → list_any p xs ≡ true → list_any q xs ≡ true
+    any-weaker p q f [] t = cc
+    any-weaker p q f (x ∷ xs) t = elim (or_cases (p x) (list_any p xs) t) [
+      | inl e ↦ or_left (q x) (list_any q xs) (f x e)
+      | inr e ↦ or_right (q x) (list_any q xs) (any-weaker p q f xs e)
+    ]
+
+-- from what tables say to what a directory holds, where there are specs
+held-by_parts : (agrees total by_path whole has_include live unburied reached : Bool) → (by_path ≡ true → whole ≡ true) → (total ≡ false → unburied ≡ live) → (not agrees || total || by_path || has_include && not live) ≡ true
+    → (not (agrees && not total && reached) || whole || has_include && not unburied) ≡ true
+held-by_parts false total by_path whole i l u r w same h = refl
+held-by_parts true true by_path whole i l u r w same h = refl
+held-by_parts true false true whole i l u r w same h = or_left (not r || whole) (i && not u) (or_right (not r) whole (w refl))
+held-by_parts true false false whole i l u r w same h = or_right (not r || whole) (i && not u) (rw (same refl) h)
+
+-- A directory that tables call empty holds nothing.
+pub tables-hold_nothing : (specs : List Spec) (d : List ℕ) → holds_nothing_by_tables specs d ≡ true → holds_nothing specs d ≡ true
+unfolding holds_nothing can_match common_prefix
+tables-hold_nothing specs d h =
+    let p = and_parts (not (is_empty d)) (skips_by_tables specs d) h in
+    held specs p.0 p.1
+  where
+    held : (ss : List Spec) → not (is_empty d) ≡ true → skips_by_tables ss d ≡ true → holds_nothing ss d ≡ true
+    held [] some t = cc
+    held (s ∷ ss) some t =
+        let all = s ∷ ss in
+        let parts = held-by_parts (agree d (common_prefix all)) (list_any is_total_exclude all) (list_any (λ p. path_takes p d true) (taken_paths all)) (list_any (λ e. is_exclude e && takes_whole e d) all) (list_any is_include all) (reaches_live all d (Some true)) (list_any (λ i. is_live all i && reaches i d (Some true)) all) _ (tabled-all d all) (live-all d (Some true) all) t in
+        rw (not-true (is_empty d) some) parts
+
+-- So a walk may skip it.
+pub tables-skip : (specs : List Spec) (d : List ℕ) → holds_nothing_by_tables specs d ≡ true → may_skip specs d ≡ true
+unfolding may_skip
+tables-skip specs d h = or_left (holds_nothing specs d) (not (is_empty d) && list_any (λ e. is_exclude e && takes_rest e d) specs) (tables-hold_nothing specs d h)

@@ -1,7 +1,7 @@
 -- What the match of a directory tells of skipping it.
-use Rattle.std.proofs.Common.{◌≡◌, ℕ, Bool, true, false, not, ◌&&◌, ◌||◌, inl, inr, refl, sym, ◌∙◌, ap, List, [], ◌∷◌, length, Option, Some, None, cond}
+use Rattle.std.proofs.Common.{◌≡◌, ◌%◌, ◌^◌, arith, ℕ, Bool, true, false, not, ◌&&◌, ◌||◌, inl, inr, refl, sym, ◌∙◌, ap, List, [], ◌∷◌, length, Option, Some, None, cond}
 use Rattle.std.proofs.lemmas.Bool.{and_from, or_left, or_right, cases_Bool, both_ways}
-use Rattle.std.specs.Prelude.{find}
+use Rattle.std.specs.Prelude.{MatchBool, find}
 use Rattle.std.specs.List.{list_any}
 use Rattle.gix_pathspec.specs.declared.search.MatchKind.{MatchKind}
 use Rattle.gix_pathspec.specs.declared.search.MatchKind.TheVariants.{Always, Prefix, WildcardMatch, Verbatim}
@@ -9,12 +9,19 @@ use Rattle.gix_pathspec.specs.Bytes.{is_empty, begins_with}
 use Rattle.gix_pathspec.specs.Attributes.{Table}
 use Rattle.gix_pathspec.specs.Specs.{Spec, is_exclude, is_include, always_matches}
 use Rattle.gix_pathspec.specs.Reading.{nil_spec}
-use Rattle.gix_pathspec.specs.Matching.{is_in_prefix_directory, is_glob_match, is_verbatim_match, is_prefix_match, fit, spec_matches}
+use Rattle.gix_pathspec.specs.Matching.{is_chosen, is_in_prefix_directory, is_glob_match, is_verbatim_match, is_prefix_match, fit, spec_matches}
 use Rattle.gix_pathspec.specs.Prefixes.{common_prefix}
 use Rattle.gix_pathspec.specs.Pruning.{reaches, can_match}
-use Rattle.gix_pathspec.specs.Search.{Numbered, Answer, specs_of, answer, answer_of, answer_with}
+use Rattle.gix_pathspec.specs.Search.{BeginsCounts, MatchCounts, Numbered, Answer, specs_of, answer, answer_of, answer_with}
 use Rattle.gix_pathspec.specs.Skipping.{fits_plainly, takes_whole, takes_rest, is_without_glob, found_takes_whole, answer_takes_whole, is_live, holds_nothing, may_skip}
 use Rattle.gix_pathspec.specs.SkipLaws.{FoundIsSkipped}
+use Rattle.gix_pathspec.specs.SkipTables.{holds_nothing_by_tables}
+use Rattle.gix_pathspec.specs.Takers.{IsSkipCounted, IsVisitCounted, takers_of}
+use Rattle.gix_pathspec.specs.SelectionLaws.{NoNilPrefix}
+use Rattle.pathspec_glob.specs.Counts.{Counts}
+use Rattle.gix_pathspec.proofs.ChosenProofs.{chosen_is_test}
+use Rattle.gix_pathspec.proofs.SkipProofs.{nothing_is_chosen}
+use Rattle.gix_pathspec.proofs.SkipTableProofs.{tables-hold_nothing, tables-skip}
 use Rattle.gix_pathspec.proofs.NotChosenProofs.{all_three}
 use Rattle.gix_pathspec.proofs.SelectedProofs.{list_any-map}
 
@@ -103,3 +110,45 @@ found_is_skipped table search d a h t = elim (cases_Bool (is_empty d)) [
 pub visit-skipped : (table : Table) (search : List Numbered) (d : List ℕ) (is_dir : Bool) (o : Option Answer) → o ≡ answer table search d is_dir → is_dir ≡ true → answer_takes_whole o ≡ true → may_skip (specs_of search) d ≡ true
 visit-skipped table search d is_dir None e k t = cc
 visit-skipped table search d is_dir (Some a) e k t = found_is_skipped table search d a (ap (answer table search d) (sym k) ∙ sym e) t
+
+-- ---- passed over
+
+-- a directory that holds nothing is not chosen itself
+held-not-chosen : (table : Table) (specs : List Spec) (d : List ℕ) → NoNilPrefix specs → holds_nothing specs d ≡ true → is_chosen table specs d true ≡ false
+held-not-chosen table specs d no_nil h = elim (cases_Bool (is_chosen table specs d true)) [
+  | inl e ↦ absurd (nothing_is_chosen table specs no_nil d h d true (inl (refl, refl)) ((chosen_is_test table specs d true).0 e))
+  | inr e ↦ e
+]
+
+-- What is told of a directory where tables tell that it holds nothing: it isn't selected, and isn't entered.
+pub passed-not-chosen : (table : Table) (specs : List Spec) (d : List ℕ) (is_dir : Bool) → NoNilPrefix specs → is_dir ≡ true → holds_nothing_by_tables specs d ≡ true → false ≡ is_chosen table specs d is_dir
+passed-not-chosen table specs d is_dir no_nil k h = sym (ap (is_chosen table specs d) k ∙ held-not-chosen table specs d no_nil (tables-hold_nothing specs d h))
+
+pub passed-not-entered : (specs : List Spec) (d : List ℕ) (is_dir : Bool) → holds_nothing_by_tables specs d ≡ true → false ≡ (is_dir && not (may_skip specs d))
+passed-not-entered specs d true h = rw (tables-skip specs d h) refl
+passed-not-entered specs d false h = refl
+
+-- nothing was asked, and that is counted
+pub passed-counted : (specs : List Numbered) (path : List ℕ) (asks : Bool) (old new : MatchCounts) → BeginsCounts old new → IsVisitCounted specs path asks old new
+passed-counted specs path asks old new begun = record {
+  between = new;
+  matched = record {
+    tested = counts (begun.tested) begun.last_tested;
+    compared = counts (begun.compared) begun.last_compared;
+    few_tested = rw begun.last_tested (omega arith);
+    few_compared = λ b small. rw begun.last_compared (omega arith);
+  };
+  skipped = asked asks;
+}
+  where
+    counts : {before after n : ℕ} → after ≡ before → n ≡ 0 → Counts before n after
+    counts {before} {after} {n} same none = rw (same, none) (ap (λ k. k % 2 ^ 128) (omega arith))
+
+    asked : (a : Bool) → MatchBool a (IsSkipCounted (takers_of (specs_of specs)) path new new) (new ≡ new)
+    asked true = record {
+      tested = counts refl begun.last_tested;
+      compared = counts refl begun.last_compared;
+      few_tested = rw begun.last_tested (omega arith);
+      few_compared = λ b small. rw begun.last_compared (omega arith);
+    }
+    asked false = refl

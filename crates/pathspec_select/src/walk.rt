@@ -39,9 +39,10 @@ pub enum SelectError<F> {
 /// chosen, unless an include without case stands beside an exclude with case. All this holds for all specs that parse and
 /// normalise, every tree and every steady look-up.
 ///
-/// The walk visits each entry that it comes to once ([`Search::visit`]): a directory costs one match where that match is by an
-/// exclude that takes it whole, as `:!node_modules` does. What lies in a directory that isn't entered costs nothing. It takes
-/// memory for a scratch of the search and for the places that it gives. It only reads the search, so walks can share one.
+/// The walk visits each entry that it comes to once ([`Search::visit`]): a directory costs no match where tables tell that
+/// nothing at or below it is chosen, as of `node_modules` under `:!node_modules`. What lies in a directory that isn't entered
+/// costs nothing. It takes memory for a scratch of the search and for the places that it gives. It only reads the search, so
+/// walks can share one.
 ///
 /// # Errors
 /// [`SelectError::LookUp`], only where the look-up failed in this call, and [`SelectError::Memory`]. The cursor then stands at

@@ -544,15 +544,15 @@ impl Row for Visits {
 #[rattlefmt::skip]
 fn a_walk_visits_each_entry_once(rt: HostRuntime) -> Result<(), Fail> {
     const ROWS: &[Visits] = &[
-        // One match tells that an exclude takes the directory whole.
-        Visits(":!node_modules", "node_modules", true, (false, false), 1),
-        Visits(":!node_modules", "node_modules/a", true, (false, false), 1),
+        // A table tells that an exclude takes the directory whole, and one match takes the file.
+        Visits(":!node_modules", "node_modules", true, (false, false), 0),
+        Visits(":!node_modules", "node_modules/a", true, (false, false), 0),
         Visits(":!node_modules", "node_modules", false, (false, false), 1),
         Visits(":!node_modules", "src", true, (true, true), 0),
         Visits(":!node_modules", "src", false, (true, false), 0),
         // An include in a glob that nothing prunes.
         Visits("*.md :!crates", "docs", true, (false, true), 1),
-        Visits("*.md :!crates", "crates", true, (false, false), 1),
+        Visits("*.md :!crates", "crates", true, (false, false), 0),
         // The match of a glob tells nothing of what lies below, so the exclude is asked a second time where it may take it.
         Visits(":(exclude,glob)*.d", "x.d", true, (false, true), 1),
         Visits(":(exclude,glob)**/target/**", "target", true, (true, false), 2),

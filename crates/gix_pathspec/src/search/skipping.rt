@@ -1,11 +1,12 @@
 //! Which directories a walk may skip, since an exclude takes them.
-ghost use Rattle.std.specs.Prelude.{◌≡◌, ◌&&◌, not};
+ghost use Rattle.std.specs.Prelude.{◌≡◌, ◌&&◌, false, not};
 ghost use Rattle.bstr.specs.BStr.{bstr_bytes};
 ghost use Rattle.gix_pathspec.specs.Attributes.{Table};
 ghost use Rattle.gix_pathspec.specs.Room.{Fits};
 ghost use Rattle.gix_pathspec.specs.Skipping.{may_skip};
 ghost use Rattle.gix_pathspec.specs.SkipLaws.{SkippedIsNotChosen, NothingIsChosen, SkippedStays, SkipsMore, SkipIsExact};
-ghost use Rattle.gix_pathspec.specs.SkipTables.{skips_by_tables};
+ghost use Rattle.gix_pathspec.specs.Search.{BeginsCounts};
+ghost use Rattle.gix_pathspec.specs.SkipTables.{holds_nothing_by_tables, skips_by_tables};
 ghost use Rattle.gix_pathspec.specs.Takers.{IsSkipCounted, takers_of};
 
 use crate::search::{Scratch, Search};
@@ -55,9 +56,7 @@ impl Search {
         self.is_skippable(directory, scratch)
     }
 
-    // Out of line, so that a walk's loop over files has the registers to itself.
     /// Whether a walk may skip a directory.
-    #[inline(never)]
     fn is_skippable(&self, directory: BStr<'_>, scratch: &mut Scratch) -> bool
         requires { Fits self.now.specs scratch.old }
         ensures answer { result ≡ may_skip (specs_of self.now.specs) (bstr_bytes directory.entry) }
@@ -65,13 +64,40 @@ impl Search {
         ensures counted { IsSkipCounted (takers_of (specs_of self.now.specs))
             (bstr_bytes directory.entry) scratch.old.counts scratch.new.counts }
     {
+        self.holds_nothing_by_tables(directory, scratch)
+            || self.is_skipped_by_takers(directory, scratch)
+    }
+
+    // Out of line, so that a walk's loop over files has the registers to itself.
+    /// Whether nothing at or below a directory is selected, as far as tables tell. It begins the counts of the last call anew,
+    /// and counts nothing.
+    #[inline(never)]
+    pub(super) fn holds_nothing_by_tables(&self, directory: BStr<'_>, scratch: &mut Scratch) -> bool
+        ensures answer { result ≡ holds_nothing_by_tables (specs_of self.now.specs)
+            (bstr_bytes directory.entry) }
+        ensures room { scratch.new.room ≡ scratch.old.room }
+        ensures begun { BeginsCounts scratch.old.counts scratch.new.counts }
+    {
         scratch.begin();
         let path = directory.as_bytes();
-        if path.is_empty() {
+        !path.is_empty() && self.skips_by_tables(path, scratch)
+    }
+
+    /// Whether a walk may skip a directory of which tables don't say so: an exclude that is asked by itself takes it whole, or
+    /// the rest of it.
+    #[inline(never)]
+    pub(super) fn is_skipped_by_takers(&self, directory: BStr<'_>, scratch: &mut Scratch) -> bool
+        requires fits { Fits self.now.specs scratch.old }
+        requires tables { holds_nothing_by_tables (specs_of self.now.specs)
+            (bstr_bytes directory) ≡ false }
+        ensures answer { result ≡ may_skip (specs_of self.now.specs) (bstr_bytes directory.entry) }
+        ensures room { scratch.new.room ≡ scratch.old.room }
+        ensures counted { IsSkipCounted (takers_of (specs_of self.now.specs))
+            (bstr_bytes directory.entry) scratch.old.counts scratch.new.counts }
+    {
+        scratch.begin();
+        if directory.as_bytes().is_empty() {
             return false;
-        }
-        if self.skips_by_tables(path, scratch) {
-            return true;
         }
         self.takers.has_taker(directory, scratch)
     }

@@ -1,5 +1,5 @@
 //! What a walk does with the entries of a tree.
-ghost use Rattle.std.specs.Prelude.{◌≡◌, ◌≢◌, ◌&&◌, [], true, not, MatchBool, IfOk, OnOk, OnErr};
+ghost use Rattle.std.specs.Prelude.{◌≡◌, ◌≢◌, ◌&&◌, [], true, false, not, MatchBool, IfOk, IsTrue, OnOk, OnErr};
 ghost use Rattle.std.specs.Option.{option_map};
 ghost use Rattle.bstr.specs.BStr.{bstr_bytes};
 ghost use Rattle.pathspec_parts.specs.Attributes.{next_count};
@@ -8,9 +8,10 @@ ghost use Rattle.gix_pathspec.specs.Effort.{IsCounted};
 ghost use Rattle.gix_pathspec.specs.Found.{match_view};
 ghost use Rattle.gix_pathspec.specs.Matching.{is_chosen};
 ghost use Rattle.gix_pathspec.specs.Room.{Fits};
-ghost use Rattle.gix_pathspec.specs.Search.{specs_of, answer};
+ghost use Rattle.gix_pathspec.specs.Search.{BeginsCounts, specs_of, answer};
 ghost use Rattle.gix_pathspec.specs.Skipping.{answer_takes_whole, may_skip};
 ghost use Rattle.gix_pathspec.specs.SkipLaws.{SkippedIsNotChosen};
+ghost use Rattle.gix_pathspec.specs.SkipTables.{holds_nothing_by_tables};
 ghost use Rattle.gix_pathspec.specs.Takers.{IsSkipCounted, IsVisitCounted, takers_of};
 
 use crate::search::found::selects;
@@ -32,8 +33,10 @@ impl Search {
     /// whether it is a directory that the walk enters, since it may not skip it ([`Search::may_skip`]) (own; gix-pathspec has no
     /// such call).
     ///
-    /// One call costs less than the two. Of a file it asks for the match alone, and so of a directory whose match takes it whole
-    /// ([`Match::takes_whole`]), as `:!node_modules` does. Of any other directory it asks both, at the cost of both, and
+    /// One call costs less than the two. Of a directory it asks the tables of [`Search::may_skip`] first: where they tell that
+    /// nothing at or below it is selected, as of `b` under `a/x`, or of `node_modules` under `:!node_modules`, it asks for no
+    /// match, and no look-up. Of a file it asks for the match alone, and so of a directory whose match takes it whole
+    /// ([`Match::takes_whole`]), as `:(exclude,icase)x` does under a prefix. Of any other directory it asks both, and
     /// [`Scratch::last_tested`] tells of the second.
     ///
     /// # Errors
@@ -54,6 +57,9 @@ impl Search {
         // Nothing below a directory that isn't entered is chosen, whatever a look-up says.
         ensures safe { (table : Table) → SkippedIsNotChosen table (specs_of self.now.specs) }
         ensures room { scratch.new.room ≡ scratch.old.room }
+        // Of a directory that holds nothing, as far as tables tell, nothing is asked.
+        ensures passed_over { IsTrue (is_dir && holds_nothing_by_tables (specs_of self.now.specs)
+            (bstr_bytes path.entry)) → BeginsCounts scratch.old.counts scratch.new.counts }
         // Of a file, and of a directory whose match takes it whole, nothing more is asked.
         ensures counted { let found = answer (L.table look_up.old) self.now.specs
             (bstr_bytes path.entry) is_dir in
@@ -68,6 +74,12 @@ impl Search {
     {
         // The proof reads here that no nil spec has a prefix directory.
         let _ = &self.specs;
+        if is_dir && self.holds_nothing_by_tables(path, scratch) {
+            return Ok(Visit {
+                is_selected: false,
+                is_entered: false,
+            });
+        }
         let found = self.settle(path, Some(is_dir), scratch, look_up)?;
         let is_selected = selects(&found);
         let is_skipped = takes_whole(&found);
@@ -78,11 +90,13 @@ impl Search {
         })
     }
 
-    /// Whether a walk enters an entry: a directory that it may not skip, where it isn't known already that it may.
+    /// Whether a walk enters an entry: a directory that it may not skip, where neither tables nor the match say that it may.
     fn enters(&self, path: BStr<'_>, is_dir: bool, is_skipped: bool, scratch: &mut Scratch) -> bool
         requires fits { Fits self.now.specs scratch.old }
         requires skipped { is_dir ≡ true → is_skipped ≡ true
             → may_skip (specs_of self.now.specs) (bstr_bytes path) ≡ true }
+        requires tables { is_dir ≡ true → holds_nothing_by_tables (specs_of self.now.specs)
+            (bstr_bytes path) ≡ false }
         ensures entered { result
             ≡ (is_dir && not (may_skip (specs_of self.now.specs) (bstr_bytes path.entry))) }
         ensures room { scratch.new.room ≡ scratch.old.room }
@@ -91,7 +105,7 @@ impl Search {
             (bstr_bytes path.entry) scratch.old.counts scratch.new.counts)
             (scratch.new.counts ≡ scratch.old.counts) }
     {
-        is_dir && !is_skipped && !self.may_skip(path, scratch)
+        is_dir && !is_skipped && !self.is_skipped_by_takers(path, scratch)
     }
 }
 

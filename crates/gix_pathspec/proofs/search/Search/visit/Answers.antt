@@ -1,15 +1,41 @@
--- A directory whose match takes it whole may be skipped, and the law of skipping holds of the specs of each search.
-use Rattle.std.proofs.Common.{◌∙◌, sym}
+-- A directory that holds nothing is passed over, one whose match takes it whole may be skipped, and the law of skipping holds of the specs of each search.
+use Rattle.std.proofs.Common.{◌≡◌, ◌∙◌, ℕ, Bool, List, true, subst, sym}
 use Rattle.std.specs.Option.{option_map}
 use Rattle.bstr.specs.BStr.{bstr_bytes}
 use Rattle.gix_pathspec.specs.Found.{match_view}
+use Rattle.gix_pathspec.specs.Search.{SearchContents, specs_of}
+use Rattle.gix_pathspec.specs.SelectionLaws.{NoNilPrefix}
+use Rattle.gix_pathspec.specs.SkipTables.{holds_nothing_by_tables}
+use Rattle.gix_pathspec.specs.Specs.{Spec}
 use Rattle.gix_pathspec.proofs.SkipProofs.{skipped_is_not_chosen}
-use Rattle.gix_pathspec.proofs.VisitProofs.{visit-skipped}
+use Rattle.gix_pathspec.proofs.VisitProofs.{passed-counted, passed-not-chosen, passed-not-entered, visit-skipped}
 use Rattle.gix_pathspec.proofs.search.Search.visit.Goals as goal
 
 pub enters-is_entered-requires-clause-skipped : goal.enters-is_entered-requires-clause-skipped
 enters-is_entered-requires-clause-skipped g c =
     λ k t. visit-skipped (g.L.LookUp.table c.args.look_up.now) c.args.self.now.specs (bstr_bytes c.args.path) c.args.is_dir (option_map match_view c.in_ok-found.found) c.in_ok-found.ensures.answer k (sym c.takes_whole-is_skipped.ensures ∙ t)
+
+-- tables tell that the directory holds nothing
+told : (specs : List Spec) (d : List ℕ) {told : Bool} → told ≡ holds_nothing_by_tables specs d → told ≡ true → holds_nothing_by_tables specs d ≡ true
+told specs d answer is = sym answer ∙ is
+
+pub returns-then-holds_nothing_by_tables-clause-selected :
+    goal.returns-then-holds_nothing_by_tables-clause-selected
+returns-then-holds_nothing_by_tables-clause-selected g c some =
+    let no_nil = subst (λ (s : SearchContents). NoNilPrefix (specs_of s.specs)) c.self.view_is c.self.invariant.has_no_nil_prefix in
+    passed-not-chosen (g.L.LookUp.table c.args.look_up.now) (specs_of c.args.self.now.specs) (bstr_bytes c.args.path) c.args.is_dir no_nil c.if-is_dir.true (told _ (bstr_bytes c.args.path) c.holds_nothing_by_tables.ensures.answer c.if-holds_nothing_by_tables.true)
+
+pub returns-then-holds_nothing_by_tables-clause-entered :
+    goal.returns-then-holds_nothing_by_tables-clause-entered
+returns-then-holds_nothing_by_tables-clause-entered g c = passed-not-entered (specs_of c.args.self.now.specs) (bstr_bytes c.args.path) c.args.is_dir (told _ (bstr_bytes c.args.path) c.holds_nothing_by_tables.ensures.answer c.if-holds_nothing_by_tables.true)
+
+pub returns-then-holds_nothing_by_tables-clause-safe :
+    goal.returns-then-holds_nothing_by_tables-clause-safe
+returns-then-holds_nothing_by_tables-clause-safe g c table = rw (← c.self.view_is) (skipped_is_not_chosen table _ c.self.invariant.has_no_nil_prefix)
+
+pub returns-then-holds_nothing_by_tables-clause-counted :
+    goal.returns-then-holds_nothing_by_tables-clause-counted
+returns-then-holds_nothing_by_tables-clause-counted g c = passed-counted c.args.self.now.specs (bstr_bytes c.args.path) _ c.args.scratch.now.counts c.holds_nothing_by_tables.new.scratch.counts c.holds_nothing_by_tables.ensures.begun
 
 pub returns-in_err-found-clause-safe : goal.returns-in_err-found-clause-safe
 returns-in_err-found-clause-safe g c table = rw (← c.self.view_is) (skipped_is_not_chosen table _ c.self.invariant.has_no_nil_prefix)

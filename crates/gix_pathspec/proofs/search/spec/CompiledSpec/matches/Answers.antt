@@ -1,5 +1,5 @@
 -- The spec fits or not, and then has its attributes or not.
-use Rattle.std.proofs.Common.{◌≡◌, ◌∙◌, sym, ap, Bool, List, ℕ, Some, None, Option, true, false, map, arith}
+use Rattle.std.proofs.Common.{◌≡◌, ◌∙◌, sym, ap, Bool, List, ℕ, Some, None, Option, true, map, arith}
 use Rattle.std.proofs.lemmas.List.{length-map}
 use Rattle.bstr.specs.BStr.{bstr_bytes}
 use Rattle.gix_pathspec.specs.declared.search.MatchKind.{MatchKind}
