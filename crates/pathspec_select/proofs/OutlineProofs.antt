@@ -335,6 +335,14 @@ run-more o entries count start end next number l n rises r w =
     ∙ (ap (λ t. t ++ part o.bytes end (next - end)) w ∙ (ap (λ t. written_entries o.separator o.marks (take count entries) ++ t) (r.written ∙ ap (λ m. written_of o.separator (mark_at o.marks m)) n)
     ∙ written-more o.separator o.marks entries count (mark_at o.marks (get_or entries count 0)) l refl))
 
+-- the first record of a run
+pub run-begun : (o : OutlineContents) (entries : List ℕ) (count start begin next number : ℕ) → count < length entries → number ≡ get_or entries count 0 → IsRecordTo o number begin next → count ≡ 0 → start ≡ begin
+    → part o.bytes start (next - start) ≡ written_entries o.separator o.marks (take (count + 1) entries)
+run-begun o entries count start begin next number l n r none is =
+    let same : begin - begin ≡ 0 = omega arith in
+    let nothing : part o.bytes begin (begin - begin) ≡ written_entries o.separator o.marks (take count entries) = rw (same, none) refl in
+    subst (λ s. part o.bytes s (next - s) ≡ written_entries o.separator o.marks (take (count + 1) entries)) (sym is) (run-more o entries count begin begin next number l n (omega arith) r nothing)
+
 -- ---- none
 
 pub outline_of_none : (bytes : List ℕ) (separator : ℕ) → IsBytes bytes → IsOutline bytes separator [] [] 0 × (outline_of_spans bytes separator [] ≡ empty_outline bytes separator)

@@ -103,43 +103,32 @@ impl<'a> Outline<'a> {
         if separator != self.separator {
             return (&[], 0);
         }
-        let start = self.start_of(entries);
-        let mut end = start;
+        let mut start = 0;
+        let mut end = 0;
         let mut count = 0;
         while count < entries.len() {
-            let Some(next) = self.end_of_record(entries[count], end) else {
+            let Some((begin, next)) = self.record_bounds(entries[count]) else {
                 break;
             };
+            if count == 0 {
+                start = begin;
+            } else if begin != end {
+                break;
+            }
             end = next;
             count += 1;
         }
         (piece(self.bytes, start, end - start), count)
     }
 
-    /// Where the record of the first of some entries begins, if there is one.
-    fn start_of(&self, entries: &[usize]) -> usize
-        ensures { result ≤ length self.now.bytes }
-    {
-        match entries.first() {
-            Some(number) => match self.spans.get(*number) {
-                Some(span) => span.start,
-                None => 0,
-            },
-            None => 0,
-        }
-    }
-
-    /// Where the record of an entry ends with its separator, if it begins at this place and has one.
-    fn end_of_record(&self, number: usize, start: usize) -> Option<usize>
-        ensures { IfSome result (IsRecordTo self.now number start) }
+    /// Where the record of an entry begins, and where it ends with its separator, if it has one.
+    fn record_bounds(&self, number: usize) -> Option<(usize, usize)>
+        ensures { IfSome result (λ bounds. IsRecordTo self.now number bounds.0 bounds.1) }
     {
         let span = self.spans.get(number)?;
-        if span.start != start {
-            return None;
-        }
-        let end = start + record_of(self.bytes, self.separator, span)?.len();
+        let end = span.start + record_of(self.bytes, self.separator, span)?.len();
         if end < self.bytes.len() {
-            Some(end + 1)
+            Some((span.start, end + 1))
         } else {
             None
         }
