@@ -11,7 +11,7 @@ use Rattle.pathspec_glob.specs.Tokens.Front.{Listed, Closed, Broken}
 use Rattle.pathspec_glob.specs.GlobForms.{item_view, items_view}
 
 -- the first place that passes, after elements that stand before it
-first-drop : {X : Type 0} (p : X → Bool) (xs : List X) (size : ℕ) → size ≤ position_or_len p xs → position_or_len p (drop size xs) ≡ position_or_len p xs - size
+pub first-drop : {X : Type 0} (p : X → Bool) (xs : List X) (size : ℕ) → size ≤ position_or_len p xs → position_or_len p (drop size xs) ≡ position_or_len p xs - size
 first-drop p xs zero h = omega arith
 first-drop p [] (suc s) h = absurd (omega arith)
 first-drop p (x ∷ xs) (suc s) h = elim (cases_Bool (p x)) [

@@ -4,6 +4,7 @@ pub mod TokenProofs
 pub mod RunProofs
 pub mod GlobProofs
 pub mod TailProofs
+pub mod LaneProofs
 pub mod StemProofs
 pub mod HeadProofs
 pub mod PartProofs

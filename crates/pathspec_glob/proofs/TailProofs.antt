@@ -54,7 +54,7 @@ some_suffix-pointwise E skip test rest (b ∷ bs) t =
 -- ---- tokens of bytes without a wildcard
 
 -- a byte that is no wildcard is a token of its own
-plain_piece : (mode : Mode) (after_slash : Bool) (b : ℕ) (rest : List ℕ) → is_wildcard b ≡ false → piece_of mode after_slash b rest ≡ record { token = One (Byte b); size = 1 }
+pub plain_piece : (mode : Mode) (after_slash : Bool) (b : ℕ) (rest : List ℕ) → is_wildcard b ≡ false → piece_of mode after_slash b rest ≡ record { token = One (Byte b); size = 1 }
 plain_piece mode after_slash b rest h =
     let p = or_parts (b == star) ((b == question_mark) || ((b == open_bracket) || ((b == backslash) || false))) h in
     let q = or_parts (b == question_mark) ((b == open_bracket) || ((b == backslash) || false)) p.1 in

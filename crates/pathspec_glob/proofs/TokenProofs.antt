@@ -4,6 +4,7 @@ use Rattle.std.specs.List.{prefix_len}
 use Rattle.std.proofs.lemmas.Bool.{cases_Bool}
 use Rattle.std.proofs.lemmas.List.{length-map}
 use Rattle.std.proofs.lemmas.List.Sums.{prefix_len-le-length}
+use Rattle.std.proofs.Math.ListN.{drop_of_length-le}
 use Rattle.std.proofs.Math.Numerals.{one-add, add-one}
 use Rattle.pathspec_glob.specs.declared.Mode.{Mode}
 use Rattle.pathspec_glob.specs.declared.Mode.TheVariants.{Shell, PathAware}
@@ -13,7 +14,7 @@ use Rattle.pathspec_glob.specs.Tokens.Front.{Listed, Closed, Broken}
 use Rattle.pathspec_glob.specs.Tokens.OneByte.{Byte, Quoted, Any, Bracket, Dead}
 use Rattle.pathspec_glob.specs.Tokens.Token.{One, Star, Deep}
 use Rattle.pathspec_glob.specs.GlobRelation.{items_hold}
-use Rattle.pathspec_glob.specs.ByteSets.{literals, listed, listed_piece, listed_tokens}
+use Rattle.pathspec_glob.specs.ByteSets.{literals, listed, listed_piece, listed_tokens, ReadsOn}
 use Rattle.pathspec_glob.proofs.ByteSetProofs.{literals-same}
 
 -- a bracket's items end before the bytes do
@@ -113,6 +114,11 @@ pub run-listed : (mode : Mode) (after_slash : Bool) (run : ℕ) (text : List ℕ
 run-listed Shell after_slash run text = refl
 run-listed PathAware after_slash run text = elim (cases_Bool (is_deep after_slash run (drop run text))) [ inl e ↦ rw e refl | inr e ↦ rw e refl ]
 
+-- and goes on
+pub run-stands : (mode : Mode) (after_slash : Bool) (run : ℕ) (text : List ℕ) (others : List Token) → let token = (listed_piece (run_piece mode after_slash run text)).token in token_before token others ≡ token ∷ others
+run-stands Shell after_slash run text others = refl
+run-stands PathAware after_slash run text others = elim (cases_Bool (is_deep after_slash run (drop run text))) [ inl e ↦ rw e refl | inr e ↦ rw e refl ]
+
 -- what follows bytes that belong to a token
 skipped : (mode : Mode) (k b : ℕ) (bs : List ℕ) → tokens_from mode k (b == slash) bs ≡ tokens_from mode 0 (get_or (b ∷ bs) k 0 == slash) (drop k bs)
 unfolding tokens_from
@@ -168,6 +174,36 @@ pub tokens-more : (mode : Mode) (after_slash : Bool) (all whole : List Token) (t
     → (all ++ token ∷ []) ++ map listed (tokens_from mode 0 (get_or text (size - 1) 0 == slash) (drop size text)) ≡ whole
 tokens-more mode after_slash all whole text size token so_far some is more =
     append_assoc all (token ∷ []) _ ∙ ap (λ ts. all ++ ts) (sym (listed-read mode after_slash text size token some is ∙ more _)) ∙ so_far
+
+-- so a text is read on by one of them
+pub reads-on : (mode : Mode) (after_slash : Bool) (b : ℕ) (rest : List ℕ) (old : List Token) (size : ℕ) (token : Token) → record { token = token; size = size } ≡ listed_piece (piece_of mode after_slash b rest)
+    → ((others : List Token) → token_before token others ≡ token ∷ others) → ReadsOn mode after_slash (b ∷ rest) old (old ++ token ∷ []) size
+reads-on mode after_slash b rest old size token is more =
+    let own = piece-within mode after_slash b rest in
+    let listed : Within (listed_piece (piece_of mode after_slash b rest)) (length rest) = record { some = own.some; all = own.all } in
+    let within = subst (λ piece. Within piece (length rest)) (sym is) listed in
+    record {
+      some = within.some;
+      within = omega (arith, within.all);
+      goes_on = tokens-more mode after_slash old _ (b ∷ rest) size token refl (omega arith) is more;
+    }
+
+-- no text has no tokens
+none-left : (mode : Mode) (after_slash : Bool) (text : List ℕ) → text ≡ [] → map listed (tokens_from mode 0 after_slash text) ≡ []
+unfolding tokens_from
+none-left mode after_slash [] none = refl
+none-left mode after_slash (b ∷ bs) none = cc
+
+-- and to its end by a dead one
+pub reads-all : (mode : Mode) (after_slash : Bool) (b : ℕ) (rest : List ℕ) (old : List Token) (size : ℕ) (token : Token) → record { token = token; size = size } ≡ listed_piece (piece_of mode after_slash b rest)
+    → ((others : List Token) → token_before token others ≡ token ∷ []) → ReadsOn mode after_slash (b ∷ rest) old (old ++ token ∷ []) (length rest + 1)
+reads-all mode after_slash b rest old size token is last =
+    let ended : drop (length rest + 1) (b ∷ rest) ≡ [] = drop_of_length-le (b ∷ rest) {i = length rest + 1} (omega arith) in
+    record {
+      some = omega arith;
+      within = omega arith;
+      goes_on = ap (λ ts. (old ++ token ∷ []) ++ ts) (none-left mode _ _ ended) ∙ append-nil (old ++ token ∷ []) ∙ tokens-last mode after_slash old _ (b ∷ rest) size token refl (omega arith) is last;
+    }
 
 -- after the last byte there are none
 pub tokens-all : (mode : Mode) (after_slash : Bool) (all whole : List Token) (text : List ℕ) → all ++ map listed (tokens_from mode 0 after_slash text) ≡ whole → length text < 1 → all ≡ whole

@@ -1,7 +1,8 @@
 -- Brackets as sets of bytes: tokens whose brackets list each byte that they hold.
-use Rattle.std.specs.Prelude.{ℕ, zero, suc, Bool, List, [], ◌∷◌, map, if◌then◌else◌}
+use Rattle.std.specs.Prelude.{◌≡◌, ◌==◌, ◌≤◌, ◌-◌, ℕ, zero, suc, Bool, List, [], ◌∷◌, ◌++◌, drop, get_or, length, map, if◌then◌else◌}
+use Rattle.pathspec_glob.specs.Bytes.{slash}
 use Rattle.pathspec_glob.specs.declared.Mode.{Mode}
-use Rattle.pathspec_glob.specs.Tokens.{Item, OneByte, Token, Piece, tokens}
+use Rattle.pathspec_glob.specs.Tokens.{Item, OneByte, Token, Piece, tokens, tokens_from}
 use Rattle.pathspec_glob.specs.Tokens.Item.{Literal}
 use Rattle.pathspec_glob.specs.Tokens.OneByte.{Byte, Quoted, Any, Bracket, Dead}
 use Rattle.pathspec_glob.specs.Tokens.Token.{One, Star, Deep}
@@ -41,3 +42,9 @@ listed_tokens mode pattern = map listed (tokens mode pattern)
 -- the same with the mode of the pattern
 abbrev pub listed_token_list : Mode → List ℕ → TokenList
 listed_token_list mode pattern = record { mode = mode; tokens = listed_tokens mode pattern }
+
+-- Of a text so many bytes were read: the tokens that were read by now, and those of what is left, are those from before and those of the text.
+pub record ReadsOn (mode : Mode) (after_slash : Bool) (text : List ℕ) (old new : List Token) (size : ℕ) : Type 0 where
+  pub some : 1 ≤ size
+  pub within : size ≤ length text
+  pub goes_on : new ++ map listed (tokens_from mode 0 (get_or text (size - 1) 0 == slash) (drop size text)) ≡ old ++ map listed (tokens_from mode 0 after_slash text)

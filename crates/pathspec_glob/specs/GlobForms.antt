@@ -1,5 +1,5 @@
 -- What a clause reads of a compiled glob: the items and tokens of `Tokens`.
-use Rattle.std.specs.Prelude.{ℕ, List, map, codes}
+use Rattle.std.specs.Prelude.{ℕ, List, [], ◌∷◌, map, codes}
 use Rattle.pathspec_glob.specs.declared.brackets.Class.{Class as Named}
 use Rattle.pathspec_glob.specs.declared.brackets.Class.TheVariants as named
 use Rattle.pathspec_glob.specs.declared.brackets.Item.{Item as Kept}
@@ -8,6 +8,8 @@ use Rattle.pathspec_glob.specs.declared.brackets.Front.{Front as Seen}
 use Rattle.pathspec_glob.specs.declared.brackets.Front.TheVariants as seen
 use Rattle.pathspec_glob.specs.declared.brackets.Read.{Read}
 use Rattle.pathspec_glob.specs.declared.reading.Piece.{Piece as Taken}
+use Rattle.pathspec_glob.specs.declared.tokens.FirstForm.{FirstForm}
+use Rattle.pathspec_glob.specs.declared.tokens.FirstForm.TheVariants as form
 use Rattle.pathspec_glob.specs.declared.tokens.OneByte.{OneByte as Tested}
 use Rattle.pathspec_glob.specs.declared.tokens.OneByte.TheVariants as tested
 use Rattle.pathspec_glob.specs.declared.tokens.Token.{Token as Part}
@@ -17,6 +19,7 @@ use Rattle.pathspec_glob.specs.Tokens.Item.{Literal, Range, Class}
 use Rattle.pathspec_glob.specs.Tokens.Front.{Listed, Closed, Broken}
 use Rattle.pathspec_glob.specs.Tokens.OneByte.{Byte, Quoted, Any, Bracket, Dead}
 use Rattle.pathspec_glob.specs.Tokens.Token.{One, Star, Deep}
+use Rattle.pathspec_glob.specs.Bytes.{slash}
 use Rattle.pathspec_glob.specs.BitVecs.{words_hold}
 use Rattle.pathspec_glob.specs.ByteSets.{literals}
 
@@ -72,6 +75,12 @@ token_view part.Deep = Deep
 -- the tokens that a list of `Token` is
 abbrev pub tokens_view : List Part → List Token
 tokens_view parts = map token_view parts
+
+-- the tokens that a `FirstForm` is
+abbrev pub form_view : FirstForm → List Token
+form_view form.Star = Star ∷ []
+form_view form.Deep = Deep ∷ []
+form_view form.DeepSlashStar = Deep ∷ One (Byte slash) ∷ Star ∷ []
 
 -- the piece that a `Piece` is
 abbrev pub piece_view : Taken → Piece

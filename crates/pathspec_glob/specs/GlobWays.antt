@@ -12,8 +12,14 @@ pub record GoesByFirst (parts : TokenList) : Type 0 where
   pub wide : is_wide_at parts.tokens ≡ true
   pub same : MatchAsFirst parts
 
+-- the tokens that are matched in this way
+abbrev pub way_view : Way → TokenList
+way_view (First tokens) = tokens
+way_view (Word tokens word) = tokens
+way_view (Sets tokens moves) = tokens
+
 -- the way is one of these tokens
 abbrev pub IsWayOf : TokenList → Way → Type 0
-IsWayOf parts First = GoesByFirst parts
-IsWayOf parts (Word word) = IsWordOf parts word
-IsWayOf parts (Sets moves) = IsMovesOf parts moves
+IsWayOf parts (First tokens) = GoesByFirst parts
+IsWayOf parts (Word tokens word) = IsWordOf parts word
+IsWayOf parts (Sets tokens moves) = IsMovesOf parts moves

@@ -189,10 +189,6 @@ run_token PathAware after_slash run rest = if is_deep after_slash run rest then 
 abbrev pub run_piece : Mode → Bool → ℕ → List ℕ → Piece
 run_piece mode after_slash run text = record { token = run_token mode after_slash run (drop run text); size = run }
 
--- the same of the run whose first star stands before this rest
-abbrev pub stars_piece : Mode → Bool → List ℕ → Piece
-stars_piece mode after_slash rest = run_piece mode after_slash (prefix_len (λ c. c == star) (star ∷ rest)) (star ∷ rest)
-
 -- the token at the front of a pattern, at its start or after a slash, or not
 abbrev pub piece_of : Mode → Bool → ℕ → List ℕ → Piece
 piece_of mode after_slash b rest =

@@ -1,12 +1,13 @@
 //! What a text is tested with, and the count of tests. Nothing else compares a byte of a text with what a glob wants.
 ghost use Rattle.std.specs.Prelude.{◌≡◌, ◌+◌, ◌*◌, ◌<◌, ◌^◌, bytes_eq, length, get_or, vec_len};
 ghost use Rattle.pathspec_glob.specs.Bytes.{fold_case};
-ghost use Rattle.pathspec_glob.specs.GlobForms.{tokens_view};
+ghost use Rattle.pathspec_glob.specs.GlobForms.{form_view, tokens_view};
+ghost use Rattle.pathspec_glob.specs.declared.Case.{Case};
 ghost use Rattle.pathspec_glob.specs.Globs.{folds};
 ghost use Rattle.pathspec_glob.specs.GlobSteps.{token_takes};
 
 use crate::scratch::Key;
-use crate::tokens::Token;
+use crate::tokens::{FirstForm, Token};
 use crate::{Case, Mode};
 use std::marker::Model;
 
@@ -21,6 +22,13 @@ pub struct Tests {
 #[derive(Drop)]
 pub struct CountedTokens {
     all: Vec<Token>,
+    mode: Mode,
+}
+
+/// Tokens of which the first takes any number of bytes, and is tested alone.
+#[derive(Drop)]
+pub struct CountedFirst {
+    form: FirstForm,
     mode: Mode,
 }
 
@@ -91,6 +99,48 @@ impl CountedTokens {
     {
         tests.count += 1;
         self.all[place].takes(self.mode, case, byte)
+    }
+}
+
+impl Model for CountedFirst {
+    ghost use Rattle.pathspec_glob.specs.GlobForms.{form_view};
+    ghost use Rattle.pathspec_glob.specs.GlobSteps.{TokenList};
+
+    ghost Value = { TokenList };
+
+    ghost view = { λ t. record { mode = t.mode; tokens = form_view t.form } };
+}
+
+impl CountedFirst {
+    pub fn new(mode: Mode, form: FirstForm) -> CountedFirst
+        ensures { result ≡ record { mode = mode; tokens = form_view form } }
+    {
+        CountedFirst { form, mode }
+    }
+
+    pub fn len(&self) -> usize
+        ensures { result ≡ length self.now.tokens }
+    {
+        match self.form {
+            FirstForm::Star | FirstForm::Deep => 1,
+            FirstForm::DeepSlashStar => 3,
+        }
+    }
+
+    /// Whether the first token takes a byte, with others.
+    #[inline(always)]
+    pub fn test(&self, byte: u8, tests: &mut Tests) -> bool
+        requires alone { tests.old.tokens ≡ 1 }
+        requires room { tests.old.count + 1 < 2 ^ 64 }
+        ensures answer { (case : Case) → result ≡ token_takes self.now case 0 byte }
+        ensures count { tests.new.count ≡ tests.old.count + 1 }
+        ensures tokens { tests.new.tokens ≡ 1 }
+    {
+        tests.count += 1;
+        match self.form {
+            FirstForm::Star => byte != b'/',
+            FirstForm::Deep | FirstForm::DeepSlashStar => true,
+        }
     }
 }
 

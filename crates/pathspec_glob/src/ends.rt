@@ -1,5 +1,5 @@
 //! The ends of a glob, its head and its tail: each of their tokens takes one byte.
-ghost use Rattle.std.specs.Prelude.{◌≡◌, ◌≤◌, ◌<◌, ◌+◌, ◌^◌, length, is_some, IfOk, IfSome, IsTrue};
+ghost use Rattle.std.specs.Prelude.{◌≡◌, ◌≤◌, ◌<◌, ◌+◌, ◌^◌, drop, length, take, is_some, IfOk, IfSome, IsTrue};
 ghost use Rattle.pathspec_glob.specs.Counts.{KeepsCount};
 ghost use Rattle.pathspec_glob.specs.declared.Mode.{Mode};
 ghost use Rattle.pathspec_glob.specs.GlobParts.{before_end, behind_front, plain_tokens, takes_each, takes_end, takes_front, tests_each};
@@ -44,11 +44,32 @@ impl End {
         ensures { IfOk result (λ end. end ≡ tokens) }
     {
         Ok(End {
-            tokens: match tokens.bytes(alloc)? {
+            tokens: match tokens.bytes_from(alloc, 0)? {
                 Some(bytes) => EndTokens::Bytes(bytes, tokens.mode()),
                 None => EndTokens::Any(tokens.counted()),
             },
         })
+    }
+
+    /// Splits off the tokens from a place on, as an end. The cost and the memory are as before.
+    ///
+    /// # Errors
+    /// Memory runs out.
+    pub fn split_off(alloc: Global, tokens: &mut Tokens, place: usize) -> Result<End, AllocError>
+        requires { place ≤ length tokens.old.tokens }
+        ensures front { IfOk result (λ _. tokens.new
+            ≡ record { mode = tokens.old.mode; tokens = take place tokens.old.tokens }) }
+        ensures behind { IfOk result (λ end. end
+            ≡ record { mode = tokens.old.mode; tokens = drop place tokens.old.tokens }) }
+    {
+        let end = match tokens.bytes_from(alloc, place)? {
+            Some(bytes) => {
+                tokens.truncate(place);
+                EndTokens::Bytes(bytes, tokens.mode())
+            }
+            None => EndTokens::Any(tokens.split_off(place)?.counted()),
+        };
+        Ok(End { tokens: end })
     }
 
     /// Tokens that want these bytes, one each. The cost is linear in them, and so is the memory.

@@ -19,6 +19,7 @@ mod scratch;
 mod sets;
 mod source;
 mod tokens;
+mod wildcards;
 
 pub use directory_glob::DirectoryGlob;
 pub use matcher::Glob;
@@ -46,25 +47,11 @@ pub enum Case {
 ///
 /// What stands before it begins each text that the pattern matches as a glob.
 ///
-/// It looks at each byte up to that one.
+/// It looks at each byte up to that one, and at most at fifteen behind it.
 pub fn first_wildcard(text: &[u8]) -> Option<usize>
     ensures place { result ≡ position is_wildcard text.now }
     ensures found { is_some result ≡ list_any is_wildcard text.now }
     ensures stem { MatchBeginsStem }
 {
-    place_of_wildcard(text)
-}
-
-/// The place of the first wildcard byte.
-fn place_of_wildcard(text: &[u8]) -> Option<usize>
-    ensures { result ≡ position is_wildcard text.now }
-{
-    text.iter().position(|byte| is_wildcard(*byte))
-}
-
-/// Whether the byte is one of `*`, `?`, `[` and `\`.
-fn is_wildcard(byte: u8) -> bool
-    ensures { result ≡ is_wildcard byte }
-{
-    matches!(byte, b'*' | b'?' | b'[' | b'\\')
+    wildcards::place_of_wildcard(text)
 }

@@ -141,14 +141,12 @@ impl Parts {
     {
         let (head, mut behind) = split_head(alloc, pattern, mode)?;
         let middle_size = behind.wide_size();
-        let tail = behind.split_off(middle_size)?;
-        // The list has room for a token a byte of the pattern; `split_off` makes one that is just as long as it has to be.
-        let middle = behind.split_off(0)?;
+        let tail = End::split_off(alloc, &mut behind, middle_size)?;
         Ok(Parts {
             source: Source::of(pattern),
             head,
-            middle: Middle::of_tokens(alloc, middle)?,
-            tail: End::of_tokens(alloc, tail)?,
+            middle: Middle::of_tokens(alloc, behind)?,
+            tail,
         })
     }
 }

@@ -9,7 +9,7 @@ ghost use Rattle.pathspec_glob.specs.GlobPlaces.{HasRoom, KeepsRoom};
 ghost use Rattle.pathspec_glob.specs.GlobSteps.{is_wide_at};
 
 use crate::Case;
-use crate::counted::{CountedTokens, Tests};
+use crate::counted::{CountedFirst, CountedTokens, Tests};
 use crate::places::Places;
 use crate::places::moves::EmptyMoves;
 use crate::scratch::Steps;
@@ -21,30 +21,29 @@ use std::marker::Model;
 /// The tokens between the head and the tail of a glob.
 #[derive(Drop)]
 pub struct Middle {
-    tokens: CountedTokens,
     way: Way,
 }
 
-/// What they are matched by.
+/// Tokens, and what they are matched by.
 #[derive(Drop)]
 enum Way {
     /// The first token alone, which takes the same texts.
-    First,
+    First(CountedFirst),
     /// Sets of places in one word.
-    Word(Word),
+    Word(CountedTokens, Word),
     /// Sets of places in bit vectors.
-    Sets(EmptyMoves),
+    Sets(CountedTokens, EmptyMoves),
 }
 
 impl Model for Middle {
     ghost use Rattle.pathspec_glob.specs.GlobSteps.{TokenList};
-    ghost use Rattle.pathspec_glob.specs.GlobWays.{IsWayOf};
+    ghost use Rattle.pathspec_glob.specs.GlobWays.{IsWayOf, way_view};
 
     ghost Value = { TokenList };
 
-    ghost view = { λ m. m.tokens };
+    ghost view = { λ m. way_view m.way };
 
-    ghost invariant = { λ m. IsWayOf m.tokens m.way };
+    ghost invariant = { λ m. IsWayOf (way_view m.way) m.way };
 }
 
 impl Middle {
@@ -56,10 +55,11 @@ impl Middle {
         requires { alternates_behind false tokens.tokens ≡ true }
         ensures { IfOk result (λ middle. middle ≡ tokens) }
     {
-        let way = Way::of_tokens(alloc, &tokens)?;
         Ok(Middle {
-            tokens: tokens.counted(),
-            way,
+            way: match tokens.as_first() {
+                Some(first) => Way::First(first),
+                None => Way::of_tokens(alloc, tokens)?,
+            },
         })
     }
 
@@ -72,8 +72,7 @@ impl Middle {
     {
         let moves = EmptyMoves::of_tokens(alloc, &tokens)?;
         Ok(Middle {
-            tokens: tokens.counted(),
-            way: Way::Sets(moves),
+            way: Way::Sets(tokens.counted(), moves),
         })
     }
 
@@ -81,7 +80,10 @@ impl Middle {
     pub fn len(&self) -> usize
         ensures { result ≡ length self.now.tokens }
     {
-        self.tokens.len()
+        match &self.way {
+            Way::First(tokens) => tokens.len(),
+            Way::Word(tokens, _) | Way::Sets(tokens, _) => tokens.len(),
+        }
     }
 
     /// Whether the tokens match the whole of a text: by the first alone where this takes the same texts, and else by sets
@@ -97,13 +99,13 @@ impl Middle {
         ensures room { KeepsRoom places.old places.new }
     {
         match &self.way {
-            Way::First => test_first(&self.tokens, text, steps),
-            Way::Word(word) => {
+            Way::First(tokens) => test_first(tokens, text, steps),
+            Way::Word(_, word) => {
                 let Answer { accepted, tests } = word.run(text, case);
                 steps.add(tests);
                 accepted
             }
-            Way::Sets(moves) => places.run(&self.tokens, moves, text, case, steps),
+            Way::Sets(tokens, moves) => places.run(tokens, moves, text, case, steps),
         }
     }
 
@@ -128,36 +130,41 @@ impl Middle {
         ensures room { KeepsRoom places.old places.new }
     {
         match &self.way {
-            Way::First => {
-                test_first(&self.tokens, directory, steps) && test_first(&self.tokens, b"/", steps)
+            Way::First(tokens) => {
+                test_first(tokens, directory, steps) && test_first(tokens, b"/", steps)
             }
-            Way::Word(word) => {
+            Way::Word(_, word) => {
                 let Answer { accepted, tests } = word.run_directory(directory, case);
                 steps.add(tests);
                 accepted
             }
-            Way::Sets(moves) => places.run_directory(&self.tokens, moves, directory, case, steps),
+            Way::Sets(tokens, moves) => {
+                places.run_directory(tokens, moves, directory, case, steps)
+            }
         }
     }
 }
 
 impl Way {
-    ghost use Rattle.pathspec_glob.specs.GlobWays.{IsWayOf};
+    ghost use Rattle.pathspec_glob.specs.GlobWays.{IsWayOf, way_view};
 
-    /// The first way that the tokens can go: by the first token alone, in one word, or in bit vectors.
+    /// Tokens in one word, or in bit vectors where they don't fit it.
     ///
     /// # Errors
     /// Memory runs out.
-    fn of_tokens(alloc: Global, tokens: &Tokens) -> Result<Way, AllocError>
-        requires { alternates_behind false tokens.now.tokens ≡ true }
-        ensures { IfOk result (λ way. IsWayOf tokens.now way) }
+    fn of_tokens(alloc: Global, mut tokens: Tokens) -> Result<Way, AllocError>
+        requires { alternates_behind false tokens.tokens ≡ true }
+        ensures view { IfOk result (λ way. way_view way ≡ tokens) }
+        ensures way { IfOk result (λ way. IsWayOf tokens way) }
     {
-        if tokens.match_as_first() {
-            return Ok(Way::First);
-        }
-        Ok(match Word::of_tokens(alloc, tokens)? {
-            Some(word) => Way::Word(word),
-            None => Way::Sets(EmptyMoves::of_tokens(alloc, tokens)?),
+        // The list has room for a token a byte of the pattern; `split_off` makes one that is just as long as it has to be.
+        let own = tokens.split_off(0)?;
+        Ok(match Word::of_tokens(alloc, &own)? {
+            Some(word) => Way::Word(own.counted(), word),
+            None => {
+                let moves = EmptyMoves::of_tokens(alloc, &own)?;
+                Way::Sets(own.counted(), moves)
+            }
         })
     }
 }
@@ -165,7 +172,7 @@ impl Way {
 /// Tests the first token, which takes any number of bytes, on the bytes of a text up to one that it doesn't take, each
 /// of which is counted as one step: whether it takes them all.
 #[inline(never)]
-fn test_first(tokens: &CountedTokens, text: &[u8], steps: &mut Steps) -> bool
+fn test_first(tokens: &CountedFirst, text: &[u8], steps: &mut Steps) -> bool
     requires wide { IsTrue (is_wide_at tokens.now.tokens) }
     requires room { steps.old.last + length text.now < 2 ^ 128 }
     ensures answer { result ≡ first_token_takes tokens.now.tokens text.now }
@@ -177,7 +184,7 @@ fn test_first(tokens: &CountedTokens, text: &[u8], steps: &mut Steps) -> bool
 {
     let mut tests = Tests::none(1);
     for place in 0..text.len() {
-        if !tokens.test(0, text[place], Case::Sensitive, &mut tests) {
+        if !tokens.test(text[place], &mut tests) {
             steps.add(tests);
             return false;
         }

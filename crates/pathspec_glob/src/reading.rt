@@ -1,15 +1,17 @@
 //! Patterns of globs, read as tokens (git's wildmatch).
-ghost use Rattle.std.specs.Prelude.{◌≡◌, ◌==◌, ◌+◌, ◌++◌, ◌||◌, ◌≤◌, codes, length, map, nat_eq, IfOk, IsTrue, IsFalse};
+ghost use Rattle.std.specs.Prelude.{◌≡◌, ◌==◌, ◌+◌, ◌++◌, ◌||◌, ◌≤◌, ◌∷◌, Bool, codes, length, map, nat_eq, IfOk, IsTrue, IsFalse};
 ghost use Rattle.std.specs.List.{ends_with, list_any, prefix_len};
+ghost use Rattle.pathspec_glob.specs.declared.Mode.{Mode};
 ghost use Rattle.pathspec_glob.specs.Bytes.{first_is, is_empty, is_one_of, is_wildcard, star};
-ghost use Rattle.pathspec_glob.specs.Tokens.{escaped_piece, bracket_piece, EndsPattern, is_deep, run_token, stars_piece, piece_of, StandsBefore, tokens_from};
-ghost use Rattle.pathspec_glob.specs.ByteSets.{listed, listed_piece, listed_tokens};
+ghost use Rattle.pathspec_glob.specs.Tokens.{escaped_piece, bracket_piece, EndsPattern, is_deep, run_token, piece_of, StandsBefore, tokens_from};
+ghost use Rattle.pathspec_glob.specs.ByteSets.{listed, listed_piece, listed_tokens, ReadsOn};
 ghost use Rattle.pathspec_glob.specs.GlobParts.{behind_head};
 ghost use Rattle.pathspec_glob.specs.Tokens.Token.{One};
 ghost use Rattle.pathspec_glob.specs.GlobForms.{one_byte_view, token_view, tokens_view, piece_view};
 
 use crate::sets::ByteSet;
 use crate::tokens::{OneByte, Token};
+use crate::wildcards::is_wildcard;
 use crate::{Mode, brackets};
 use std::alloc::{AllocError, Global};
 
@@ -74,16 +76,63 @@ fn tokens_from(
 {
     let mut all = Vec::with_capacity(alloc, rest.len())?;
     while let [byte, after @ ..] = rest {
-        let Piece { token, size } = first_piece(alloc, mode, after_slash, *byte, after)?;
-        let ends = is_dead(&token);
-        all.push(token)?;
-        if ends {
-            break;
-        }
+        let size = push_front(alloc, &mut all, mode, after_slash, *byte, after)?;
         after_slash = rest[size - 1] == b'/';
         rest = &rest[size..];
     }
     Ok(all)
+}
+
+/// Adds what stands at the front of a pattern of this byte and this rest, which begins the whole or stands after a
+/// slash, or does neither. It gives how many bytes that takes, and all of them where it is dead.
+///
+/// # Errors
+/// Memory runs out.
+#[inline(always)]
+fn push_front(
+    alloc: Global,
+    all: &mut Vec<Token>,
+    mode: Mode,
+    after_slash: bool,
+    byte: u8,
+    rest: &[u8],
+) -> Result<usize, AllocError>
+    ensures { IfOk result (ReadsOn mode after_slash (byte ∷ rest.now)
+        (tokens_view all.old.items) (tokens_view all.new.items)) }
+{
+    if !is_wildcard(byte) {
+        all.push(Token::One(OneByte::Byte(byte)))?;
+        return Ok(1);
+    }
+    if byte == b'*' {
+        let more = count_stars(rest);
+        all.push(run_token(mode, after_slash, more + 1, &rest[more..]))?;
+        return Ok(more + 1);
+    }
+    push_single(alloc, all, byte, rest)
+}
+
+// Out of line, since most bytes of patterns stand for themselves.
+/// The same of a `?`, `[` or backslash.
+///
+/// # Errors
+/// Memory runs out.
+#[inline(never)]
+fn push_single(
+    alloc: Global,
+    all: &mut Vec<Token>,
+    byte: u8,
+    rest: &[u8],
+) -> Result<usize, AllocError>
+    requires { IsTrue (is_one_of (codes "?[\\") byte) }
+    ensures { (mode : Mode) (after_slash : Bool)
+        → IfOk result (ReadsOn mode after_slash (byte ∷ rest.now)
+        (tokens_view all.old.items) (tokens_view all.new.items)) }
+{
+    let Piece { token, size } = single_piece(alloc, byte, rest)?;
+    let ends = is_dead(&token);
+    all.push(token)?;
+    Ok(if ends { rest.len() + 1 } else { size })
 }
 
 /// Whether a token is dead, so that what stands after it doesn't count.
@@ -94,26 +143,16 @@ fn is_dead(token: &Token) -> bool
     matches!(token, Token::One(OneByte::Dead))
 }
 
-/// What stands at the front of a pattern of this byte and this rest, which begins the whole or stands after a slash, or
-/// does neither.
-fn first_piece(
-    alloc: Global,
-    mode: Mode,
-    after_slash: bool,
-    byte: u8,
-    rest: &[u8],
-) -> Result<Piece, AllocError>
-    ensures read { IfOk result
-        (λ piece. piece_view piece
+/// What stands at the front of a pattern of this rest and a `?`, `[` or backslash before it.
+fn single_piece(alloc: Global, byte: u8, rest: &[u8]) -> Result<Piece, AllocError>
+    requires { IsTrue (is_one_of (codes "?[\\") byte) }
+    ensures { (mode : Mode) (after_slash : Bool) → IfOk result (λ piece. piece_view piece
         ≡ listed_piece (piece_of mode after_slash byte rest.now)) }
-    ensures within { IfOk result (λ piece. (1 ≤ piece.size) × (piece.size ≤ length rest.now + 1)) }
 {
     Ok(match byte {
         b'\\' => escaped_piece(rest),
-        b'?' => single_byte(OneByte::Any),
         b'[' => bracket_piece(alloc, rest)?,
-        b'*' => stars_piece(mode, after_slash, rest),
-        _ => single_byte(OneByte::Byte(byte)),
+        _ => single_byte(OneByte::Any),
     })
 }
 
@@ -160,17 +199,6 @@ fn is_negated(bytes: &[u8]) -> bool
     ensures { result ≡ first_is (is_one_of (codes "!^")) bytes.now }
 {
     matches!(bytes, [b'!' | b'^', ..])
-}
-
-/// The run of stars whose first stands before this rest. It is taken whole.
-fn stars_piece(mode: Mode, after_slash: bool, rest: &[u8]) -> Piece
-    ensures { piece_view result ≡ listed_piece (stars_piece mode after_slash rest.now) }
-{
-    let more = count_stars(rest);
-    Piece {
-        token: run_token(mode, after_slash, more + 1, &rest[more..]),
-        size: more + 1,
-    }
 }
 
 /// How many stars stand in front.

@@ -7,14 +7,15 @@ ghost use Rattle.pathspec_glob.specs.GlobForms.{one_byte_view, token_view, token
 ghost use Rattle.pathspec_glob.specs.GlobSteps.{is_wide, is_wide_at, may_pass_over_at, takes_byte, token_takes};
 ghost use Rattle.pathspec_glob.specs.OpenEnds.{is_any_run, is_open};
 ghost use Rattle.pathspec_glob.specs.ByteSets.{listed_tokens, listed_token_list};
-ghost use Rattle.pathspec_glob.specs.GlobParts.{plain_tokens, behind_head, head_size, takes_each, tests_each, wide_size, first_token_takes, first_token_tests, MatchAsFirst};
+ghost use Rattle.pathspec_glob.specs.GlobParts.{plain_tokens, behind_head, head_size, takes_each, tests_each, wide_size, first_token_takes, first_token_tests};
+ghost use Rattle.pathspec_glob.specs.GlobWays.{GoesByFirst};
 ghost use Rattle.pathspec_glob.specs.Tokens.OneByte.{Byte};
 ghost use Rattle.pathspec_glob.specs.Tokens.Token.{One, Star};
 ghost use Rattle.pathspec_glob.specs.Counts.{BeginsAnew, HasNoSteps, KeepsCount};
 
 pub mod word;
 
-use crate::counted::{CountedBytes, CountedTokens};
+use crate::counted::{CountedBytes, CountedFirst, CountedTokens};
 use crate::sets::ByteSet;
 use crate::{Case, Mode, reading};
 use std::alloc::{AllocError, Global};
@@ -44,6 +45,17 @@ pub enum Token {
     Star,
     /// Any bytes.
     Deep,
+}
+
+/// Tokens that may match just what the first of them takes.
+#[derive(Clone, Copy)]
+pub enum FirstForm {
+    /// Any bytes without `/`, alone.
+    Star,
+    /// Any bytes, alone.
+    Deep,
+    /// Any bytes, and behind them a plain `/` and any bytes without one: `**/*`.
+    DeepSlashStar,
 }
 
 /// The tokens of a glob, or some of them that stand side by side.
@@ -132,17 +144,19 @@ impl Tokens {
         may_pass_over(self.mode, &self.all[place..])
     }
 
-    /// Whether they match just what the first of them takes, which takes any number of bytes: it stands alone, or they are
-    /// `**/*`, where `**` and the slash may stand for nothing.
-    pub fn match_as_first(&self) -> bool
-        ensures wide { IsTrue result → IsTrue (is_wide_at self.now.tokens) }
-        ensures same { IsTrue result → MatchAsFirst self.now }
+    /// The same tokens, where they match just what the first of them takes, which takes any number of bytes: it stands
+    /// alone, or they are `**/*`, where `**` and the slash may stand for nothing.
+    pub fn as_first(&self) -> Option<CountedFirst>
+        ensures whole { IfSome result (λ first. first ≡ self.now) }
+        ensures alone { IfSome result GoesByFirst }
     {
-        match self.all.as_slice() {
-            [first] => first.is_wide(),
-            [_, _, last] => last.is_star() && self.may_pass_over(0),
-            _ => false,
-        }
+        let form = match self.all.as_slice() {
+            [first] if first.is_deep() => FirstForm::Deep,
+            [first] if first.is_star() => FirstForm::Star,
+            [_, _, last] if last.is_star() && self.may_pass_over(0) => FirstForm::DeepSlashStar,
+            _ => return None,
+        };
+        Some(CountedFirst::new(self.mode, form))
     }
 
     /// Whether the last of them takes any bytes.
@@ -208,18 +222,30 @@ impl Tokens {
         size
     }
 
-    /// The bytes that they want, where each is a byte of the pattern; None where one isn't.
+    /// The bytes that those from a place on want, where each is a byte of the pattern; None where one isn't.
     ///
     /// # Errors
     /// Memory runs out.
-    pub fn bytes(&self, alloc: Global) -> Result<Option<CountedBytes>, AllocError>
+    pub fn bytes_from(
+        &self,
+        alloc: Global,
+        place: usize,
+    ) -> Result<Option<CountedBytes>, AllocError>
+        requires { place ≤ length self.now.tokens }
         ensures { IfOk result (λ found.
-            IfSome found (λ bytes. self.now.tokens ≡ plain_tokens bytes.all.items)) }
+            IfSome found (λ bytes. drop place self.now.tokens ≡ plain_tokens bytes.all.items)) }
     {
-        Ok(match bytes_of(alloc, &self.all)? {
+        Ok(match bytes_of(alloc, &self.all[place..])? {
             Some(bytes) => Some(CountedBytes::new(bytes)),
             None => None,
         })
+    }
+
+    /// Leaves the tokens before a place.
+    pub fn truncate(&mut self, place: usize)
+        ensures { self.new ≡ record { mode = self.old.mode; tokens = take place self.old.tokens } }
+    {
+        self.all.truncate(place);
     }
 
     /// The same tokens, whose only question about a text is the counted one.

@@ -10,7 +10,6 @@ use Rattle.pathspec_glob.specs.Tokens.{Token}
 use Rattle.pathspec_glob.specs.Tokens.Token.{One, Star, Deep}
 use Rattle.pathspec_glob.specs.GlobSteps.{is_wide_at, takes_at}
 use Rattle.pathspec_glob.specs.GlobParts.{first_token_takes, first_token_tests}
-use Rattle.pathspec_glob.proofs.PlaceProofs.{some-token}
 use Rattle.pathspec_glob.proofs.middle.test_first.Goals.{After-test}
 use Rattle.pathspec_glob.proofs.middle.test_first.Goals as goal
 
@@ -48,16 +47,13 @@ tested : (c : After-test) → first_token_takes c.args.tokens.now.tokens (drop c
 tested c =
     let ts = c.args.tokens.now.tokens in
     let behind = drop (c.loop-place.place + 1) c.args.text.now in
-    ap (first_token_takes ts) (byte c) ∙ takes-one c.args.tokens.now.mode Sensitive ts _ behind c.requires.wide ∙ ap (λ x. x && first_token_takes ts behind) (sym c.test.ensures.answer)
+    ap (first_token_takes ts) (byte c) ∙ takes-one c.args.tokens.now.mode Sensitive ts _ behind c.requires.wide ∙ ap (λ x. x && first_token_takes ts behind) (sym (c.test.ensures.answer Sensitive))
 
 counted : (c : After-test) → first_token_tests c.args.tokens.now.tokens (drop c.loop-place.place c.args.text.now) ≡ suc (if c.test.result then first_token_tests c.args.tokens.now.tokens (drop (c.loop-place.place + 1) c.args.text.now) else 0)
 counted c =
     let ts = c.args.tokens.now.tokens in
     let behind = drop (c.loop-place.place + 1) c.args.text.now in
-    ap (first_token_tests ts) (byte c) ∙ tests-one c.args.tokens.now.mode Sensitive ts _ behind c.requires.wide ∙ ap (λ x. suc (if x then first_token_tests ts behind else 0)) (sym c.test.ensures.answer)
-
-pub test-requires-clause-place : goal.test-requires-clause-place
-test-requires-clause-place c = some-token c.args.tokens.now.tokens c.requires.wide
+    ap (first_token_tests ts) (byte c) ∙ tests-one c.args.tokens.now.mode Sensitive ts _ behind c.requires.wide ∙ ap (λ x. suc (if x then first_token_tests ts behind else 0)) (sym (c.test.ensures.answer Sensitive))
 
 pub loop-place-preserved : goal.loop-place-preserved
 loop-place-preserved c =

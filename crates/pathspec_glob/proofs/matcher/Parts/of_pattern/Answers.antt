@@ -10,7 +10,7 @@ pub of_tokens-requires : goal.of_tokens-requires
 of_tokens-requires c =
     let tokens = listed_tokens c.args.mode c.args.pattern.now in
     let size = c.wide_size-middle_size.ensures.size ∙ ap (λ (t : TokenList). wide_size t.mode t.tokens) c.in_ok-head.ensures.behind in
-    let middle : c.in_ok-middle.middle.tokens ≡ middle_of c.args.mode tokens =
-    ap (λ (t : TokenList). t.tokens) (c.in_ok-middle.ensures.behind ∙ c.in_ok-tail.ensures.front) ∙ ap (λ n. take n c.in_ok-head.behind.tokens) size
+    let middle : c.split_off.new.tokens.tokens ≡ middle_of c.args.mode tokens =
+    ap (λ (t : TokenList). t.tokens) c.in_ok-tail.ensures.front ∙ ap (λ n. take n c.in_ok-head.behind.tokens) size
     ∙ ap (λ (t : TokenList). take (wide_size c.args.mode (behind_head tokens)) t.tokens) c.in_ok-head.ensures.behind in
     rw middle (part-alternates c.args.mode c.args.pattern.now (head_size tokens) (wide_size c.args.mode (behind_head tokens)))

@@ -11,16 +11,16 @@ pub returns-in-First-clause-most : goal.returns-in-First-clause-most
 returns-in-First-clause-most c =
     let tokens = c.args.self.now.tokens in
     let size = length c.args.text.now in
-    let way : GoesByFirst c.self.inside.tokens = rw c.in-First.is at c.self.invariant in
-    let some = some-token c.self.inside.tokens.tokens way.wide in
-    let once = mul-le-mul {n₁ = 1} {m₁ = size} {n₂ = length tokens} {m₂ = size} (rw (sym c.self.view_is) some) (omega arith) in
+    let way : GoesByFirst c.in-First.tokens = rw c.in-First.is at c.self.invariant in
+    let some = some-token c.in-First.tokens.tokens way.wide in
+    let once = mul-le-mul {n₁ = 1} {m₁ = size} {n₂ = length tokens} {m₂ = size} (rw (sym (rw c.in-First.is at c.self.view_is)) some) (omega arith) in
     omega (arith, c.test_first.ensures.most, once)
 
 -- a question is as many steps as there are tokens
 each : (c : After-add) → c.run-accepted.result.tests.tokens ≡ length c.args.self.now.tokens
 each c =
-    let way : IsWordOf c.self.inside.tokens c.in-Word.word = rw c.in-Word.is at c.self.invariant in
-    c.run-accepted.ensures.tokens ∙ way.tokens ∙ ap (λ (t : TokenList). length t.tokens) c.self.view_is
+    let way : IsWordOf c.in-Word.field-0 c.in-Word.word = rw c.in-Word.is at c.self.invariant in
+    c.run-accepted.ensures.tokens ∙ way.tokens ∙ ap (λ (t : TokenList). length t.tokens) (rw c.in-Word.is at c.self.view_is)
 
 pub returns-in-Word-clause-most : goal.returns-in-Word-clause-most
 returns-in-Word-clause-most c =
@@ -33,8 +33,8 @@ returns-in-Word-clause-most c =
 pub returns-in-Word-clause-least : goal.returns-in-Word-clause-least
 returns-in-Word-clause-least c accepted =
     let asked = c.run-accepted.result.tests in
-    let way : IsWordOf c.self.inside.tokens c.in-Word.word = rw c.in-Word.is at c.self.invariant in
-    let some : 0 < asked.tokens = omega (arith, some-cell c.self.inside.tokens.tokens way.some, c.run-accepted.ensures.tokens, way.tokens) in
+    let way : IsWordOf c.in-Word.field-0 c.in-Word.word = rw c.in-Word.is at c.self.invariant in
+    let some : 0 < asked.tokens = omega (arith, some-cell c.in-Word.field-0.tokens way.some, c.run-accepted.ensures.tokens, way.tokens) in
     let least = mul-le-mul {n₁ = 1} {m₁ = length c.args.text.now} {n₂ = asked.tokens} {m₂ = asked.count}
     some (omega (arith, c.run-accepted.ensures.least accepted)) in
     omega (arith, c.add.ensures.steps, least)

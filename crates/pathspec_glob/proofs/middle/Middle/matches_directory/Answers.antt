@@ -12,9 +12,9 @@ once : (c : After-test_first) → length c.args.directory.now + 1 ≤ length c.a
 once c =
     let tokens = c.args.self.now.tokens in
     let size = length c.args.directory.now + 1 in
-    let way : GoesByFirst c.self.inside.tokens = rw c.in-First.is at c.self.invariant in
-    let some = some-token c.self.inside.tokens.tokens way.wide in
-    let once = mul-le-mul {n₁ = 1} {m₁ = size} {n₂ = length tokens} {m₂ = size} (rw (sym c.self.view_is) some) (omega arith) in
+    let way : GoesByFirst c.in-First.tokens = rw c.in-First.is at c.self.invariant in
+    let some = some-token c.in-First.tokens.tokens way.wide in
+    let once = mul-le-mul {n₁ = 1} {m₁ = size} {n₂ = length tokens} {m₂ = size} (rw (sym (rw c.in-First.is at c.self.view_is)) some) (omega arith) in
     omega (arith, once)
 
 pub returns-then-test_first-clause-most : goal.returns-then-test_first-clause-most
@@ -26,8 +26,8 @@ returns-else-test_first-clause-most c = omega (arith, c.test_first.ensures.most,
 -- a question is as many steps as there are tokens
 each : (c : After-add) → c.run_directory-accepted.result.tests.tokens ≡ length c.args.self.now.tokens
 each c =
-    let way : IsWordOf c.self.inside.tokens c.in-Word.word = rw c.in-Word.is at c.self.invariant in
-    c.run_directory-accepted.ensures.tokens ∙ way.tokens ∙ ap (λ (t : TokenList). length t.tokens) c.self.view_is
+    let way : IsWordOf c.in-Word.field-0 c.in-Word.word = rw c.in-Word.is at c.self.invariant in
+    c.run_directory-accepted.ensures.tokens ∙ way.tokens ∙ ap (λ (t : TokenList). length t.tokens) (rw c.in-Word.is at c.self.view_is)
 
 pub returns-in-Word-clause-most : goal.returns-in-Word-clause-most
 returns-in-Word-clause-most c =
@@ -40,8 +40,8 @@ returns-in-Word-clause-most c =
 pub returns-in-Word-clause-least : goal.returns-in-Word-clause-least
 returns-in-Word-clause-least c accepted =
     let asked = c.run_directory-accepted.result.tests in
-    let way : IsWordOf c.self.inside.tokens c.in-Word.word = rw c.in-Word.is at c.self.invariant in
-    let some : 0 < asked.tokens = omega (arith, some-cell c.self.inside.tokens.tokens way.some, c.run_directory-accepted.ensures.tokens, way.tokens) in
+    let way : IsWordOf c.in-Word.field-0 c.in-Word.word = rw c.in-Word.is at c.self.invariant in
+    let some : 0 < asked.tokens = omega (arith, some-cell c.in-Word.field-0.tokens way.some, c.run_directory-accepted.ensures.tokens, way.tokens) in
     let least = mul-le-mul {n₁ = 1} {m₁ = length c.args.directory.now + 1} {n₂ = asked.tokens} {m₂ = asked.count}
     some (omega (arith, c.run_directory-accepted.ensures.least accepted)) in
     omega (arith, c.add.ensures.steps, least)
