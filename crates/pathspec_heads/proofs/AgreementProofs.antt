@@ -1,6 +1,6 @@
 -- How far texts agree, step by step, and what stands between two texts that agree.
 use Rattle.std.proofs.Common.{◌≡◌, ◌≢◌, ℕ, suc, zero, ◌+◌, ◌*◌, ◌/◌, ◌%◌, ◌^◌, ◌<◌, ◌≤◌, w64, Bool, true, false, ltb, inl, inr, refl, sym, ◌∙◌, ap, List, [], ◌∷◌, ◌++◌, length, get_or, arith, nat_eq, take}
-use Rattle.std.proofs.lemmas.Bool.{cases_Bool, false≢true}
+use Rattle.std.proofs.lemmas.Bool.{cases_Bool, cases_lt, false≢true}
 use Rattle.std.proofs.lemmas.List.Sums.{common_prefix_len-le}
 use Rattle.std.proofs.lemmas.Bool.Decides.{nat_tests}
 use Rattle.std.proofs.lemmas.Nat.{pow_pos}
@@ -64,6 +64,13 @@ agreement-nearer [] y (d ∷ t) a = refl
 agreement-nearer (b ∷ x) [] t a = absurd (omega (arith, a))
 agreement-nearer (b ∷ x) (c ∷ y) [] a = absurd (omega (arith, a))
 agreement-nearer (b ∷ x) (c ∷ y) (d ∷ t) a = grind (arith, nat_tests, agreement-nearer x y t)
+
+-- where a text agrees with a third one further than with another, that other agrees with the third one no further
+pub agreement-passed : (x y t : List ℕ) → agreement x y < agreement x t → agreement y t ≤ agreement x t
+agreement-passed x y t l = elim (cases_lt (agreement x t) (agreement y t)) [
+  | inl more ↦ absurd (omega (arith, agreement-nearer x y t more, l))
+  | inr few ↦ few
+]
 
 -- the text ends where the head still goes on
 pub agreement-text_ends : (x y : List ℕ) → length y ≤ agreement x y → length y < length x → (length y ≡ agreement x y) × (true ≡ is_behind x y)

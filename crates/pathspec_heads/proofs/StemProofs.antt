@@ -1,5 +1,5 @@
 -- Stems before and behind a path and a slash, and the stems that begin them.
-use Rattle.std.proofs.Common.{◌≡◌, ℕ, suc, zero, ◌+◌, ◌-◌, ◌<◌, ◌≤◌, Bool, true, false, ◌&&◌, ◌||◌, ltb, inl, inr, refl, sym, ◌∙◌, ap, subst, List, [], ◌∷◌, ◌++◌, length, get_or, arith, ◌⊎◌, Option, Some, None, bytes_eq, length-append, IsTrue, IsFalse, nat_eq, not}
+use Rattle.std.proofs.Common.{◌≡◌, ℕ, suc, zero, ◌+◌, ◌-◌, ◌<◌, ◌≤◌, Bool, true, false, ◌&&◌, ◌||◌, ltb, inl, inr, refl, sym, ◌∙◌, ap, subst, List, [], ◌∷◌, ◌++◌, length, get_or, arith, ◌⊎◌, Option, Some, None, bytes_eq, length-append, IsTrue, IsFalse, nat_eq}
 use Rattle.std.specs.List.{list_any}
 use Rattle.std.proofs.lemmas.Bool.{false≢true}
 use Rattle.std.proofs.lemmas.Bool.Decides.{nat_tests, Decides-ltb}
@@ -16,8 +16,9 @@ use Rattle.std.specs.Char.{to_ascii_lowercase}
 use Rattle.std.proofs.lemmas.List.{length-map}
 use Rattle.pathspec_heads.proofs.PlacedProofs.{get_or-inside}
 use Rattle.pathspec_heads.specs.Groups.{IsGrouped}
+use Rattle.pathspec_heads.specs.Looks.{AgreeUpTo}
 use Rattle.pathspec_heads.specs.Stems.{with_slash, leads_to, lies_below, lies_at_or_below, HasSameTexts, SomeText, NoText, IsBoundary, is_boundary}
-use Rattle.pathspec_heads.proofs.AgreementProofs.{squeezed, agreement-self, agreement-sym, agreement-front, agreement-nearer, front-agreement, begins-between, begins-not_behind, begins-through, not_true}
+use Rattle.pathspec_heads.proofs.AgreementProofs.{squeezed, agreement-self, agreement-sym, agreement-front, front-agreement, begins-between, begins-not_behind, begins-through, not_true}
 use Rattle.pathspec_heads.proofs.HeadProofs.{le_split, apart_split, rises, begins-itself, chained}
 
 -- ---- texts
@@ -180,34 +181,9 @@ same-test false false f g = refl
 
 -- ---- the search for the path and a slash
 
-le_or_lt : (m n : ℕ) → (m ≤ n) ⊎ (n < m)
-le_or_lt m n = elim (apart_split m n) [
-  | inl s ↦ inl (omega (arith, s))
-  | inr r ↦ elim r [ inl e ↦ inl (omega (arith, e)) | inr s ↦ inr s ]
-]
-
-differ : (m n : ℕ) → IsTrue (not (nat_eq m n)) → m ≡ n → ⊥
-differ m n h e = grind (arith, nat_tests)
-
-module _ (texts : List (List ℕ)) (t : List ℕ) (low agreed : ℕ) (b : Brackets texts t low low agreed) where
-  pub below-found : 0 < low → length t ≤ agreed → SomeText texts (λ x. begins_with x t ≡ true)
-  below-found p l = (low - 1, omega (arith, p, b.within), front-agreement t (head_at texts (low - 1)) (omega (arith, l, (b.below (low - 1) (omega (arith, p))).1, agreement-sym t (head_at texts (low - 1)))))
-
-  pub above-found : low < length texts → length t ≤ agreement (head_at texts low) t → SomeText texts (λ x. begins_with x t ≡ true)
-  above-found i l = (low, i, front-agreement t (head_at texts low) (omega (arith, l, agreement-sym t (head_at texts low))))
-
-  -- the next text agrees in no more bytes than the last one below the end does, where the two share more or fewer
-  pub next-no_further : 0 < low → (shared : ℕ) → shared ≡ agreement (head_at texts (low - 1)) (head_at texts (low - 1 + 1)) → IsTrue (not (nat_eq shared agreed)) → agreement (head_at texts low) t ≤ agreed
-  next-no_further p shared is differs =
-      let last = low - 1 in
-      let e : last + 1 ≡ low = omega (arith, p) in
-      let at = (b.below last e).1 in
-      elim (le_or_lt (agreement (head_at texts low) t) agreed) [
-        | inl few ↦ few
-        | inr more ↦
-            let near = agreement-nearer (head_at texts last) (head_at texts (last + 1)) t (omega (arith, more, at, ap (λ k. agreement (head_at texts k) t) e)) in
-            absurd (differ shared agreed differs (is ∙ near ∙ sym at))
-      ]
+-- a text that agrees with all of the path and a slash begins with them
+pub text-found : (texts : List (List ℕ)) (t : List ℕ) (i : ℕ) → i < length texts → length t ≤ agreement (head_at texts i) t → SomeText texts (λ x. begins_with x t ≡ true)
+text-found texts t i l far = (i, l, front-agreement t (head_at texts i) (omega (arith, far, agreement-sym t (head_at texts i))))
 
 module _ (texts : List (List ℕ)) (t : List ℕ) (low agreed : ℕ) (b : Brackets texts t low low agreed) (rising : IsRising texts) where
   -- a text below the end of the search that begins with the path and a slash is it, and so is the last one there
@@ -236,10 +212,13 @@ module _ (texts : List (List ℕ)) (t : List ℕ) (low agreed : ℕ) (b : Bracke
           flip Equal r e h = cc
           flip Greater r e h = ap is_gt e
 
-  pub none-found : (0 < low → length t ≤ agreed → ⊥) → (low < length texts → length t ≤ agreement (head_at texts low) t → ⊥) → NoText texts (λ x. begins_with x t ≡ true)
-  none-found p q k l h = elim (apart_split k low) [
-    | inl s ↦ p (omega (arith, s)) (below-agrees k s h)
-    | inr r ↦ let a : low ≤ k = elim r [ inl e ↦ omega (arith, e) | inr s ↦ omega (arith, s) ] in q (omega (arith, a, l)) (above-agrees k a l h)
+  -- where the texts beside the end of the search agree with less than the path and a slash, none begins with these
+  pub none-below : (most : ℕ) → most < length t → AgreeUpTo texts t low low most → NoText texts (λ x. begins_with x t ≡ true)
+  none-below most short few k l h = elim (apart_split k low) [
+    | inl s ↦ let last = low - 1 in let e : last + 1 ≡ low = omega (arith, s) in omega (arith, below-agrees k s h, (b.below last e).1, few.below last e, short)
+    | inr r ↦
+        let a : low ≤ k = elim r [ inl e ↦ omega (arith, e) | inr s ↦ omega (arith, s) ] in
+        omega (arith, above-agrees k a l h, few.above (omega (arith, a, l)), short)
   ]
 
 -- ---- from link to link

@@ -4,3 +4,4 @@ pub mod Groups
 pub mod Stems
 pub mod Tables
 pub mod PathTables
+pub mod Looks

@@ -1,7 +1,7 @@
 -- How stems and the path of a directory lead to one another.
-use Rattle.std.specs.Prelude.{◌≡◌, ℕ, ◌<◌, Bool, true, ◌&&◌, ◌||◌, List, [], ◌∷◌, ◌++◌, Option, length, get_or, nat_lt, ◌==◌, bytes_eq, IsTrue, IsFalse}
+use Rattle.std.specs.Prelude.{◌≡◌, ℕ, ◌<◌, Bool, true, ◌&&◌, ◌||◌, List, [], ◌∷◌, ◌++◌, length, get_or, nat_lt, ◌==◌, bytes_eq}
 use Rattle.pathspec_glob.specs.Bytes.{slash, fold_case, begins_with}
-use Rattle.pathspec_heads.specs.Heads.{head_at, IsRising, IsLastFront}
+use Rattle.pathspec_heads.specs.Heads.{head_at}
 
 -- the path and a slash, in lower case where case doesn't count
 abbrev pub with_slash : Bool → List ℕ → List ℕ
@@ -30,13 +30,6 @@ SomeText texts P = (k : ℕ) × (k < length texts) × P (head_at texts k)
 
 abbrev pub NoText : List (List ℕ) → (List ℕ → Type 0) → Type 0
 NoText texts P = (k : ℕ) → k < length texts → ¬ (P (head_at texts k))
-
--- what a search for a text tells of stems in byte order: whether one begins with the text, and the last one that begins it
-pub record IsFound (stems : List (List ℕ)) (text : List ℕ) (below : Bool) (deepest : Option ℕ) : Type 0 where
-  pub yes : IsTrue below → SomeText stems (λ stem. begins_with stem text ≡ true)
-  pub no : IsFalse below → NoText stems (λ stem. begins_with stem text ≡ true)
-  pub last : IsLastFront stems (length stems) text deepest
-  pub rising : IsRising stems
 
 -- the text is shorter than this, and a slash stands in the path where it ends
 abbrev pub is_boundary : List ℕ → ℕ → List ℕ → Bool

@@ -3,6 +3,7 @@ ghost use Rattle.std.specs.Prelude.{◌≡◌, ◌⊎◌, ℕ, ◌+◌, ◌-◌,
 ghost use Rattle.pathspec_glob.specs.Bytes.{begins_with};
 ghost use Rattle.pathspec_glob.specs.Counts.{Counts};
 ghost use Rattle.pathspec_heads.specs.Agreement.{IsComparison};
+ghost use Rattle.pathspec_heads.specs.Looks.{AgreeUpTo};
 ghost use Rattle.pathspec_heads.specs.Heads.{head_at, IsRising, IsLinked, IsLastFront, IsChain, IsChainOf, Brackets};
 
 use crate::heads::{Comparison, Heads, Scratch, Texts};
@@ -79,6 +80,10 @@ pub fn narrowed(heads: &Texts, between: Between, index: usize, comparison: Compa
         → Brackets heads.now text between.low between.high between.agreed
         → IsComparison (head_at heads.now index) text comparison.agreed comparison.is_behind
         → Brackets heads.now text result.low result.high result.agreed }
+    ensures no_further { (text : List ℕ) → (most : ℕ) → comparison.agreed ≤ most
+        → IsComparison (head_at heads.now index) text comparison.agreed comparison.is_behind
+        → AgreeUpTo heads.now text between.low between.high most
+        → AgreeUpTo heads.now text result.low result.high most }
     ensures smaller { (result.high - result.low ≤ index - between.low)
         ⊎ (result.high - result.low ≤ between.high - (index + 1)) }
 {
@@ -113,26 +118,44 @@ pub fn narrowed(heads: &Texts, between: Between, index: usize, comparison: Compa
     }
 }
 
-/// The index after that of the last head that isn't behind the text. It looks at the head compared last first, then beside
-/// it, and then halves what is left.
-fn sought(heads: &Heads, text: &[u8], scratch: &mut Scratch) -> PartitionPoint
-    requires { IsRising heads.now }
+/// Compares the head at the index with the text, and gives what is left to search.
+#[inline(always)]
+fn looked(
+    heads: &Heads,
+    text: &[u8],
+    between: Between,
+    index: usize,
+    scratch: &mut Scratch,
+) -> Between
+    requires rising { IsRising heads.now }
+    requires index { (between.low ≤ index) × (index < between.high) }
+    requires so_far { Brackets heads.now text.now between.low between.high between.agreed }
+    ensures so_far { Brackets heads.now text.now result.low result.high result.agreed }
+    ensures counted { Counts scratch.old 1 scratch.new }
+    ensures smaller { (result.high - result.low ≤ index - between.low)
+        ⊎ (result.high - result.low ≤ between.high - (index + 1)) }
+{
+    let comparison = heads.compare(index, text, scratch);
+    narrowed(heads.texts(), between, index, comparison)
+}
+
+/// The index after that of the last head that isn't behind the text, after a first look. It looks beside the head compared
+/// last, and then halves what is left; the first look is counted with its own.
+fn sought(heads: &Heads, text: &[u8], left: Between, scratch: &mut Scratch) -> PartitionPoint
+    requires rising { IsRising heads.now }
+    requires so_far { Brackets heads.now text.now left.low left.high left.agreed }
     ensures found { Brackets heads.now text.now result.low result.low result.agreed }
-    ensures counted { Counts scratch.old result.compared scratch.new }
+    ensures counted { (before : ℕ) → Counts before 1 scratch.old
+        → Counts before result.compared scratch.new }
     ensures cost { (b : ℕ) → length heads.now < 2 ^ b → result.compared ≤ b + 2 }
-    ensures asked { 0 < length heads.now → 1 ≤ result.compared }
+    ensures asked { 1 ≤ result.compared }
 {
     let hint = scratch.last;
-    let mut between = Between {
-        low: 0,
-        high: heads.texts().len(),
-        agreed: 0,
-    };
-    let mut compared = 0;
+    let mut between = left;
+    let mut compared = 1;
     while between.low < between.high {
         let index = next_look(between.low, between.high, hint, compared);
-        let comparison = heads.compare(index, text, scratch);
-        between = narrowed(heads.texts(), between, index, comparison);
+        between = looked(heads, text, between, index, scratch);
         compared += 1;
     }
     PartitionPoint {
@@ -240,22 +263,77 @@ impl Chains {
         ensures cost { (b : ℕ) → length self.now < 2 ^ b → result.compared ≤ b + 2 }
         ensures asked { 0 < length self.now → 1 ≤ result.compared }
     {
-        if self.links.len() == 1 {
-            return only_head(&self.heads, text, scratch);
+        if self.links.len() > 1 {
+            return self.search(text, scratch);
         }
-        let point = sought(&self.heads, text, scratch);
-        let compared = point.compared as u128;
-        if point.low == 0 {
+        if self.links.is_empty() {
             return Deepest {
                 head: None,
-                compared,
+                compared: 0,
             };
         }
-        let head = front_of(self.heads.texts(), &self.links, point.low - 1, point.agreed);
-        Deepest { head, compared }
+        only_head(&self.heads, text, scratch)
+    }
+
+    // In line too, so that a match makes no call where the first look ends the search.
+    /// The same by a search, also of one head. It looks at the head compared last first.
+    #[inline(always)]
+    fn search(&self, text: &[u8], scratch: &mut Scratch) -> Deepest
+        requires { 0 < length self.now }
+        ensures found { IsLastFront self.now (length self.now) text.now result.head }
+        ensures counted { Counts scratch.old result.compared scratch.new }
+        ensures cost { (b : ℕ) → length self.now < 2 ^ b → result.compared ≤ b + 2 }
+        ensures asked { 1 ≤ result.compared }
+    {
+        let all = Between {
+            low: 0,
+            high: self.links.len(),
+            agreed: 0,
+        };
+        let index = next_look(0, all.high, scratch.last, 0);
+        let left = looked(&self.heads, text, all, index, scratch);
+        if left.low < left.high {
+            return self.search_on(text, left, scratch);
+        }
+        Deepest {
+            head: self.last_front(left.low, left.agreed),
+            compared: 1,
+        }
+    }
+
+    /// The same after a first look, which is counted too.
+    #[inline(never)]
+    fn search_on(&self, text: &[u8], left: Between, scratch: &mut Scratch) -> Deepest
+        requires { Brackets self.now text.now left.low left.high left.agreed }
+        ensures found { IsLastFront self.now (length self.now) text.now result.head }
+        ensures counted { (before : ℕ) → Counts before 1 scratch.old
+            → Counts before result.compared scratch.new }
+        ensures cost { (b : ℕ) → length self.now < 2 ^ b → result.compared ≤ b + 2 }
+        ensures asked { 1 ≤ result.compared }
+    {
+        let point = sought(&self.heads, text, left, scratch);
+        Deepest {
+            head: self.last_front(point.low, point.agreed),
+            compared: point.compared as u128,
+        }
+    }
+
+    /// The last head that begins a text, where the search for the text ended here.
+    #[inline(always)]
+    fn last_front(&self, low: usize, agreed: usize) -> Option<usize>
+        requires { low ≤ length self.now }
+        ensures { (text : List ℕ) → Brackets self.now text low low agreed
+            → IsLastFront self.now (length self.now) text result }
+    {
+        let Chains { heads, links } = self;
+        if low == 0 {
+            return None;
+        }
+        front_of(heads.texts(), links, low - 1, agreed)
     }
 
     /// The last head before the one at the index that begins it.
+    #[inline(always)]
     pub fn link(&self, index: usize) -> Option<usize>
         requires { index < length self.now }
         ensures { IsLastFront self.now index (head_at self.now index) result }

@@ -257,6 +257,7 @@ impl StemTexts {
     }
 
     /// How one of them compares with a path and a slash, in lower case where case doesn't count.
+    #[inline(always)]
     pub fn compare_with_slash(&self, index: usize, path: &[u8], ignore_case: bool) -> Comparison
         requires { index < length self.now }
         ensures agreed { result.agreed
@@ -269,6 +270,7 @@ impl StemTexts {
 }
 
 /// How a stem compares with a path and a slash, in lower case where case doesn't count.
+#[inline(always)]
 fn compared_with_slash(stem: &[u8], path: &[u8], ignore_case: bool) -> Comparison
     ensures agreed { result.agreed ≡ agreement stem.now (with_slash ignore_case path.now) }
     ensures behind { result.is_behind ≡ is_behind stem.now (with_slash ignore_case path.now) }
@@ -312,19 +314,29 @@ fn eight_bytes_at(text: &[u8], at: usize) -> u64
     ])
 }
 
-/// Bytes in which two texts agree, eight at a time: all of them, but for less than eight where a text ends.
+/// Bytes in which two texts agree: all of them, but none where a text is shorter than eight. It looks at eight at a time,
+/// and in the end at the last eight of the shorter text.
 fn agreed_by_eights(head: &[u8], text: &[u8]) -> usize
     ensures { result ≤ agreement head.now text.now }
 {
+    let shorter = head.len().min(text.len());
+    if shorter < 8 {
+        return 0;
+    }
+    let last = shorter - 8;
     let mut at = 0;
-    while head.len() - at >= 8 && text.len() - at >= 8 {
+    while at < last {
         let apart = eight_bytes_at(head, at) ^ eight_bytes_at(text, at);
         if apart != 0 {
             return at + apart.trailing_zeros() as usize / 8;
         }
         at += 8;
     }
-    at
+    let apart = eight_bytes_at(head, last) ^ eight_bytes_at(text, last);
+    if apart != 0 {
+        return last + apart.trailing_zeros() as usize / 8;
+    }
+    shorter
 }
 
 /// Bytes in which a stem agrees with a path and a slash: eight at a time where case counts, and else none.

@@ -150,8 +150,8 @@ impl PathTable {
     /// directory where one is wanted, or lies below it; without case where the path's spec has none.
     ///
     /// The paths stand in four lists: with case and without, those that want a directory, and the others. In each it
-    /// compares at most as many paths with this one as their count has binary digits, and three, and takes a link for each
-    /// path that begins it. It takes no memory.
+    /// compares at most as many paths with this one as their count has binary digits, and takes a link for each path that
+    /// begins it. It takes no memory.
     pub fn takes(&self, path: &[u8], is_dir: bool) -> bool
         ensures { (paths : List PathParts) → IsPathTableOf paths self.now
             → result ≡ list_any (λ p. path_takes p path.now is_dir) paths }

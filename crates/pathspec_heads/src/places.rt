@@ -65,8 +65,30 @@ impl Model for PlacesByHead {
 /// Up to so many numbers are gone through one by one, which takes less than halves of them do.
 const FEW: usize = 8;
 
+// In line, since most lists have one number.
 /// The least number in an ascending list from one on.
+#[inline(always)]
 fn next_in(places: &[usize], from: usize) -> Option<usize>
+    requires { IsNonDecreasing places.now }
+    ensures { IsLeastFrom (Contains places.now) from result }
+{
+    if places.len() == 1 {
+        return next_of_one(places[0], from);
+    }
+    next_of_any(places, from)
+}
+
+/// The number, where it isn't below another.
+#[inline(always)]
+fn next_of_one(place: usize, from: usize) -> Option<usize>
+    ensures { IsLeastFrom (λ p. p ≡ place) from result }
+{
+    if place >= from { Some(place) } else { None }
+}
+
+/// The same of any list.
+#[inline(never)]
+fn next_of_any(places: &[usize], from: usize) -> Option<usize>
     requires { IsNonDecreasing places.now }
     ensures { IsLeastFrom (Contains places.now) from result }
 {
@@ -161,6 +183,7 @@ impl GroupsByHead {
     }
 
     /// The least place from one on that has this head.
+    #[inline(always)]
     fn next_in_group(&self, head: usize, from: usize) -> Option<usize>
         requires { head < length self.now.heads }
         ensures { IsLeastFrom (IsInGroup self.now.starts self.now.order head) from result }
@@ -169,8 +192,23 @@ impl GroupsByHead {
         next_in(&self.order[self.starts[head]..end], from)
     }
 
+    // In line, since no other head begins most heads.
     /// The least place from one on whose head begins this one.
+    #[inline(always)]
     fn next_place(&self, head: usize, from: usize) -> Option<usize>
+        requires { head < length self.now.heads }
+        ensures { IsLeastFrom (IsInChain self.now.heads self.now.starts self.now.order head)
+            from result }
+    {
+        match self.chains.link(head) {
+            None => self.next_in_group(head, from),
+            Some(_) => self.next_in_chain(head, from),
+        }
+    }
+
+    /// The same of any head, link by link.
+    #[inline(never)]
+    fn next_in_chain(&self, head: usize, from: usize) -> Option<usize>
         requires { head < length self.now.heads }
         ensures { IsLeastFrom (IsInChain self.now.heads self.now.starts self.now.order head)
             from result }

@@ -1,10 +1,10 @@
 //! Stems in byte order, and whether a directory's path and one of them lead to one another.
-ghost use Rattle.std.specs.Prelude.{◌≡◌, ◌&&◌, true, ℕ, ◌+◌, ◌<◌, ◌≤◌, List, length, map, IfOk, IsTrue, IsFalse};
+ghost use Rattle.std.specs.Prelude.{◌≡◌, ◌&&◌, ◌⊎◌, true, ℕ, ◌+◌, ◌-◌, ◌<◌, ◌≤◌, List, length, map, None, IfOk, IfSome, IsTrue, IsFalse};
 ghost use Rattle.std.specs.List.{list_any};
 ghost use Rattle.pathspec_glob.specs.Bytes.{fold_case, begins_with, is_empty};
-ghost use Rattle.pathspec_heads.specs.Agreement.{agreement};
-ghost use Rattle.pathspec_heads.specs.Heads.{head_at, Brackets, IsRising};
-ghost use Rattle.pathspec_heads.specs.Stems.{with_slash, leads_to, lies_below, lies_at_or_below, HasSameTexts, SomeText, NoText, IsFound, IsBoundary, is_boundary};
+ghost use Rattle.pathspec_heads.specs.Heads.{head_at, Brackets, IsLastFront, IsRising};
+ghost use Rattle.pathspec_heads.specs.Looks.{AgreeUpTo};
+ghost use Rattle.pathspec_heads.specs.Stems.{with_slash, leads_to, lies_below, lies_at_or_below, HasSameTexts, SomeText, NoText, IsBoundary, is_boundary};
 
 use crate::chains::{Between, front_of, linked, narrowed, next_look};
 use crate::groups::{grouped, sorted};
@@ -37,18 +37,8 @@ struct PartitionPoint {
     agreed: usize,
 }
 
-/// What was found for a path and a slash.
-#[derive(Clone, Copy)]
-struct Found {
-    /// Whether a stem begins with them.
-    below: bool,
-    /// The last stem that begins them.
-    deepest: Option<usize>,
-}
-
-/// The index after that of the last text that isn't behind the path and a slash. It looks at the hint, then beside it, and then
-/// halves what is left.
-fn sought(texts: &StemTexts, path: &[u8], ignore_case: bool, hint: usize) -> PartitionPoint
+/// The index after that of the last text that isn't behind the path and a slash. It halves what is left.
+fn sought(texts: &StemTexts, path: &[u8], ignore_case: bool) -> PartitionPoint
     requires { IsRising texts.now }
     ensures { Brackets texts.now (with_slash ignore_case path.now)
         result.low result.low result.agreed }
@@ -58,12 +48,10 @@ fn sought(texts: &StemTexts, path: &[u8], ignore_case: bool, hint: usize) -> Par
         high: texts.texts().len(),
         agreed: 0,
     };
-    let mut looks: usize = 0;
     while between.low < between.high {
-        let index = next_look(between.low, between.high, hint, looks);
+        let index = between.low + (between.high - between.low) / 2;
         let comparison = texts.compare_with_slash(index, path, ignore_case);
         between = narrowed(texts.texts(), between, index, comparison);
-        looks = looks.saturating_add(1);
     }
     PartitionPoint {
         low: between.low,
@@ -86,36 +74,6 @@ impl Stems {
         Ok(Stems { texts, links })
     }
 
-    /// Whether a stem lies below the path, where the search for the path and a slash ended here.
-    fn has_below(&self, path: &[u8], ignore_case: bool, point: PartitionPoint) -> bool
-        requires { Brackets self.now (with_slash ignore_case path.now)
-            point.low point.low point.agreed }
-        ensures yes { IsTrue result → SomeText self.now
-            (λ stem. begins_with stem (with_slash ignore_case path.now) ≡ true) }
-        ensures no { IsFalse result → NoText self.now
-            (λ stem. begins_with stem (with_slash ignore_case path.now) ≡ true) }
-    {
-        if point.low > 0 && point.agreed > path.len() {
-            return true;
-        }
-        if point.low == self.texts.texts().len() || self.agrees_no_further(point) {
-            return false;
-        }
-        let next = self.texts.compare_with_slash(point.low, path, ignore_case);
-        next.agreed > path.len()
-    }
-
-    /// Whether the stem before the end of a search shares more or fewer bytes with the next one than it agrees in with the text:
-    /// then the next one agrees with it in no more.
-    fn agrees_no_further(&self, point: PartitionPoint) -> bool
-        requires { point.low < length self.now }
-        ensures before { IsTrue result → 0 < point.low }
-        ensures next { (text : List ℕ) → Brackets self.now text point.low point.low point.agreed
-            → IsTrue result → agreement (head_at self.now point.low) text ≤ point.agreed }
-    {
-        point.low > 0 && self.texts.texts().shared_len(point.low - 1) != point.agreed
-    }
-
     /// Whether there are none.
     #[inline(always)]
     pub(crate) fn is_empty(&self) -> bool
@@ -124,39 +82,29 @@ impl Stems {
         self.links.is_empty()
     }
 
-    // In line, since most lists of a table are empty.
-    /// Whether a stem lies below the path, and the last stem that begins the path and a slash.
-    #[inline(always)]
-    fn find(&self, path: &[u8], ignore_case: bool, hint: &mut usize) -> Found
-        ensures { IsFound self.now (with_slash ignore_case path.now)
-            result.below result.deepest }
+    /// The last stem that begins the path and a slash.
+    fn deepest(&self, path: &[u8], ignore_case: bool) -> Option<usize>
+        ensures last { IsLastFront self.now (length self.now)
+            (with_slash ignore_case path.now) result }
+        ensures rising { IsRising self.now }
     {
-        if self.is_empty() {
-            return Found {
-                below: false,
-                deepest: None,
-            };
-        }
-        self.search(path, ignore_case, hint)
+        let point = sought(&self.texts, path, ignore_case);
+        self.last_front(point.low, point.agreed)
     }
 
-    /// The same by a search, also where there are no stems.
-    #[inline(never)]
-    fn search(&self, path: &[u8], ignore_case: bool, hint: &mut usize) -> Found
-        ensures { IsFound self.now (with_slash ignore_case path.now)
-            result.below result.deepest }
+    /// The last stem that begins a text, where the search for the text ended here.
+    #[inline(always)]
+    fn last_front(&self, low: usize, agreed: usize) -> Option<usize>
+        requires { low ≤ length self.now }
+        ensures last { (text : List ℕ) → Brackets self.now text low low agreed
+            → IsLastFront self.now (length self.now) text result }
+        ensures rising { IsRising self.now }
     {
-        let point = sought(&self.texts, path, ignore_case, *hint);
-        *hint = point.low;
-        let below = self.has_below(path, ignore_case, point);
-        if point.low == 0 {
-            return Found {
-                below,
-                deepest: None,
-            };
+        let Stems { texts, links } = self;
+        if low == 0 {
+            return None;
         }
-        let deepest = front_of(self.texts.texts(), &self.links, point.low - 1, point.agreed);
-        Found { below, deepest }
+        front_of(texts.texts(), links, low - 1, agreed)
     }
 
     /// Whether a stem is shorter than this, and a slash stands in the path and a slash where it ends.
@@ -189,21 +137,132 @@ impl Stems {
         true
     }
 
+    /// What is left to search after a look at the stem at the index; None where that stem lies below the path.
+    #[inline(always)]
+    fn looked(
+        &self,
+        path: &[u8],
+        ignore_case: bool,
+        between: Between,
+        index: usize,
+    ) -> Option<Between>
+        requires index { (between.low ≤ index) × (index < between.high) }
+        requires so_far { Brackets self.now (with_slash ignore_case path.now)
+            between.low between.high between.agreed }
+        requires no_further { AgreeUpTo self.now (with_slash ignore_case path.now)
+            between.low between.high (length path.now) }
+        ensures below { result ≡ None → SomeText self.now
+            (λ stem. begins_with stem (with_slash ignore_case path.now) ≡ true) }
+        ensures so_far { IfSome result (λ left. Brackets self.now
+            (with_slash ignore_case path.now) left.low left.high left.agreed) }
+        ensures no_further { IfSome result (λ left. AgreeUpTo self.now
+            (with_slash ignore_case path.now) left.low left.high (length path.now)) }
+        ensures smaller { IfSome result (λ left.
+            (left.high - left.low ≤ index - between.low)
+            ⊎ (left.high - left.low ≤ between.high - (index + 1))) }
+    {
+        let comparison = self.texts.compare_with_slash(index, path, ignore_case);
+        if comparison.agreed > path.len() {
+            return None;
+        }
+        Some(narrowed(self.texts.texts(), between, index, comparison))
+    }
+
+    // In line, since most lists of a table are empty.
     /// Whether a stem and the path lead to one another: one lies below the other or they are one, or the path goes on
     /// after a stem that a wildcard follows, as it does all of them or none.
     ///
     /// The hint is where the search looks first, and becomes where it ended: any number will do. It compares at most as many
-    /// stems with the path as their count has binary digits, and three: where paths come in byte order often one or two. Then
-    /// it takes a link for each stem that begins the path. It takes no memory.
+    /// stems with the path as their count has binary digits, and two: where paths come in byte order often one. Then it
+    /// takes a link for each stem that begins the path. It takes no memory.
+    #[inline(always)]
     pub fn leads_to(&self, path: &[u8], ignore_case: bool, wild: bool, hint: &mut usize) -> bool
         ensures { result ≡ list_any (λ stem.
             leads_to stem wild (fold_case ignore_case path.now)) self.now }
     {
-        let found = self.find(path, ignore_case, hint);
-        if found.below {
-            return true;
+        if self.is_empty() {
+            return false;
         }
-        match found.deepest {
+        self.search(path, ignore_case, wild, hint)
+    }
+
+    /// The same by a search. It looks at the stem at the hint first, which mostly tells.
+    #[inline(never)]
+    fn search(&self, path: &[u8], ignore_case: bool, wild: bool, hint: &mut usize) -> bool
+        requires { 0 < length self.now }
+        ensures { result ≡ list_any (λ stem.
+            leads_to stem wild (fold_case ignore_case path.now)) self.now }
+    {
+        let all = Between {
+            low: 0,
+            high: self.links.len(),
+            agreed: 0,
+        };
+        let index = next_look(0, all.high, *hint, 0);
+        match self.looked(path, ignore_case, all, index) {
+            Some(left) if left.low < left.high => {
+                self.search_on(path, ignore_case, wild, left, hint)
+            }
+            Some(left) => {
+                *hint = left.low;
+                self.leads_above(path, ignore_case, wild, left.low, left.agreed)
+            }
+            None => {
+                *hint = index;
+                true
+            }
+        }
+    }
+
+    /// The same after a first look, at a stem that doesn't lie below the path.
+    #[inline(never)]
+    fn search_on(
+        &self,
+        path: &[u8],
+        ignore_case: bool,
+        wild: bool,
+        left: Between,
+        hint: &mut usize,
+    ) -> bool
+        requires so_far { Brackets self.now (with_slash ignore_case path.now)
+            left.low left.high left.agreed }
+        requires no_further { AgreeUpTo self.now (with_slash ignore_case path.now)
+            left.low left.high (length path.now) }
+        ensures { result ≡ list_any (λ stem.
+            leads_to stem wild (fold_case ignore_case path.now)) self.now }
+    {
+        let mut between = left;
+        let mut looks: usize = 1;
+        while between.low < between.high {
+            let index = next_look(between.low, between.high, *hint, looks);
+            let Some(left) = self.looked(path, ignore_case, between, index) else {
+                *hint = index;
+                return true;
+            };
+            between = left;
+            looks = looks.saturating_add(1);
+        }
+        *hint = between.low;
+        self.leads_above(path, ignore_case, wild, between.low, between.agreed)
+    }
+
+    /// Whether a stem that begins the path and a slash and the path lead to one another, where the search for them ended
+    /// here, and no stem lies below the path.
+    fn leads_above(
+        &self,
+        path: &[u8],
+        ignore_case: bool,
+        wild: bool,
+        low: usize,
+        agreed: usize,
+    ) -> bool
+        requires so_far { Brackets self.now (with_slash ignore_case path.now) low low agreed }
+        requires no_further { AgreeUpTo self.now (with_slash ignore_case path.now)
+            low low (length path.now) }
+        ensures { result ≡ list_any (λ stem.
+            leads_to stem wild (fold_case ignore_case path.now)) self.now }
+    {
+        match self.last_front(low, agreed) {
             Some(stem) => wild || self.has_boundary(stem, path, ignore_case, path.len() + 1),
             None => false,
         }
@@ -216,7 +275,10 @@ impl Stems {
             begins_with (with_slash ignore_case path.now) stem
             && is_boundary (with_slash ignore_case path.now) limit stem) self.now }
     {
-        match self.find(path, ignore_case, &mut 0).deepest {
+        if self.is_empty() {
+            return false;
+        }
+        match self.deepest(path, ignore_case) {
             Some(stem) => self.has_boundary(stem, path, ignore_case, limit),
             None => false,
         }

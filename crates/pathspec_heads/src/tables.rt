@@ -185,6 +185,7 @@ impl StemLists {
     }
 
     /// Whether a stem that wants a directory, and that no wildcard follows, reaches the path.
+    #[inline(always)]
     fn directory_reaches(
         &self,
         path: &[u8],
@@ -201,7 +202,9 @@ impl StemLists {
         }
     }
 
+    // In line, so that a list without stems costs one test.
     /// Whether one of the stems reaches the path.
+    #[inline(always)]
     fn reach(
         &self,
         path: &[u8],
@@ -255,7 +258,7 @@ impl StemTable {
     ///
     /// The stems stand in six lists: with case and without, those that a wildcard follows, those that want a directory,
     /// and the others. In each it compares at most as many stems with the path as their count has binary digits, and
-    /// three, and takes a link for each stem that begins the path. It takes no memory.
+    /// two, and takes a link for each stem that begins the path. It takes no memory.
     pub fn reaches(&self, path: &[u8], is_dir: Option<bool>) -> bool
         ensures { (stems : List StemParts) → IsTableOf stems self.now
             → result ≡ list_any (λ stem. stem_reaches stem path.now is_dir) stems }
@@ -263,8 +266,8 @@ impl StemTable {
         self.reaches_with_hints(path, is_dir, &mut StemHints::new())
     }
 
-    /// The same, with hints of the caller's. Where paths come in byte order with the same hints, it often compares one or two
-    /// stems in each list.
+    /// The same, with hints of the caller's. Where paths come in byte order with the same hints, it often compares one stem
+    /// in each list.
     pub fn reaches_with_hints(
         &self,
         path: &[u8],

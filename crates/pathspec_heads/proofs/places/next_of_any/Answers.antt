@@ -1,7 +1,7 @@
 use Rattle.std.proofs.Common.{rules, ltb}
 use Rattle.std.proofs.lemmas.List.Sorted.{IsPartitionPoint-from_clause, IsPartitionedBy-ltb}
 use Rattle.pathspec_heads.proofs.NextProofs.{next-found, next-none}
-use Rattle.pathspec_heads.proofs.places.next_in.Goals as goal
+use Rattle.pathspec_heads.proofs.places.next_of_any.Goals as goal
 
 pub returns-then-at-places : goal.returns-then-at-places
 returns-then-at-places c =

@@ -3,7 +3,7 @@ use Rattle.pathspec_glob.specs.Bytes.{begins_with}
 use Rattle.pathspec_heads.specs.Heads.{head_at}
 use Rattle.pathspec_heads.specs.Groups.{IsLeastFrom}
 use Rattle.pathspec_heads.proofs.NextProofs.{IsInChainFrom}
-use Rattle.pathspec_heads.proofs.places.GroupsByHead.next_place.Given as goal
+use Rattle.pathspec_heads.proofs.places.GroupsByHead.next_in_chain.Given as goal
 
 abbrev pub invariant-loop-link : goal.invariant-loop-link
 invariant-loop-link l = record {
