@@ -4,6 +4,7 @@ use Rattle.std.specs.Borrow.{Bor}
 use Rattle.std.specs.Option.{option_copied}
 use Rattle.std.specs.List.{filter, reduce, common_prefix_len}
 use Rattle.std.proofs.lemmas.List.Sums.{common_prefix_len-le}
+use Rattle.pathspec_pattern.proofs.ResultProofs.{bind_ok}
 use Rattle.pathspec_pattern.specs.declared.error.Error.{Error}
 use Rattle.pathspec_pattern.specs.declared.pattern.Pattern.{Pattern}
 use Rattle.gix_pathspec.specs.declared.search.init.BuildError.{BuildError}
@@ -11,12 +12,13 @@ use Rattle.gix_pathspec.specs.declared.search.init.BuildError.TheVariants as tol
 use Rattle.gix_pathspec.specs.Results.{◌>>=◌}
 use Rattle.gix_pathspec.specs.Faults.{Fault}
 use Rattle.gix_pathspec.specs.Errors.{fault_of, IsMemoryOr}
-use Rattle.gix_pathspec.specs.Specs.{Spec, is_exclude, is_include}
+use Rattle.gix_pathspec.specs.Specs.{Spec, is_exclude, is_include, must_be_dir}
+use Rattle.gix_pathspec.specs.Reading.{literal_spec}
 use Rattle.gix_pathspec.specs.Patterns.{pattern_spec}
 use Rattle.gix_pathspec.specs.NormalForm.{normal_form}
 use Rattle.gix_pathspec.specs.Prefixes.{heads, common_front, common_prefix}
-use Rattle.gix_pathspec.specs.Search.{Numbered, at_number, numbered_from, default_to_prefix, in_search_order, search_of}
-use Rattle.gix_pathspec.specs.Building.{numbered_normal_form, TellsFault, IsErrorAt}
+use Rattle.gix_pathspec.specs.Search.{Numbered, at_number, numbered_from, in_search_order, search_of}
+use Rattle.gix_pathspec.specs.Building.{numbered_normal_form, with_next, or_prefix, search_of_numbered, AreNumbered, TellsFault, IsErrorAt}
 
 -- ---- faults
 
@@ -50,9 +52,11 @@ onto-snoc ys y (Err e) = refl
 abbrev numbered : ℕ → Spec → Numbered
 numbered number s = record { number = number; spec = s }
 
--- a spec without a normal form has no number
-pub one-refused : (number : ℕ) (r : Result Spec (ℕ × Fault)) (fault : ℕ × Fault) → r ≡ Err fault → (r >>= λ s. Ok (numbered number s)) ≡ Err fault
-one-refused number r fault h = rw h refl
+-- a spec without a normal form isn't added
+pub next-refused : (prefix root : List ℕ) (s : Spec) (ns : List Numbered) (k : ℕ) (fault : ℕ × Fault) → k ≡ length ns → at_number k (normal_form prefix root s) ≡ Err fault → with_next prefix root s ns ≡ Err fault
+next-refused prefix root s ns k fault e h =
+    let refused : at_number (length ns) (normal_form prefix root s) ≡ Err fault = subst (λ (j : ℕ). at_number j (normal_form prefix root s) ≡ Err fault) e h in
+    ap (λ r. (r >>= λ normal. Ok (numbered (length ns) normal)) >>= λ n. Ok (ns ++ n ∷ [])) refused
 
 one-more : (number : ℕ) (r : Result Spec (ℕ × Fault)) (ns : List Numbered) (others : Result (List Numbered) (ℕ × Fault)) (n : Numbered) → (r >>= λ s. Ok (numbered number s)) ≡ Ok n
     → onto ns (r >>= λ s. others >>= λ ms. Ok (numbered number s ∷ ms)) ≡ onto (ns ++ n ∷ []) others
@@ -66,21 +70,71 @@ one-fails : (number : ℕ) (r : Result Spec (ℕ × Fault)) (ns : List Numbered)
 one-fails number (Ok s) ns others fault e = cc
 one-fails number (Err f) ns others fault e = cc
 
+-- a number more is a value of the next normal form
+next-ok : (prefix root : List ℕ) (s : Spec) (ns more : List Numbered) → with_next prefix root s ns ≡ Ok more → (n : Numbered) × (numbered_normal_form (length ns) prefix root s ≡ Ok n) × (more ≡ ns ++ n ∷ [])
+next-ok prefix root s ns more h =
+    let r = bind_ok (numbered_normal_form (length ns) prefix root s) _ more h in
+    let same : more ≡ ns ++ r.0 ∷ [] = cc in
+    (r.0, r.1, same)
+
+-- the fault is that of the next spec
+next-fails : (ns : List Numbered) (r : Result Numbered (ℕ × Fault)) (fault : ℕ × Fault) → (r >>= λ n. Ok (ns ++ n ∷ [])) ≡ Err fault → r ≡ Err fault
+next-fails ns (Ok n) fault h = cc
+next-fails ns (Err f) fault h = cc
+
 module _ (prefix root : List ℕ) (all : Result (List Numbered) (ℕ × Fault)) (ns : List Numbered) (items : List Pattern) (so_far : all ≡ onto ns (numbered_from (length ns) prefix root (map pattern_spec items))) where
   -- the next pattern gives a spec
-  pub number-more : (p : Pattern) (rest : List Pattern) (k : ℕ) (n : Numbered) (more : List Numbered) → items ≡ p ∷ rest → k ≡ length ns → numbered_normal_form k prefix root (pattern_spec p) ≡ Ok n → more ≡ ns ++ n ∷ []
-      → all ≡ onto more (numbered_from (length more) prefix root (map pattern_spec rest))
-  number-more p rest k n more i l s m =
-      let grown : length ns + 1 ≡ length more = omega (arith, length-append ns (n ∷ []), ap length m) in
-      let step = one-more (length ns) (at_number (length ns) (normal_form prefix root (pattern_spec p))) ns (numbered_from (length ns + 1) prefix root (map pattern_spec rest)) n
-      (subst (λ (j : ℕ). numbered_normal_form j prefix root (pattern_spec p) ≡ Ok n) l s) in
-      (rw i at so_far) ∙ (step ∙ (ap (λ xs. onto xs (numbered_from (length ns + 1) prefix root (map pattern_spec rest))) (sym m) ∙ ap (λ j. onto more (numbered_from j prefix root (map pattern_spec rest))) grown))
+  pub number-more : (p : Pattern) (rest : List Pattern) (more : List Numbered) → items ≡ p ∷ rest → with_next prefix root (pattern_spec p) ns ≡ Ok more → all ≡ onto more (numbered_from (length more) prefix root (map pattern_spec rest))
+  number-more p rest more i s =
+      let next = next-ok prefix root (pattern_spec p) ns more s in
+      let grown : length ns + 1 ≡ length more = omega (arith, length-append ns (next.0 ∷ []), ap length next.2) in
+      let step = one-more (length ns) (at_number (length ns) (normal_form prefix root (pattern_spec p))) ns (numbered_from (length ns + 1) prefix root (map pattern_spec rest)) next.0 next.1 in
+      (rw i at so_far) ∙ (step ∙ (ap (λ xs. onto xs (numbered_from (length ns + 1) prefix root (map pattern_spec rest))) (sym next.2) ∙ ap (λ j. onto more (numbered_from j prefix root (map pattern_spec rest))) grown))
 
   -- the next pattern is at fault
-  pub number-fails : (p : Pattern) (rest : List Pattern) (k : ℕ) (fault : ℕ × Fault) → items ≡ p ∷ rest → k ≡ length ns → numbered_normal_form k prefix root (pattern_spec p) ≡ Err fault → all ≡ Err fault
-  number-fails p rest k fault i l s =
+  pub number-fails : (p : Pattern) (rest : List Pattern) (fault : ℕ × Fault) → items ≡ p ∷ rest → with_next prefix root (pattern_spec p) ns ≡ Err fault → all ≡ Err fault
+  number-fails p rest fault i s =
       (rw i at so_far) ∙ one-fails (length ns) (at_number (length ns) (normal_form prefix root (pattern_spec p))) ns (numbered_from (length ns + 1) prefix root (map pattern_spec rest)) fault
-      (subst (λ (j : ℕ). numbered_normal_form j prefix root (pattern_spec p) ≡ Err fault) l s)
+      (next-fails ns (numbered_normal_form (length ns) prefix root (pattern_spec p)) fault s)
+
+-- the first spec
+first-number : (n : ℕ) (r : Result Spec (ℕ × Fault)) → (r >>= λ s. Ok (numbered n s ∷ [])) ≡ ((r >>= λ s. Ok (numbered n s)) >>= λ m. Ok (m ∷ []))
+first-number n (Ok s) = refl
+first-number n (Err fault) = refl
+
+-- a spec in front and one at the end
+both-ends : (ns : List Numbered) (n : Numbered) (last : Result Numbered (ℕ × Fault)) → ((last >>= λ m. Ok (ns ++ m ∷ [])) >>= λ ms. Ok (n ∷ ms)) ≡ (last >>= λ m. Ok ((n ∷ ns) ++ m ∷ []))
+both-ends ns n (Ok m) = refl
+both-ends ns n (Err fault) = refl
+
+-- one more spec at the end, where the first has the number n
+abbrev next_from : ℕ → List ℕ → List ℕ → Spec → List Numbered → Result (List Numbered) (ℕ × Fault)
+next_from n prefix root s ns = numbered_normal_form (n + length ns) prefix root s >>= λ m. Ok (ns ++ m ∷ [])
+
+next_from-cons : (n : ℕ) (prefix root : List ℕ) (s : Spec) (r : Result Spec (ℕ × Fault)) (others : Result (List Numbered) (ℕ × Fault))
+    → (r >>= λ x. (others >>= next_from (n + 1) prefix root s) >>= λ ms. Ok (numbered n x ∷ ms)) ≡ ((r >>= λ x. others >>= λ ms. Ok (numbered n x ∷ ms)) >>= next_from n prefix root s)
+next_from-cons n prefix root s (Ok x) (Ok ns) =
+    let same : (n + 1) + length ns ≡ n + length (numbered n x ∷ ns) = omega arith in
+    both-ends ns (numbered n x) (numbered_normal_form ((n + 1) + length ns) prefix root s) ∙ ap (λ k. numbered_normal_form k prefix root s >>= λ m. Ok ((numbered n x ∷ ns) ++ m ∷ [])) same
+next_from-cons n prefix root s (Ok x) (Err fault) = refl
+next_from-cons n prefix root s (Err fault) others = refl
+
+numbered_from-snoc : (n : ℕ) (prefix root : List ℕ) (specs : List Spec) (s : Spec) → numbered_from n prefix root (specs ++ s ∷ []) ≡ (numbered_from n prefix root specs >>= next_from n prefix root s)
+numbered_from-snoc n prefix root [] s =
+    let same : n ≡ n + length {A = Numbered} [] = omega arith in
+    first-number n (at_number n (normal_form prefix root s)) ∙ ap (λ k. numbered_normal_form k prefix root s >>= λ m. Ok (m ∷ [])) same
+numbered_from-snoc n prefix root (x ∷ specs) s =
+    ap (λ r. at_number n (normal_form prefix root x) >>= λ normal. r >>= λ others. Ok (numbered n normal ∷ others)) (numbered_from-snoc (n + 1) prefix root specs s)
+    ∙ next_from-cons n prefix root s (at_number n (normal_form prefix root x)) (numbered_from (n + 1) prefix root specs)
+
+-- numbers from 0 on
+next_from-zero : (prefix root : List ℕ) (s : Spec) (r : Result (List Numbered) (ℕ × Fault)) → (r >>= next_from 0 prefix root s) ≡ (r >>= with_next prefix root s)
+next_from-zero prefix root s (Ok ns) = let same : 0 + length ns ≡ length ns = omega arith in ap (λ k. numbered_normal_form k prefix root s >>= λ m. Ok (ns ++ m ∷ [])) same
+next_from-zero prefix root s (Err fault) = refl
+
+-- one more spec at the end
+pub numbered_with-next : (prefix root : List ℕ) (specs : List Spec) (s : Spec) → numbered_from 0 prefix root (specs ++ s ∷ []) ≡ (numbered_from 0 prefix root specs >>= with_next prefix root s)
+numbered_with-next prefix root specs s = numbered_from-snoc 0 prefix root specs s ∙ next_from-zero prefix root s (numbered_from 0 prefix root specs)
 
 -- ---- search order
 
@@ -88,20 +142,31 @@ module _ (prefix root : List ℕ) (all : Result (List Numbered) (ℕ × Fault)) 
 abbrev pub Splits : List Numbered → List Numbered → List Numbered → List Numbered → Type 0
 Splits all excludes includes rest = in_search_order all ≡ (excludes ++ filter (λ n. is_exclude n.spec) rest) ++ (includes ++ filter (λ n. is_include n.spec) rest)
 
--- the specs in search order, or the fault
-abbrev ordered : Result (List Numbered) (ℕ × Fault) → Result (List Numbered) (ℕ × Fault)
-ordered r = r >>= λ ns. Ok (in_search_order ns)
+-- where there is a first spec, the prefix isn't asked for
+search-cons : (prefix root : List ℕ) (n : ℕ) (r : Result Spec (ℕ × Fault)) (others : Result (List Numbered) (ℕ × Fault)) → ((r >>= λ s. others >>= λ ns. Ok (numbered n s ∷ ns)) >>= λ ns. Ok (in_search_order ns)) ≡ ((r >>= λ s. others >>= λ ns. Ok (numbered n s ∷ ns)) >>= search_of_numbered prefix root)
+search-cons prefix root n (Ok s) (Ok ns) = refl
+search-cons prefix root n (Ok s) (Err fault) = refl
+search-cons prefix root n (Err fault) others = refl
 
-module _ (prefix root : List ℕ) (given specs : List Spec) (e : specs ≡ default_to_prefix prefix given) where
-  -- a spec is at fault
-  pub search-fails : (fault : ℕ × Fault) → numbered_from 0 prefix root specs ≡ Err fault → search_of prefix root given ≡ Err fault
-  unfolding search_of
-  search-fails fault h = ap ordered (subst (λ (ss : List Spec). numbered_from 0 prefix root ss ≡ Err fault) e h)
+-- the search of specs is that of their normal forms
+pub search_of-numbered_first : (prefix root : List ℕ) (specs : List Spec) → search_of prefix root specs ≡ (numbered_from 0 prefix root specs >>= search_of_numbered prefix root)
+unfolding search_of
+search_of-numbered_first [] root [] = refl
+search_of-numbered_first (b ∷ prefix) root [] = ap (λ r. r >>= λ given. Ok (in_search_order given)) (numbered_with-next (b ∷ prefix) root [] (literal_spec must_be_dir []))
+search_of-numbered_first prefix root (s ∷ specs) = search-cons prefix root 0 (at_number 0 (normal_form prefix root s)) (numbered_from 1 prefix root specs)
 
-  -- none is
-  pub search-ordered : (ns search : List Numbered) → numbered_from 0 prefix root specs ≡ Ok ns → search ≡ in_search_order ns → search_of prefix root given ≡ Ok search
-  unfolding search_of
-  search-ordered ns search h s = ap ordered (subst (λ (ss : List Spec). numbered_from 0 prefix root ss ≡ Ok ns) e h) ∙ ap Ok (sym s)
+module _ (prefix root : List ℕ) (specs : List Spec) where
+  -- each spec has a normal form
+  pub search-normal : (ns : List Numbered) → numbered_from 0 prefix root specs ≡ Ok ns → search_of prefix root specs ≡ search_of_numbered prefix root ns
+  search-normal ns h = search_of-numbered_first prefix root specs ∙ ap (λ r. r >>= search_of_numbered prefix root) h
+
+  -- a spec has none
+  pub search-fails : (fault : ℕ × Fault) → numbered_from 0 prefix root specs ≡ Err fault → search_of prefix root specs ≡ Err fault
+  search-fails fault h = search_of-numbered_first prefix root specs ∙ ap (λ r. r >>= search_of_numbered prefix root) h
+
+-- the search of normal forms is one of specs
+pub search-given : (prefix root : List ℕ) (ns given search : List Numbered) (are : AreNumbered prefix root ns) → or_prefix prefix root ns ≡ Ok given → search ≡ in_search_order given → search_of prefix root are.0 ≡ Ok search
+search-given prefix root ns given search are g s = search-normal prefix root are.0 ns are.1 ∙ (rw g (ap Ok (sym s)))
 
 -- ---- the common prefix
 

@@ -6,7 +6,7 @@ use Rattle.gix_pathspec.specs.Results.{◌>>=◌}
 use Rattle.gix_pathspec.specs.Faults.{Fault}
 use Rattle.gix_pathspec.specs.Specs.{Spec}
 use Rattle.gix_pathspec.specs.Reading.{reading}
-use Rattle.gix_pathspec.specs.Search.{Numbered, at_number, search_of}
+use Rattle.gix_pathspec.specs.Search.{Numbered, at_number, numbered_from, search_of}
 
 -- The lines of a text. A line feed ends each, and the last may lack it; one carriage return directly before a line feed is no part of the line.
 abbrev pub spec_lines : List ℕ → List (List ℕ)
@@ -24,3 +24,7 @@ search_of_texts defaults prefix root texts = readings_from 0 defaults texts >>= 
 -- The search of the specs on the lines of a text, or the first fault with the number of its line, from 0.
 abbrev pub search_of_lines : Defaults → List ℕ → List ℕ → List ℕ → Result (List Numbered) (ℕ × Fault)
 search_of_lines defaults prefix root text = search_of_texts defaults prefix root (spec_lines text)
+
+-- the normal forms of the specs on the lines of a text, numbered from 0, or the first fault: of a line that says no spec, and then of a spec without a normal form
+abbrev pub numbered_of_lines : Defaults → List ℕ → List ℕ → List ℕ → Result (List Numbered) (ℕ × Fault)
+numbered_of_lines defaults prefix root text = readings_from 0 defaults (spec_lines text) >>= numbered_from 0 prefix root

@@ -5,15 +5,15 @@ ghost use Rattle.std.specs.Option.{option_map};
 ghost use Rattle.std.specs.Box.{box_value};
 ghost use Rattle.bstr.specs.BStr.{bstr_bytes};
 ghost use Rattle.bstr.specs.Owned.{bstring_bytes};
-ghost use Rattle.pathspec_parts.specs.Paths.{IsBytes, is_clean_prefix};
+ghost use Rattle.pathspec_parts.specs.Paths.{is_clean_prefix};
 ghost use Rattle.gix_pathspec.specs.Errors.{IsMemory};
 ghost use Rattle.gix_pathspec.specs.Patterns.{pattern_spec};
 ghost use Rattle.gix_pathspec.specs.NormalForm.{NormalFormIsNormal};
 ghost use Rattle.gix_pathspec.specs.Prefixes.{common_front, common_prefix};
-ghost use Rattle.gix_pathspec.specs.Search.{KeepsSpecs, IsFresh, specs_of, numbered_from, default_to_prefix, in_search_order, search_of, HoldsNormalForms};
+ghost use Rattle.gix_pathspec.specs.Search.{KeepsSpecs, IsFresh, specs_of, numbered_from, in_search_order, search_of, HoldsNormalForms};
 ghost use Rattle.gix_pathspec.specs.Effort.{ArePlacesOf, heads_in_order};
 ghost use Rattle.gix_pathspec.specs.Takers.{takers_of};
-ghost use Rattle.gix_pathspec.specs.Building.{prefix_bytes, TellsFault, Builds, IsErrorAt, numbered_normal_form};
+ghost use Rattle.gix_pathspec.specs.Building.{prefix_bytes, TellsFault, Builds, IsErrorAt, AreNumbered, AddsNext, with_next, or_prefix, search_of_numbered};
 ghost use Rattle.gix_pathspec.specs.Reach.{IsReachOf};
 ghost use Rattle.gix_pathspec.specs.Room.{Fits};
 ghost use Rattle.gix_pathspec.specs.SelectionLaws.{NoNilPrefix, SpecPathsAreBytes};
@@ -143,7 +143,7 @@ where
 }
 
 /// Makes a search of these patterns.
-pub(super) fn build(
+fn build(
     alloc: Global,
     patterns: Vec<Pattern>,
     prefix: BStr<'_>,
@@ -155,10 +155,29 @@ pub(super) fn build(
     ensures source { IfOk result (λ search. search.source ≡ None) }
     ensures effort { IfOk result (λ search. IsFresh search.counts) }
 {
-    let patterns = default_to_prefix(alloc, patterns, prefix)?;
-    let compiled = compile_all(alloc, patterns, prefix, root)?;
-    let specs = in_search_order(alloc, compiled)?;
-    Ok(of_ordered(alloc, specs, None)?)
+    let specs = compile_all(alloc, patterns, prefix, root)?;
+    of_compiled(alloc, specs, None, prefix, root)
+}
+
+/// Makes a search of specs that are ready for matching, or where there is none, of the prefix, if it isn't empty.
+pub(super) fn of_compiled(
+    alloc: Global,
+    specs: Vec<CompiledSpec>,
+    source: Option<BString>,
+    prefix: BStr<'_>,
+    root: BStr<'_>,
+) -> Result<Search, BuildError>
+    requires clean { IsTrue (is_clean_prefix (bstr_bytes prefix)) }
+    requires numbered { AreNumbered (bstr_bytes prefix) (bstr_bytes root) specs.items }
+    requires bytes { SpecPathsAreBytes (specs_of specs.items) }
+    ensures search { Builds (λ search. search.specs) (search_of_numbered (bstr_bytes prefix.entry)
+        (bstr_bytes root.entry) specs.items) result }
+    ensures source { IfOk result (λ search. search.source ≡ option_map bstring_bytes source) }
+    ensures effort { IfOk result (λ search. IsFresh search.counts) }
+{
+    let given = or_prefix(alloc, specs, prefix, root)?;
+    let ordered = in_search_order(alloc, given)?;
+    Ok(of_ordered(alloc, ordered, source)?)
 }
 
 /// The search of these specs, which stand in search order.
@@ -218,23 +237,27 @@ fn with_room(
     Ok((specs, scratch))
 }
 
-/// The patterns, or where there is none the prefix, if it isn't empty.
-fn default_to_prefix(
+/// The specs, or where there is none, the spec of the prefix, if it isn't empty.
+fn or_prefix(
     alloc: Global,
-    mut patterns: Vec<Pattern>,
+    mut specs: Vec<CompiledSpec>,
     prefix: BStr<'_>,
-) -> Result<Vec<Pattern>, BuildError>
-    ensures patterns { IfOk result (λ ps. map pattern_spec ps.items
-        ≡ default_to_prefix (bstr_bytes prefix.entry) (map pattern_spec patterns.items)) }
-    ensures memory { IfErr result (λ e. e ≡ BuildError.Memory) }
+    root: BStr<'_>,
+) -> Result<Vec<CompiledSpec>, BuildError>
+    requires clean { IsTrue (is_clean_prefix (bstr_bytes prefix)) }
+    requires bytes { SpecPathsAreBytes (specs_of specs.items) }
+    ensures specs { Builds (λ given. given.items) (or_prefix (bstr_bytes prefix.entry)
+        (bstr_bytes root.entry) specs.items) result }
+    ensures bytes { IfOk result (λ given. SpecPathsAreBytes (specs_of given.items)) }
 {
-    if patterns.is_empty() && !prefix.as_bytes().is_empty() {
-        let directory = Pattern::from_literal(alloc, b"", MagicSignature::MUST_BE_DIR).map_err(
-            |_| BuildError::Memory,
-        )?;
-        patterns.push(directory)?;
+    if !specs.is_empty() || prefix.as_bytes().is_empty() {
+        return Ok(specs);
     }
-    Ok(patterns)
+    let directory = Pattern::from_literal(alloc, b"", MagicSignature::MUST_BE_DIR).map_err(
+        |_| BuildError::Memory,
+    )?;
+    compile(alloc, &mut specs, directory, prefix, root)?;
+    Ok(specs)
 }
 
 /// Normalises each pattern and makes it ready for matching, numbered from 0.
@@ -251,29 +274,59 @@ fn compile_all(
 {
     let mut specs = Vec::with_capacity(alloc, patterns.len())?;
     for pattern in patterns {
-        let number = specs.len();
-        specs.push(compile(alloc, pattern, number, prefix, root)?)?;
+        compile(alloc, &mut specs, pattern, prefix, root)?;
     }
     Ok(specs)
 }
 
-/// Normalises a pattern and makes it ready for matching, under its number.
-fn compile(
+/// Makes one more spec ready for matching, unless one before it is at fault. It gives the first fault, if there is one.
+///
+/// # Errors
+/// Memory runs out.
+pub(super) fn compile_next(
     alloc: Global,
-    mut pattern: Pattern,
-    number: usize,
+    specs: &mut Vec<CompiledSpec>,
+    fault: Option<BuildError>,
+    pattern: Pattern,
     prefix: BStr<'_>,
     root: BStr<'_>,
-) -> Result<CompiledSpec, BuildError>
-    requires { IsTrue (is_clean_prefix (bstr_bytes prefix)) }
-    ensures spec { Builds (λ spec. spec) (numbered_normal_form number (bstr_bytes prefix.entry)
-        (bstr_bytes root.entry) (pattern_spec pattern)) result }
-    ensures bytes { IfOk result (λ spec. IsBytes spec.spec.path) }
+) -> Result<Option<BuildError>, AllocError>
+    requires clean { IsTrue (is_clean_prefix (bstr_bytes prefix)) }
+    requires bytes { SpecPathsAreBytes (specs_of specs.old.items) }
+    ensures specs { IfOk result (AddsNext (bstr_bytes prefix.entry) (bstr_bytes root.entry)
+        (pattern_spec pattern) specs.old.items fault specs.new.items) }
+    ensures bytes { SpecPathsAreBytes (specs_of specs.new.items) }
 {
+    if fault.is_some() {
+        return Ok(fault);
+    }
+    match compile(alloc, specs, pattern, prefix, root) {
+        Ok(()) => Ok(None),
+        Err(BuildError::Memory) => Err(AllocError),
+        Err(error) => Ok(Some(error)),
+    }
+}
+
+/// Normalises a pattern, makes it ready for matching and adds it to the specs, under the next number.
+fn compile(
+    alloc: Global,
+    specs: &mut Vec<CompiledSpec>,
+    mut pattern: Pattern,
+    prefix: BStr<'_>,
+    root: BStr<'_>,
+) -> Result<(), BuildError>
+    requires clean { IsTrue (is_clean_prefix (bstr_bytes prefix)) }
+    requires bytes { SpecPathsAreBytes (specs_of specs.old.items) }
+    ensures specs { Builds (λ done. specs.new.items) (with_next (bstr_bytes prefix.entry)
+        (bstr_bytes root.entry) (pattern_spec pattern) specs.old.items) result }
+    ensures bytes { SpecPathsAreBytes (specs_of specs.new.items) }
+{
+    let number = specs.len();
     if let Err(error) = pattern.resolve(prefix, root) {
         return Err(error_at(number, error));
     }
-    Ok(CompiledSpec::new(alloc, pattern, number)?)
+    specs.push(CompiledSpec::new(alloc, pattern, number)?)?;
+    Ok(())
 }
 
 /// The error for an error of the spec with this number.

@@ -1,16 +1,18 @@
 //! Searches of the specs on the lines of a text.
-ghost use Rattle.std.specs.Prelude.{◌≡◌, Some, map, IfOk, OnOk, IsTrue};
+ghost use Rattle.std.specs.Prelude.{◌≡◌, Some, IfOk, OnOk, IsTrue};
 ghost use Rattle.bstr.specs.BStr.{bstr_bytes};
 ghost use Rattle.pathspec_parts.specs.Paths.{is_clean_prefix};
 ghost use Rattle.gix_pathspec.specs.Patterns.{pattern_spec};
 ghost use Rattle.gix_pathspec.specs.Reading.{reading};
 ghost use Rattle.gix_pathspec.specs.NormalForm.{NormalFormIsNormal};
-ghost use Rattle.gix_pathspec.specs.Search.{IsFresh, HoldsNormalForms, at_number};
+ghost use Rattle.gix_pathspec.specs.Search.{IsFresh, HoldsNormalForms, at_number, specs_of};
 ghost use Rattle.gix_pathspec.specs.Building.{prefix_bytes, Builds};
-ghost use Rattle.gix_pathspec.specs.Lines.{spec_lines, readings_from, search_of_lines};
+ghost use Rattle.gix_pathspec.specs.Lines.{numbered_of_lines, search_of_lines};
+ghost use Rattle.gix_pathspec.specs.SelectionLaws.{SpecPathsAreBytes};
 
 use crate::search::Search;
 use crate::search::init::{self, BuildError};
+use crate::search::spec::CompiledSpec;
 use crate::{Defaults, Pattern, parse};
 use bstr::{BStr, BString, ByteSlice};
 use std::alloc::Global;
@@ -23,8 +25,9 @@ impl Search {
     /// empty line is at fault. (git reads a file of `--pathspec-from-file` so, but takes quotes off.) So the text `a`, line
     /// feed, `:!a/x`, line feed has the spec `a` with the number 0, and `:!a/x` with the number 1.
     ///
-    /// Every line is read before the first spec is normalised; then the specs become a search as
-    /// [`Search::from_specs`] makes one, under the same condition on the prefix.
+    /// Each spec is normalised as its line is read, so that no list of the specs as they are written is kept. A line that
+    /// can't be read is told before a spec that has no normal form, wherever the two stand. Otherwise the specs become a
+    /// search as [`Search::from_specs`] makes one, under the same condition on the prefix.
     ///
     /// It looks at each byte of the text a fixed number of times; the rest is the cost of [`Search::from_specs`].
     ///
@@ -47,25 +50,38 @@ impl Search {
         // So a search has just the normal forms of its specs, and each is its own normal form.
         ensures forms { OnOk result (HoldsNormalForms × NormalFormIsNormal) }
     {
-        let patterns = parse_lines(alloc, text, defaults)?;
+        let prefix = prefix.unwrap_or(BStr::new(b""));
+        let specs = compile_lines(alloc, text, defaults, prefix, root)?;
         let source = BString::from_slice(alloc, source.as_bytes())?;
-        let mut search = init::build(alloc, patterns, prefix.unwrap_or(BStr::new(b"")), root)?;
-        search.source = Some(source);
-        Ok(search)
+        init::of_compiled(alloc, specs, Some(source), prefix, root)
     }
 }
 
-/// The pattern of each line.
-fn parse_lines(alloc: Global, text: &[u8], defaults: Defaults) -> Result<Vec<Pattern>, BuildError>
-    ensures { Builds (λ patterns. map pattern_spec patterns.items)
-        (readings_from 0 defaults (spec_lines text.now)) result }
+/// Reads each line, and makes its spec ready for matching under the line's number.
+///
+/// It reads on behind a spec that has no normal form, since a later line may be no spec.
+fn compile_lines(
+    alloc: Global,
+    text: &[u8],
+    defaults: Defaults,
+    prefix: BStr<'_>,
+    root: BStr<'_>,
+) -> Result<Vec<CompiledSpec>, BuildError>
+    requires { IsTrue (is_clean_prefix (bstr_bytes prefix)) }
+    ensures specs { Builds (λ specs. specs.items) (numbered_of_lines defaults
+        (bstr_bytes prefix.entry) (bstr_bytes root.entry) text.now) result }
+    ensures bytes { IfOk result (λ specs. SpecPathsAreBytes (specs_of specs.items)) }
 {
-    let mut patterns = Vec::new(alloc);
-    for line in text.lines() {
-        let pattern = parse_line(alloc, patterns.len(), line, defaults)?;
-        patterns.push(pattern)?;
+    let mut specs = Vec::new(alloc);
+    let mut fault = None;
+    for (number, line) in text.lines().enumerate() {
+        let pattern = parse_line(alloc, number, line, defaults)?;
+        fault = init::compile_next(alloc, &mut specs, fault, pattern, prefix, root)?;
     }
-    Ok(patterns)
+    match fault {
+        None => Ok(specs),
+        Some(error) => Err(error),
+    }
 }
 
 /// The pattern of the line with this number.

@@ -1,6 +1,13 @@
--- The error tells why there is no normal form.
-use Rattle.gix_pathspec.proofs.BuildingProofs.{tells-on, tells-refused, one-refused}
+-- One more spec is ready; or the error tells why there is no normal form.
+use Rattle.std.proofs.Common.{rules}
+use Rattle.gix_pathspec.specs.Paths.{IsBytes}
+use Rattle.gix_pathspec.proofs.SearchProofs.{of_push}
+use Rattle.gix_pathspec.proofs.BuildingProofs.{tells-on, tells-refused, next-refused}
 use Rattle.gix_pathspec.proofs.search.init.compile.Goals as goal
 
-pub returns-in-Err-clause-spec : goal.returns-in-Err-clause-spec
-returns-in-Err-clause-spec c = tells-on c.error_at.result _ _ (λ fault h. one-refused c.args.number _ fault h) (tells-refused c.args.number c.in-Err.error c.error_at.result _ c.in-Err.ensures.form c.error_at.ensures)
+pub returns-in-Err-clause-specs : goal.returns-in-Err-clause-specs
+returns-in-Err-clause-specs c =
+    tells-on c.error_at.result _ _ (λ fault h. next-refused _ _ _ c.args.specs.now.items c.len-number.result fault (search rules) h) (tells-refused c.len-number.result c.in-Err.error c.error_at.result _ c.in-Err.ensures.form c.error_at.ensures)
+
+pub returns-clause-bytes : goal.returns-clause-bytes
+returns-clause-bytes c = of_push (λ s. IsBytes s.path) c.args.specs.now.items _ c.in_ok-new.field-0 c.requires.bytes c.in_ok-new.ensures.bytes c.in_ok-push.ensures.items
