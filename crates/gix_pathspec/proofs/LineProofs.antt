@@ -85,10 +85,6 @@ module _ (defaults : Defaults) (prefix root text : List ℕ) where
   numbered_first : search_of_lines defaults prefix root text ≡ (numbered_of_lines defaults prefix root text >>= search_of_numbered prefix root)
   numbered_first = search-bind prefix root (readings_from 0 defaults (spec_lines text)) _ (search_of-numbered_first prefix root)
 
-  -- each line says a spec with a normal form
-  pub lines-numbered : (ns : List Numbered) → numbered_of_lines defaults prefix root text ≡ Ok ns → AreNumbered prefix root ns
-  lines-numbered ns h = let r = bind_ok (readings_from 0 defaults (spec_lines text)) _ ns h in (r.0, r.2)
-
   pub lines-search : (ns : List Numbered) → numbered_of_lines defaults prefix root text ≡ Ok ns → search_of_lines defaults prefix root text ≡ search_of_numbered prefix root ns
   lines-search ns h = numbered_first ∙ ap (λ r. r >>= search_of_numbered prefix root) h
 

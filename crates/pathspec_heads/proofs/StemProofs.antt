@@ -1,8 +1,8 @@
 -- Stems before and behind a path and a slash, and the stems that begin them.
-use Rattle.std.proofs.Common.{◌≡◌, ℕ, suc, zero, ◌+◌, ◌-◌, ◌<◌, ◌≤◌, Bool, true, false, ◌&&◌, ◌||◌, ltb, inl, inr, refl, sym, ◌∙◌, ap, subst, List, [], ◌∷◌, ◌++◌, length, get_or, arith, ◌⊎◌, Option, Some, None, bytes_eq, length-append, IsTrue, IsFalse, nat_eq}
+use Rattle.std.proofs.Common.{◌≡◌, ℕ, suc, zero, ◌+◌, ◌-◌, ◌<◌, ◌≤◌, Bool, true, false, ◌&&◌, ◌||◌, inl, inr, refl, sym, ◌∙◌, ap, subst, List, [], ◌∷◌, ◌++◌, length, get_or, arith, ◌⊎◌, Option, Some, None, bytes_eq, length-append, IsTrue, IsFalse, nat_eq}
 use Rattle.std.specs.List.{list_any}
 use Rattle.std.proofs.lemmas.Bool.{false≢true}
-use Rattle.std.proofs.lemmas.Bool.Decides.{nat_tests, Decides-ltb}
+use Rattle.std.proofs.lemmas.Bool.Decides.{nat_tests}
 use Rattle.std.proofs.lemmas.Slice.Eq.{bytes_eq-Decides}
 use Rattle.std.proofs.lemmas.Cmp.{nat_list_cmp_total}
 use Rattle.std.specs.Ordering.{nat_cmp, is_gt, ordering_reverse}
@@ -263,11 +263,7 @@ texts-stay texts heads starts order g = record {
 -- ---- the answers
 
 module _ (texts : List (List ℕ)) (d : List ℕ) where
-  -- a stem lies below the path
-  pub leads-some : (wild : Bool) → SomeText texts (λ x. begins_with x (d ++ slash ∷ []) ≡ true) → true ≡ list_any (λ x. leads_to x wild d) texts
-  leads-some wild s = sym (any-some (λ x. leads_to x wild d) texts s.0 s.1 (leads-below d (head_at texts s.0) wild s.2))
-
-  -- no stem does, and none begins it
+  -- no stem lies below the path, and none begins it
   pub leads-nowhere : (wild : Bool) → NoText texts (λ x. begins_with x (d ++ slash ∷ []) ≡ true) → IsLastFront texts (length texts) (d ++ slash ∷ []) None → false ≡ list_any (λ x. leads_to x wild d) texts
   leads-nowhere wild below last = sym (any-none (λ x. leads_to x wild d) texts (λ k l.
       let no : begins_with (d ++ slash ∷ []) (head_at texts k) ≡ true → ⊥ = λ h. false≢true (sym (last.none refl k l) ∙ h) in
@@ -367,9 +363,3 @@ length-with_slash ignore_case path = omega (arith, length-append (fold_case igno
 
 pub linked-at : (texts : List (List ℕ)) (links : List (Option ℕ)) → IsLinked texts links → (at : ℕ) → at < length links → (r : Option ℕ) → r ≡ get_or links at r → IsLastFront texts at (head_at texts at) r
 linked-at texts links linked at l r e = subst (λ o. IsLastFront texts at (head_at texts at) o) (get_or-inside links at None r l ∙ sym e) (linked at l)
-
-pub test-true : (a b : ℕ) → IsTrue (ltb a b) → a < b
-test-true a b h = (Decides-ltb a b).0 h
-
-pub test-false : (a b : ℕ) → IsFalse (ltb a b) → b ≤ a
-test-false a b h = grind (arith, nat_tests)

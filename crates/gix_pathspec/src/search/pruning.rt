@@ -27,7 +27,7 @@ impl Search {
     /// include. Where the path is that of a file, say so by `is_dir`: a spec that wants a directory is then asked only
     /// for what lies below it.
     ///
-    /// It compares the path with at most as many stems of includes as their count has binary digits, and three, in each of
+    /// It compares the path with at most as many stems of includes as their count has binary digits, and two, in each of
     /// six tables: with case and without, and of stems that a wildcard follows, of others, and of those that want a
     /// directory. Then it takes a link for each stem that begins the path. It takes no memory.
     pub fn can_match_relative_path(&self, path: BStr<'_>, is_dir: Option<bool>) -> bool

@@ -29,7 +29,7 @@ impl Search {
     /// is no.
     ///
     /// In each of ten lists, six of stems of includes and four of paths of excludes, it compares the path with at most as many as
-    /// their count has binary digits, and three. Of stems these are often three where one walker asks of directories in byte
+    /// their count has binary digits, and two. In a list of stems this is often one where one walker asks of directories in byte
     /// order: its scratch keeps where each search ended. Nothing counts these. Then it asks, one by one, the excludes whose glob
     /// ends with `**`, or in a shell glob with `*`, and those without case that have a prefix directory: those whose head begins
     /// the directory, up to the first that takes it. It counts these questions and the comparisons of heads in the scratch, as a
