@@ -9,7 +9,7 @@ use Rattle.std.specs.Prelude.{◌⊎◌, slice_get}
 use Rattle.std.specs.List.{range_with_len}
 use Rattle.pathspec_parts.proofs.ListProofs.{map_range-same}
 use Rattle.pathspec_parts.proofs.TreeProofs.{get-cases}
-use Rattle.pathspec_select.specs.PackedSpans.{no_span, no_anchor, no_entry, anchor_of, span_of, span_at, unpacked, IsFile, anchors_with, ArePacked}
+use Rattle.pathspec_select.specs.PackedSpans.{no_span, no_anchor, no_entry, anchor_of, span_of, span_at, unpacked, IsFile, anchors_with, BeginsBlock, ArePacked}
 use Rattle.pathspec_select.specs.declared.listing.spans.Span.{Span}
 use Rattle.pathspec_select.specs.declared.listing.spans.Anchor.{Anchor}
 use Rattle.pathspec_select.specs.declared.listing.spans.Packed.{Packed}
@@ -195,17 +195,22 @@ module _ (packed : List Packed) (anchors : List Anchor) (others : List Span) (h 
 
   -- ---- a file more
 
-  module _ (span : Span) (x : Packed) (is : IsFile anchors (length packed / 256) span x) where
+  module _ (block_start : ℕ) (starts : BeginsBlock packed anchors block_start) (span : Span) (x : Packed) (is : IsFile (length packed) block_start span x) where
     begins : anchor.start + is.behind ≡ span.start
-    begins = ap (λ (a : Anchor). a.start + is.behind) (get_or_from_slice_get anchors (length packed / 256) is.anchor no_anchor is.stands) ∙ is.begins
+    begins = ap (λ n. n + is.behind) (sym (starts is.later)) ∙ is.begins
 
     pub more-file : ArePacked (packed ++ x ∷ []) anchors others
-    more-file = are_more (slice_get_within anchors (length packed / 256) is.anchor is.stands) x others (record {
+    more-file = are_more (let a = h.anchored in let l = is.later in omega (arith, a, l)) x others (record {
       fewer = omega arith;
       few = omega arith;
       file = λ count start e. let s = file_same span.length is.behind count start (sym is.is ∙ e) in let f = is.fits in omega (arith, s, begins, f);
       other = λ n e. absurd (no_other span.length is.behind n (sym is.is ∙ e));
     })
+
+    pub starts-file : BeginsBlock (packed ++ x ∷ []) anchors block_start
+    starts-file later =
+        let same : length (packed ++ x ∷ []) / 256 ≡ length packed / 256 = omega (arith, later, length_push packed x) in
+        starts is.later ∙ ap (λ b. (get_or anchors b no_anchor).start) (sym same)
 
     pub view-file : unpacked (packed ++ x ∷ []) anchors others ≡ unpacked packed anchors others ++ span ∷ []
     view-file = unpacked-more packed anchors others x others span (λ i y e. refl) (
@@ -228,6 +233,11 @@ module _ (packed : List Packed) (anchors : List Anchor) (others : List Span) (h 
             file = λ count start e. absurd (no_other count start n (sym e));
             other = λ m e. let s = other_same n m e in (omega (arith, s, is), omega (arith, long));
           })
+
+      pub starts-other : BeginsBlock (packed ++ Other n ∷ []) anchors anchor.start
+      starts-other later =
+          let same : length packed / 256 ≡ length (packed ++ Other n ∷ []) / 256 = omega (arith, later, length_push packed (Other n)) in
+          ap (λ b. (get_or anchors b no_anchor).start) same
 
       pub view-other : unpacked (packed ++ Other n ∷ []) anchors more_others ≡ unpacked packed anchors others ++ span ∷ []
       view-other = unpacked-more packed anchors others (Other n) more_others span kept (ap (λ k. get_or more_others k no_span) is ∙ get_or-append_seam others span [] no_span)

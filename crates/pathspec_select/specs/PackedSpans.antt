@@ -1,5 +1,5 @@
 -- Entries in numbers, of a file mostly in four bytes.
-use Rattle.std.specs.Prelude.{◌≡◌, ℕ, ◌+◌, ◌*◌, ◌/◌, ◌^◌, ◌<◌, ◌≤◌, List, [], ◌∷◌, ◌++◌, length, map, get_or, slice_get, Some, nat_lt, if◌then◌else◌}
+use Rattle.std.specs.Prelude.{◌≡◌, ◌≢◌, ℕ, ◌+◌, ◌*◌, ◌/◌, ◌%◌, ◌^◌, ◌<◌, ◌≤◌, List, [], ◌∷◌, ◌++◌, length, map, get_or, slice_get, Some, nat_lt, if◌then◌else◌}
 use Rattle.std.specs.List.{range_with_len}
 use Rattle.pathspec_select.specs.declared.listing.spans.Span.{Span}
 use Rattle.pathspec_select.specs.declared.listing.spans.Anchor.{Anchor}
@@ -31,19 +31,22 @@ span_at packed anchors others i = span_of (anchor_of anchors i) others (get_or p
 unfoldable pub unpacked : List Packed → List Anchor → List Span → List Span
 unpacked packed anchors others = map (span_at packed anchors others) (range_with_len 0 (length packed))
 
--- a file with these numbers, in a block that has an anchor
-pub record IsFile (anchors : List Anchor) (block : ℕ) (span : Span) (packed : Packed) : Type 0 where
-  pub anchor : Anchor
-  pub stands : slice_get anchors block ≡ Some anchor
+-- a file with these numbers behind so many entries, in a block whose first entry stands before it and begins here
+pub record IsFile (count block_start : ℕ) (span : Span) (packed : Packed) : Type 0 where
+  pub later : count % 256 ≢ 0
   pub behind : ℕ
   pub is : packed ≡ File span.length behind
-  pub begins : anchor.start + behind ≡ span.start
+  pub begins : block_start + behind ≡ span.start
   pub fits : span.start < 2 ^ 64
   pub ends : span.end ≡ 0
 
 -- the anchors, and this one behind them where the block has none
 abbrev pub anchors_with : List Anchor → ℕ → Anchor → List Anchor
 anchors_with anchors block first = if nat_lt block (length anchors) then anchors else anchors ++ first ∷ []
+
+-- The block of the next entry begins here, unless that entry is its first.
+abbrev pub BeginsBlock : List Packed → List Anchor → ℕ → Type 0
+BeginsBlock packed anchors block_start = length packed % 256 ≢ 0 → block_start ≡ (anchor_of anchors (length packed)).start
 
 -- Each block has an anchor, and each span is that of one entry.
 pub record ArePacked (packed : List Packed) (anchors : List Anchor) (others : List Span) : Type 0 where

@@ -48,18 +48,21 @@ pub(super) struct Spans {
     packed: Vec<Packed>,
     anchors: Vec<Anchor>,
     others: Vec<Span>,
+    /// Where the path of the first entry of the last block begins, at hand for each file that is added.
+    block_start: usize,
 }
 
 impl Model for Spans {
     ghost use Rattle.std.specs.Prelude.{List};
     ghost use Rattle.pathspec_select.specs.declared.listing.spans.Span.{Span};
-    ghost use Rattle.pathspec_select.specs.PackedSpans.{unpacked, ArePacked};
+    ghost use Rattle.pathspec_select.specs.PackedSpans.{unpacked, ArePacked, BeginsBlock};
 
     ghost Value = { List Span };
 
     ghost view = { λ s. unpacked s.packed.items s.anchors.items s.others.items };
 
-    ghost invariant = { λ s. ArePacked s.packed.items s.anchors.items s.others.items };
+    ghost invariant = { λ s. ArePacked s.packed.items s.anchors.items s.others.items
+        × BeginsBlock s.packed.items s.anchors.items s.block_start };
 }
 
 impl Spans {
@@ -71,6 +74,7 @@ impl Spans {
             packed: Vec::new(alloc),
             anchors: Vec::new(alloc),
             others: Vec::new(alloc),
+            block_start: 0,
         }
     }
 
@@ -118,7 +122,7 @@ impl Spans {
         ensures room { OnOk result (length self.new + 1 < open_end) }
         ensures err { OnErr result (self.new ≡ self.old) }
     {
-        match pack_file(&self.anchors, self.packed.len() / BLOCK, span) {
+        match pack_file(self.packed.len(), self.block_start, span) {
             Some(packed) => {
                 self.packed.push(packed)?;
                 Ok(())
@@ -145,11 +149,13 @@ impl Spans {
             others: self.others.len(),
         };
         add_anchor(&mut self.anchors, block, first)?;
-        let number = self.others.len() - self.anchors[block].others;
+        let anchor = self.anchors[block];
+        let number = self.others.len() - anchor.others;
         self.others.push(span)?;
         self.packed.push(Packed::Other {
             number: number as u8,
         })?;
+        self.block_start = anchor.start;
         Ok(())
     }
 
@@ -168,16 +174,15 @@ impl Spans {
     }
 }
 
-/// A file in four bytes, if its block has an anchor and its numbers are small.
-fn pack_file(anchors: &[Anchor], block: usize, span: Span) -> Option<Packed>
-    ensures { IfSome result (IsFile anchors.now block span) }
+/// A file behind so many entries in four bytes, if it isn't the first of its block and its numbers are small.
+fn pack_file(count: usize, block_start: usize, span: Span) -> Option<Packed>
+    ensures { IfSome result (IsFile count block_start span) }
 {
-    let anchor = anchors.get(block)?;
-    if span.end != 0 {
+    if count % BLOCK == 0 || span.end != 0 {
         return None;
     }
     let length = u8::try_from(span.length).ok()?;
-    let start = u16::try_from(span.start.checked_sub(anchor.start)?).ok()?;
+    let start = u16::try_from(span.start.checked_sub(block_start)?).ok()?;
     Some(Packed::File { length, start })
 }
 

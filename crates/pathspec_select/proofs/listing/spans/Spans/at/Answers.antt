@@ -11,7 +11,7 @@ pub index-anchor-requires : goal.index-anchor-requires
 index-anchor-requires c =
     let s = c.self.inside in
     let inside = inside-of s.packed.items s.anchors.items s.others.items c.args.self.now c.self.view_is c.args.number c.requires in
-    let block = anchor_inside s.packed.items s.anchors.items s.others.items c.self.invariant c.args.number inside in
+    let block = anchor_inside s.packed.items s.anchors.items s.others.items c.self.invariant.0 c.args.number inside in
     omega (arith, block, s.anchors.ok.0)
 
 pub index-requires : goal.index-requires
@@ -24,17 +24,17 @@ pub overflow_add-result : goal.overflow_add-result
 overflow_add-result c =
     let s = c.self.inside in
     let inside = inside-of s.packed.items s.anchors.items s.others.items c.args.self.now c.self.view_is c.args.number c.requires in
-    let at = entry-read s.packed.items s.anchors.items s.others.items c.self.invariant c.args.number inside c.index.result.now c.index.ensures (File c.in-File.length c.in-File.start) c.in-File.is in
-    let anchor = ap (λ (a : Anchor). a.start) (anchor-read s.packed.items s.anchors.items s.others.items c.self.invariant c.args.number c.index-anchor.result.now inside c.index-anchor.ensures) in
-    let fits = c.self.invariant.start_fits c.args.number c.in-File.length c.in-File.start at in
+    let at = entry-read s.packed.items s.anchors.items s.others.items c.self.invariant.0 c.args.number inside c.index.result.now c.index.ensures (File c.in-File.length c.in-File.start) c.in-File.is in
+    let anchor = ap (λ (a : Anchor). a.start) (anchor-read s.packed.items s.anchors.items s.others.items c.self.invariant.0 c.args.number c.index-anchor.result.now inside c.index-anchor.ensures) in
+    let fits = c.self.invariant.0.start_fits c.args.number c.in-File.length c.in-File.start at in
     omega (arith, anchor, fits, c.from.ensures)
 
 pub returns-in-File : goal.returns-in-File
 returns-in-File c =
     let s = c.self.inside in
     let inside = inside-of s.packed.items s.anchors.items s.others.items c.args.self.now c.self.view_is c.args.number c.requires in
-    let at = entry-read s.packed.items s.anchors.items s.others.items c.self.invariant c.args.number inside c.index.result.now c.index.ensures (File c.in-File.length c.in-File.start) c.in-File.is in
-    let anchor = anchor-read s.packed.items s.anchors.items s.others.items c.self.invariant c.args.number c.index-anchor.result.now inside c.index-anchor.ensures in
+    let at = entry-read s.packed.items s.anchors.items s.others.items c.self.invariant.0 c.args.number inside c.index.result.now c.index.ensures (File c.in-File.length c.in-File.start) c.in-File.is in
+    let anchor = anchor-read s.packed.items s.anchors.items s.others.items c.self.invariant.0 c.args.number c.index-anchor.result.now inside c.index-anchor.ensures in
     ap (λ n. record { start = c.index-anchor.result.now.start + n; length = c.from-in-File.result; end = 0 }) c.from.ensures
     ∙ (ap (λ n. record { start = c.index-anchor.result.now.start + c.in-File.start; length = n; end = 0 }) c.from-in-File.ensures
     ∙ (ap (λ a. span_of a s.others.items (File c.in-File.length c.in-File.start)) anchor
@@ -44,22 +44,22 @@ pub overflow_add-anchor : goal.overflow_add-anchor
 overflow_add-anchor c =
     let s = c.self.inside in
     let inside = inside-of s.packed.items s.anchors.items s.others.items c.args.self.now c.self.view_is c.args.number c.requires in
-    let place = other-place s.packed.items s.anchors.items s.others.items c.self.invariant c.args.number inside c.index.result.now c.index.ensures c.index-anchor.result.now c.index-anchor.ensures c.in-Other.number c.in-Other.is in
+    let place = other-place s.packed.items s.anchors.items s.others.items c.self.invariant.0 c.args.number inside c.index.result.now c.index.ensures c.index-anchor.result.now c.index-anchor.ensures c.in-Other.number c.in-Other.is in
     omega (arith, place, c.from-in-Other.ensures, s.others.ok)
 
 pub index-requires-in-Other : goal.index-requires-in-Other
 index-requires-in-Other c =
     let s = c.self.inside in
     let inside = inside-of s.packed.items s.anchors.items s.others.items c.args.self.now c.self.view_is c.args.number c.requires in
-    let place = other-place s.packed.items s.anchors.items s.others.items c.self.invariant c.args.number inside c.index.result.now c.index.ensures c.index-anchor.result.now c.index-anchor.ensures c.in-Other.number c.in-Other.is in
+    let place = other-place s.packed.items s.anchors.items s.others.items c.self.invariant.0 c.args.number inside c.index.result.now c.index.ensures c.index-anchor.result.now c.index-anchor.ensures c.in-Other.number c.in-Other.is in
     omega (arith, place, c.from-in-Other.ensures, s.others.ok.0)
 
 pub returns-in-Other : goal.returns-in-Other
 returns-in-Other c =
     let s = c.self.inside in
     let inside = inside-of s.packed.items s.anchors.items s.others.items c.args.self.now c.self.view_is c.args.number c.requires in
-    let at = entry-read s.packed.items s.anchors.items s.others.items c.self.invariant c.args.number inside c.index.result.now c.index.ensures (Other c.in-Other.number) c.in-Other.is in
-    let stands = other-place s.packed.items s.anchors.items s.others.items c.self.invariant c.args.number inside c.index.result.now c.index.ensures c.index-anchor.result.now c.index-anchor.ensures c.in-Other.number c.in-Other.is in
+    let at = entry-read s.packed.items s.anchors.items s.others.items c.self.invariant.0 c.args.number inside c.index.result.now c.index.ensures (Other c.in-Other.number) c.in-Other.is in
+    let stands = other-place s.packed.items s.anchors.items s.others.items c.self.invariant.0 c.args.number inside c.index.result.now c.index.ensures c.index-anchor.result.now c.index-anchor.ensures c.in-Other.number c.in-Other.is in
     let k = c.index-anchor.result.now.others + c.from-in-Other.result in
     let place : k ≡ (anchor_of s.anchors.items c.args.number).others + c.in-Other.number = omega (arith, stands, c.from-in-Other.ensures) in
     let there : k < length s.others.items = omega (arith, stands, c.from-in-Other.ensures) in
