@@ -9,7 +9,7 @@ use Rattle.std.specs.Prelude.{slice_get, nat_lt}
 use Rattle.std.specs.List.{slice_split, onto_first, before_first, after_first, position_or_len}
 use Rattle.pathspec_parts.specs.Bytes.{is_empty}
 use Rattle.pathspec_select.specs.Listing.{records, without_empty_end}
-use Rattle.pathspec_select.specs.Outlines.{part, record_from, record_length}
+use Rattle.pathspec_select.specs.Outlines.{part, record_from, LiesInRecord}
 
 -- ---- the first record
 
@@ -86,19 +86,19 @@ module _ (p : ℕ → Bool) where
       ]
 
 -- a path of a record lies in the listing
-pub part-fits : (separator : ℕ) (bytes : List ℕ) (start count : ℕ) (is_dir : Bool) → record_length count is_dir ≤ length (record_from separator bytes start) → part bytes start count ≢ [] → start + count ≤ length bytes
-part-fits separator bytes start count is_dir within some =
+pub part-fits : (separator : ℕ) (bytes : List ℕ) (start count : ℕ) (is_dir : Bool) → LiesInRecord separator bytes start count is_dir → part bytes start count ≢ [] → start + count ≤ length bytes
+part-fits separator bytes start count is_dir lies some =
     let long = length-before_first (λ b. b == separator) (drop start bytes) in
     let less = prefix_len-le-length (λ x. not (x == separator)) (drop start bytes) in
     let d = length-drop start bytes in
-    let at_least : count ≤ record_length count is_dir = by_kind is_dir in
+    let within = by_kind is_dir lies in
     elim (cases_lt (length bytes) start) [
       | inl l ↦
-          let none : count ≡ 0 = omega (arith, l, long, less, d, at_least, within) in
+          let none : count ≡ 0 = omega (arith, l, long, less, d, within) in
           absurd (some (ap (λ k. take k (drop start bytes)) none))
-      | inr g ↦ omega (arith, g, long, less, d, at_least, within)
+      | inr g ↦ omega (arith, g, long, less, d, within)
     ]
   where
-    by_kind : (b : Bool) → count ≤ record_length count b
-    by_kind true = omega arith
-    by_kind false = omega arith
+    by_kind : (b : Bool) → LiesInRecord separator bytes start count b → count ≤ length (record_from separator bytes start)
+    by_kind true h = omega (arith, h)
+    by_kind false h = omega (arith, h)

@@ -284,11 +284,6 @@ module _ (bytes : List ℕ) (separator : ℕ) (spans : List Span) (stack : List 
 
 -- ---- the record of an entry
 
--- a path that lies in a record is no longer
-pub lies-within : (separator : ℕ) (bytes : List ℕ) (start count : ℕ) (is_dir : Bool) → LiesInRecord separator bytes start count is_dir → record_length count is_dir ≤ length (record_from separator bytes start)
-lies-within separator bytes start count true h = h
-lies-within separator bytes start count false h = omega (arith, h)
-
 -- the record of an entry is its mark
 pub mark-is : (bytes : List ℕ) (separator : ℕ) (spans : List Span) (o : OutlineContents) (view : outline_of_spans bytes separator spans ≡ o) (n : ℕ) (s : Span) → slice_get spans n ≡ Some s → mark_of_span separator bytes s ≡ mark_at o.marks n
 mark-is bytes separator spans o view n s at =

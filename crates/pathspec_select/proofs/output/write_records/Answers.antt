@@ -5,6 +5,8 @@ use Rattle.pathspec_select.specs.Listing.{written_entries}
 use Rattle.pathspec_select.specs.Program.{AppendsUpTo, AppendsFront}
 use Rattle.pathspec_select.proofs.OutputProofs.{upto-more, front-more, length-rest, written-run, written-left, upto-end, written-buffered, front-buffered}
 use Rattle.pathspec_select.proofs.output.write_records.Goals as goal
+use Rattle.pathspec_select.proofs.output.write_records.Given.{Over}
+use Rattle.pathspec_select.proofs.output.write_records.Goals.{After-as_slice}
 
 pub loop-done-preserved : goal.loop-done-preserved
 loop-done-preserved g c =
@@ -38,15 +40,17 @@ returns-in_err-done g c =
     let all : AppendsFront old new (text entries) = subst (AppendsFront old new) (written-left c.args.separator c.args.listing.now.marks entries n _ refl) front in
     rw (p.1, p.2) all
 
+-- what is buffered when no entry is left
+kept : (g : Over) (c : After-as_slice g) → AppendsUpTo (g.W.Write.contents c.args.writer.now) (g.W.Write.contents c.loop-done.writer) (written_entries c.args.separator c.args.listing.now.marks c.args.entries.now) c.as_slice.result.now
+kept g c = upto-end (g.W.Write.contents c.args.writer.now) (g.W.Write.contents c.loop-done.writer) c.args.separator c.args.listing.now.marks c.args.entries.now c.loop-done.done c.loop-done.buffer.items c.as_slice.result.now c.loop-done-test.false c.loop-done.invariant.written c.as_slice.ensures.value
+
 pub returns-in_err-write_whole : goal.returns-in_err-write_whole
 returns-in_err-write_whole g c =
     let old = g.W.Write.contents c.args.writer.now in
     let p = err_from_is_err_and c.from_residual-in_err-write_whole.result c.from_residual-in_err-write_whole.ensures.1 in
-    let kept = upto-end old (g.W.Write.contents c.loop-done.writer) c.args.separator c.args.listing.now.marks c.args.entries.now c.loop-done.done c.loop-done.buffer.items c.as_slice.result.now c.loop-done-test.false c.loop-done.invariant.written c.as_slice.ensures.value in
-    rw (p.1, p.2) (front-buffered old _ (g.W.Write.contents c.write_whole.new.writer) _ _ kept c.in_err-write_whole.ensures.front)
+    rw (p.1, p.2) (front-buffered old _ (g.W.Write.contents c.write_whole.new.writer) _ _ (kept g (goal.at.returns-in_err-write_whole g c).After-as_slice) c.in_err-write_whole.ensures.front)
 
 pub returns : goal.returns
 returns g c =
     let old = g.W.Write.contents c.args.writer.now in
-    let kept = upto-end old (g.W.Write.contents c.loop-done.writer) c.args.separator c.args.listing.now.marks c.args.entries.now c.loop-done.done c.loop-done.buffer.items c.as_slice.result.now c.loop-done-test.false c.loop-done.invariant.written c.as_slice.ensures.value in
-    written-buffered old _ (g.W.Write.contents c.write_whole.new.writer) _ _ kept c.in_ok-write_whole.ensures.whole
+    written-buffered old _ (g.W.Write.contents c.write_whole.new.writer) _ _ (kept g (goal.at.returns g c).After-as_slice) c.in_ok-write_whole.ensures.whole

@@ -7,7 +7,7 @@ use Rattle.pathspec_select.specs.Outlines.{OutlineContents, part, outline_after,
 use Rattle.pathspec_select.specs.declared.listing.spans.Span.{Span}
 use Rattle.pathspec_select.proofs.SpanProofs.{length-contents}
 use Rattle.pathspec_select.proofs.ListingProofs.{part-fits}
-use Rattle.pathspec_select.proofs.OutlineProofs.{added, last_name-some, lies-within}
+use Rattle.pathspec_select.proofs.OutlineProofs.{added, last_name-some}
 use Rattle.pathspec_select.proofs.listing.outline.Outline.add.Goals as goal
 
 at_most_one : (b : Bool) (k : ℕ) → k ≡ cond b 1 0 → k ≤ 1
@@ -33,7 +33,7 @@ both c =
     let o = outline_of_spans s.bytes.now s.separator s.spans in
     let within = subst (λ (x : OutlineContents). LiesInRecord x.separator x.bytes c.args.start c.args.count c.args.is_dir) (sym c.self.view_is) c.requires.record in
     let lies : LiesOpen o.tree (part s.bytes.now c.args.start c.args.count) = subst (λ (x : OutlineContents). LiesOpen x.tree (part x.bytes c.args.start c.args.count)) (sym c.self.view_is) c.requires.lies in
-    let fits = part-fits s.separator s.bytes.now c.args.start c.args.count c.args.is_dir (lies-within s.separator s.bytes.now c.args.start c.args.count c.args.is_dir within) (last_name-some (part s.bytes.now c.args.start c.args.count) lies.name_some) in
+    let fits = part-fits s.separator s.bytes.now c.args.start c.args.count c.args.is_dir within (last_name-some (part s.bytes.now c.args.start c.args.count) lies.name_some) in
     let r = added s.bytes.now s.separator s.spans s.stack.items s.directories c.self.invariant c.args.is_dir (new_span c) c.first_end-end.ensures fits c.self.invariant.room within lies
     c.append.new.spans c.append.new.stack.items (s.directories + c.one_if.result) _ (ap is_ok c.in_ok-append.was) c.in_ok-append.ensures.room c.append.ensures.spans c.append.ensures.stack (ap (λ k. s.directories + k) c.one_if.ensures) in
     (r.0, r.1 ∙ ap (λ (x : OutlineContents). outline_after x c.args.start c.args.count c.args.is_dir) c.self.view_is)
