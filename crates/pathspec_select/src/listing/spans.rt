@@ -127,7 +127,8 @@ impl Spans {
                 self.packed.push(packed)?;
                 Ok(())
             }
-            None => self.push_other(span),
+            // Only this call needs the numbers in memory: it gets a copy, so that those of a file stay in registers.
+            None => self.push_other(Span { ..span }),
         }
     }
 
