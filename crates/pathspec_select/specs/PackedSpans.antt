@@ -40,6 +40,14 @@ pub record IsFile (count block_start : ℕ) (span : Span) (packed : Packed) : Ty
   pub fits : span.start < 2 ^ 64
   pub ends : span.end ≡ 0
 
+-- a file behind so many entries that four bytes hold
+pub record IsSmallFile (count block_start : ℕ) (span : Span) : Type 0 where
+  pub later : count % 256 ≢ 0
+  pub short : span.length < 256
+  pub behind : block_start ≤ span.start
+  pub near : span.start < block_start + 65536
+  pub ends : span.end ≡ 0
+
 -- the anchors, and this one behind them where the block has none
 abbrev pub anchors_with : List Anchor → ℕ → Anchor → List Anchor
 anchors_with anchors block first = if nat_lt block (length anchors) then anchors else anchors ++ first ∷ []

@@ -1,7 +1,7 @@
 //! The entries of a listing in numbers, of a file mostly in four bytes.
-ghost use Rattle.std.specs.Prelude.{◌≡◌, ◌≢◌, ◌+◌, ◌<◌, ◌≤◌, ◌∷◌, ◌++◌, [], length, set, slice_get, get_or, IfSome, OnOk, OnErr};
+ghost use Rattle.std.specs.Prelude.{◌≡◌, ◌≢◌, ◌+◌, ◌<◌, ◌≤◌, ◌∷◌, ◌++◌, [], length, set, slice_get, get_or, None, IfSome, OnOk, OnErr};
 ghost use Rattle.pathspec_parts.specs.TreeLayout.{open_end};
-ghost use Rattle.pathspec_select.specs.PackedSpans.{no_span, IsFile, anchors_with};
+ghost use Rattle.pathspec_select.specs.PackedSpans.{no_span, IsFile, IsSmallFile, anchors_with};
 
 use std::alloc::{AllocError, Global};
 use std::marker::Model;
@@ -151,12 +151,12 @@ impl Spans {
         };
         add_anchor(&mut self.anchors, block, first)?;
         let anchor = self.anchors[block];
+        self.block_start = anchor.start;
         let number = self.others.len() - anchor.others;
         self.others.push(span)?;
         self.packed.push(Packed::Other {
             number: number as u8,
         })?;
-        self.block_start = anchor.start;
         Ok(())
     }
 
@@ -177,7 +177,8 @@ impl Spans {
 
 /// A file behind so many entries in four bytes, if it isn't the first of its block and its numbers are small.
 fn pack_file(count: usize, block_start: usize, span: Span) -> Option<Packed>
-    ensures { IfSome result (IsFile count block_start span) }
+    ensures file { IfSome result (IsFile count block_start span) }
+    ensures small { IsSmallFile count block_start span → result ≢ None }
 {
     if count % BLOCK == 0 || span.end != 0 {
         return None;

@@ -8,7 +8,7 @@ is_file : (c : goal.In_ok-push-in-Some) → IsFile (length c.self.inside.packed.
 is_file c =
     let s = c.self.inside in
     let n : c.len.result ≡ length s.packed.items = omega (arith, c.len.ensures, s.packed.ok.0) in
-    subst (λ (k : ℕ). IsFile k s.block_start c.args.span c.in-Some.packed) n c.in-Some.ensures
+    subst (λ (k : ℕ). IsFile k s.block_start c.args.span c.in-Some.packed) n c.in-Some.ensures.file
 
 pub invariant_of-self-in-Some : goal.invariant_of-self-in-Some
 invariant_of-self-in-Some c =

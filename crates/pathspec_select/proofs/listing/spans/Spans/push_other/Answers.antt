@@ -23,7 +23,7 @@ both packed anchors new_anchors others h span first is_first block b new anchor 
     let count : (anchor_of new_anchors (length packed)).others + n ≡ length others = omega (arith, begin, less, number) in
     (more-other packed new_anchors others ok room span n count, subst (BeginsBlock (packed ++ Other n ∷ []) new_anchors) (sym (ap (λ (a : Anchor). a.start) at)) (starts-other packed new_anchors others ok room span n count), view-other packed new_anchors others ok room span n count ∙ ap (λ xs. xs ++ span ∷ []) same)
 
-added : (c : goal.After-self-1)
+added : (c : goal.In_ok-push-2)
     → ArePacked c.push-2.new.self.items c.add_anchor.new.anchors.items c.push.new.self.items × BeginsBlock c.push-2.new.self.items c.add_anchor.new.anchors.items c.index-anchor.result.now.start × (unpacked c.push-2.new.self.items c.add_anchor.new.anchors.items c.push.new.self.items ≡ c.args.self.now ++ c.args.span ∷ [])
 added c =
     let s = c.self.inside in
