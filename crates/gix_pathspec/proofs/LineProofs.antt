@@ -1,7 +1,6 @@
 -- Texts that are read one after the other, and the first fault.
 use Rattle.std.proofs.Common.{◌≡◌, ℕ, ◌+◌, arith, refl, sym, ◌∙◌, ap, subst, List, [], ◌∷◌, ◌++◌, length, map, Option, None, Ok, Err, Result, length-append}
 use Rattle.std.proofs.lemmas.List.{map-append, append-nil}
-use Rattle.pathspec_pattern.proofs.ResultProofs.{bind_ok}
 use Rattle.pathspec_pattern.specs.declared.defaults.Defaults.{Defaults}
 use Rattle.gix_pathspec.specs.declared.search.init.BuildError.{BuildError}
 use Rattle.gix_pathspec.specs.Results.{◌>>=◌}
@@ -9,7 +8,7 @@ use Rattle.gix_pathspec.specs.Faults.{Fault}
 use Rattle.gix_pathspec.specs.Specs.{Spec}
 use Rattle.gix_pathspec.specs.Reading.{reading}
 use Rattle.gix_pathspec.specs.Search.{Numbered, at_number, numbered_from}
-use Rattle.gix_pathspec.specs.Building.{AreMade, AddsNext, AreNumbered, search_of_numbered}
+use Rattle.gix_pathspec.specs.Building.{AreMade, AddsNext, search_of_numbered}
 use Rattle.gix_pathspec.specs.Lines.{spec_lines, readings_from, search_of_lines, numbered_of_lines}
 use Rattle.gix_pathspec.proofs.BuildingProofs.{onto, onto-snoc, numbered_with-next, search_of-numbered_first}
 

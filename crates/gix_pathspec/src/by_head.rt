@@ -1,7 +1,7 @@
 //! Specs by their heads: what a match asks, and nothing beside it.
 //!
 //! A match sees two questions about a path that isn't empty and begins with the common prefix: how the spec at a place
-//! matches it, and which heads begin it. Both count, in the scratch that the match was lent. What reads a spec, and what
+//! matches it, and which heads begin it. Both count, in the scratch that the match borrows. What reads a spec, and what
 //! makes a scratch, is private to the module `search`.
 ghost use Rattle.std.specs.Prelude.{◌≡◌, ◌<◌, ◌≤◌, length, IsSome, IsTrue, IfOk, OnOk, OnErr};
 ghost use Rattle.std.specs.Box.{box_value};
@@ -35,17 +35,17 @@ struct Effort {
     compared: u128,
 }
 
-/// Nothing was looked at.
+/// No spec asked, and no head compared.
 const NO_EFFORT: Effort = Effort {
     tested: 0,
     compared: 0,
 };
 
 /// What the matches of one walker write, and its questions whether it may skip a directory: the room that globs and look-ups
-/// work in, and what was asked and compared.
+/// work in, and how many questions and comparisons there were.
 ///
-/// [`Search::new_scratch`](crate::search::Search::new_scratch) makes one. Walkers that share a search have one each. The
-/// totals are never set back.
+/// [`Search::new_scratch`](crate::search::Search::new_scratch) makes one. Walkers that share a search have one each. Nothing
+/// sets the totals back.
 pub struct Scratch {
     specs: SpecScratch,
     heads: places::Scratch,
@@ -84,7 +84,7 @@ impl Model for Scratch {
 }
 
 impl Scratch {
-    /// A scratch of this room, in which nothing was asked yet.
+    /// A scratch of this room, with all counts at 0.
     pub(crate) fn new(specs: SpecScratch, heads: places::Scratch) -> Scratch
         requires specs_unasked { specs.tested ≡ 0 }
         requires heads_unasked { heads ≡ 0 }
@@ -200,14 +200,14 @@ impl SpecsByHead {
         &self.common_prefix
     }
 
-    /// The specs, whose questions about a path are counted.
+    /// The specs, whose questions about a path a scratch counts.
     pub(crate) fn counted(&self) -> &CountedSpecs
         ensures { result.now ≡ self.now }
     {
         &self.specs
     }
 
-    /// The heads of the specs, whose comparisons with a path are counted.
+    /// The heads of the specs, whose comparisons with a path a scratch counts.
     pub(crate) fn heads(&self) -> &CountedHeads {
         &self.heads
     }
@@ -220,7 +220,7 @@ impl SpecsByHead {
     }
 
     /// The place of the first spec that matches a path, and how it does, as
-    /// [`Search::settle`](crate::search::Search::settle) says. None is found for the empty path, nor for one that lacks the
+    /// [`Search::settle`](crate::search::Search::settle) says. It finds none for the empty path, nor for one that lacks the
     /// common prefix.
     ///
     /// # Errors
@@ -243,7 +243,7 @@ impl SpecsByHead {
         ensures err_counts { OnErr result
             (L.failures look_up.new ≡ next_count (L.failures look_up.old)) }
 
-        // What is asked and compared is counted, and all of it is told; also where the look-up fails.
+        // It counts each question and each comparison, and tells all of them; also where the look-up fails.
         ensures counted { IsCounted self.now (bstr_bytes path.entry)
             scratch.old.counts scratch.new.counts }
         ensures little_compared { IsLittleCompared self.now (bstr_bytes path.entry)
@@ -261,7 +261,7 @@ impl SpecsByHead {
         first_match(&self.specs, &self.heads, scratch, path, is_dir, look_up)
     }
 
-    /// Whether a path is answered without a look at the specs: it is empty, or lacks the common prefix.
+    /// Whether the answer for a path needs no look at the specs: it is empty, or lacks the common prefix.
     fn is_unasked(&self, path: &[u8]) -> bool
         ensures { result ≡ is_unasked self.now path.now }
     {
@@ -269,7 +269,7 @@ impl SpecsByHead {
     }
 }
 
-/// The place of the first spec that matches a path, and how it does. Only specs are asked whose head begins the path.
+/// The place of the first spec that matches a path, and how it does. It asks only specs whose head begins the path.
 fn first_match<L: LookUp>(
     specs: &CountedSpecs,
     heads: &CountedHeads,
@@ -313,7 +313,7 @@ fn first_match<L: LookUp>(
 }
 
 /// The place of the first spec that matches a path, and how it does, of those whose head begins the one with a number.
-/// Each spec that is asked is counted.
+/// It counts each spec that it asks.
 fn first_candidate<L: LookUp>(
     specs: &CountedSpecs,
     heads: &CountedHeads,

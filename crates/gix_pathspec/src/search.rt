@@ -1,4 +1,4 @@
-//! Searches: specs that are asked together about paths (gitglossary, "pathspec").
+//! Searches: specs that match paths together (gitglossary, "pathspec").
 pub(crate) mod counted;
 mod directories;
 mod found;
@@ -41,9 +41,9 @@ pub enum MatchKind {
     Verbatim,
 }
 
-/// Specs that are asked together about paths: excludes first, each group in the order in which the specs were given.
+/// Specs that match paths together: excludes first, each group in the order in which the specs were given.
 ///
-/// A match that is lent a [`Scratch`] only reads it ([`Search::settle`]), so walkers can share a search. No call on it but
+/// A match in a [`Scratch`] of its caller only reads it ([`Search::settle`]), so walkers can share a search. No call on it but
 /// [`Search::try_clone`] and [`Search::new_scratch`] takes memory.
 pub struct Search {
     specs: SpecsByHead,
@@ -51,7 +51,7 @@ pub struct Search {
     scratch: Box<Scratch>,
     /// Which paths the includes reach, and what the excludes take whole by their paths.
     reach: Reach,
-    /// The excludes that are asked one by one whether a walk may skip a directory.
+    /// The excludes that the search asks one by one whether a walk may skip a directory.
     takers: TakersByHead,
     /// The spec `:`, which answers where no spec does.
     nil: Pattern,

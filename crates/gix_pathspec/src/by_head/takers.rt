@@ -1,4 +1,4 @@
-//! Excludes that are asked one by one whether a walk may skip a directory, by their heads.
+//! Excludes that a search asks one by one whether a walk may skip a directory, by their heads.
 ghost use Rattle.std.specs.Prelude.{◌≡◌, ◌<◌, ◌≤◌, List, All, length};
 ghost use Rattle.std.specs.List.{list_any};
 ghost use Rattle.std.specs.Box.{box_value};
@@ -43,8 +43,8 @@ impl TakersByHead {
         TakersByHead { takers, heads }
     }
 
-    /// Whether one of the excludes takes the directory whole, or the rest of it. Only those are asked whose head begins the
-    /// directory, up to the first that takes it; all that is asked and compared is counted.
+    /// Whether one of the excludes takes the directory whole, or the rest of it. It asks only those whose head begins the
+    /// directory, up to the first that takes it, and counts all that it asks and compares.
     pub(crate) fn has_taker(&self, directory: BStr<'_>, scratch: &mut Scratch) -> bool
         requires room { All (λ s. tokens_of s ≤ scratch.old.room.tokens) self.now }
         requires none { scratch.old.counts.last_tested ≡ 0 }
@@ -91,8 +91,8 @@ fn some_takes(
     }
 }
 
-/// Whether one of the excludes takes the directory, of those whose head begins the one with a number. Each that is asked is
-/// counted.
+/// Whether one of the excludes takes the directory, of those whose head begins the one with a number. It counts each that
+/// it asks.
 fn candidate_takes(
     takers: &CountedTakers,
     heads: &CountedHeads,

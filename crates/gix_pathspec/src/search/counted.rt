@@ -1,7 +1,7 @@
 //! What counts: questions to specs about paths, and comparisons of heads with them.
 //!
 //! A match stands outside of the module `search`. It sees specs and heads by these types alone, and can't make a scratch: so
-//! all that it asks and compares is counted in the one that it was lent.
+//! the one that it borrows counts all that it asks and compares.
 ghost use Rattle.std.specs.Prelude.{◌≡◌, ◌↔◌, ℕ, ◌+◌, ◌^◌, ◌<◌, ◌≤◌, length, map, All, IsTrue, IfOk, IfSome, OnOk, OnErr};
 ghost use Rattle.bstr.specs.BStr.{bstr_bytes};
 ghost use Rattle.pathspec_parts.specs.Attributes.{next_count};
@@ -22,7 +22,7 @@ use pathspec_parts::glob;
 use std::alloc::{AllocError, Global};
 use std::marker::Model;
 
-/// Specs in search order. Their only question about a path is whether one of them matches it, and it is counted.
+/// Specs in search order. Their only question about a path is whether one of them matches it, and a scratch counts it.
 #[derive(Drop)]
 pub(crate) struct CountedSpecs {
     all: Vec<CompiledSpec>,
@@ -37,7 +37,7 @@ impl Model for CountedSpecs {
     ghost view = { λ s. s.all.items };
 }
 
-/// Excludes that are asked one by one whether they take a directory, and each question is counted.
+/// Takers. Their only question is whether one of them takes a directory, and a scratch counts it.
 #[derive(Drop)]
 pub(crate) struct CountedTakers {
     all: Vec<Taker>,
@@ -52,8 +52,8 @@ impl Model for CountedTakers {
     ghost view = { λ t. t.all.items };
 }
 
-/// What questions to specs write: the room of their globs, an outcome for each spec, and how often one was asked. The count
-/// is never set back.
+/// What questions to specs write: the room of their globs, an outcome for each spec, and how many questions there were.
+/// Nothing sets the count back.
 #[derive(Drop)]
 pub(crate) struct SpecScratch {
     globs: glob::Scratch,
@@ -72,7 +72,7 @@ impl Model for SpecScratch {
     ghost view = { λ s. record { room = record { tokens = s.globs.tokens; names = map names_of s.outcomes.items }; tested = s.tested } };
 }
 
-/// The heads of specs, by their places in search order. Each comparison with a path is counted.
+/// The heads of specs, by their places in search order. A scratch counts each comparison with a path.
 #[derive(Drop)]
 pub(crate) struct CountedHeads {
     places: PlacesByHead,
@@ -94,7 +94,7 @@ impl CountedHeads {
         CountedHeads { places }
     }
 
-    /// What comparisons with a path write, with none made yet.
+    /// What comparisons with a path write, before the first.
     pub(super) fn new_scratch(&self) -> places::Scratch
         ensures { result ≡ 0 }
     {
@@ -217,8 +217,8 @@ impl CountedTakers {
 }
 
 impl SpecScratch {
-    /// Room for questions to these specs, of which none was asked yet. Its cost is linear in the tokens of the largest glob and
-    /// in the names of attributes that the specs list.
+    /// Room for questions to these specs, before the first. Its cost is linear in the tokens of the largest glob and in the
+    /// names of attributes that the specs list.
     ///
     /// # Errors
     /// Memory runs out.
@@ -240,7 +240,7 @@ impl SpecScratch {
         self.outcomes.len() == specs.all.len() && have_room(&specs.all, &self.globs, &self.outcomes)
     }
 
-    /// How often a spec was asked whether it matches a path, modulo 2^128.
+    /// How many questions to specs there were, modulo 2^128.
     pub(crate) fn tested(&self) -> u128
         ensures { result ≡ self.now.tested }
     {

@@ -19,7 +19,7 @@ use pathspec_parts::attributes::LookUp;
 
 /// The spec that settles a path, and how it came to match it.
 ///
-/// Matches are compared by their fields in order, and patterns by value.
+/// Matches compare by their fields in order, and patterns by value.
 #[derive(Clone, Debug, Drop, PartialEq, Eq, PartialOrd, Ord, Hash)]
 pub struct Match<'a> {
     /// The spec. It is the nil pattern where no spec settles the path.
@@ -34,7 +34,7 @@ pub struct Match<'a> {
 impl<'a> Match<'a> {
     ghost use Rattle.gix_pathspec.specs.Skipping.{found_takes_whole};
 
-    /// Whether the path is taken out.
+    /// Whether the spec takes the path away.
     pub fn is_excluded(&self) -> bool
         ensures { result ≡ is_exclude (pattern_spec self.now.pattern.now) }
     {
@@ -62,19 +62,19 @@ impl Search {
     /// The spec that settles a path: the first in search order that matches it. A path is selected where this match
     /// isn't excluded (gitglossary, "pathspec").
     ///
-    /// The search is only read, so walkers can share it, each with a scratch of its own.
+    /// It only reads the search, so walkers can share one, each with a scratch of its own.
     ///
     /// A directory's path has no slash at its end: `:(glob)s*` matches the directory `src`, but not `src/`.
     ///
-    /// A path is a directory where `is_dir` is `Some(true)`. An empty path is settled by the nil pattern, and so is a
-    /// path that no spec matches, if there are only excludes.
+    /// A path is a directory where `is_dir` is `Some(true)`. The nil pattern settles an empty path, and a path that no
+    /// spec matches, if there are only excludes.
     ///
     /// It looks at each byte of the common prefix once. Of a path that begins with it, it compares at most as many heads
     /// with it as the count of specs has binary digits, and two ([`Scratch::last_compared`]). Then it asks the specs whose
     /// head begins the path, in search order, up to the first that matches ([`Scratch::last_tested`]). Each of them looks
     /// at each byte of its own path a fixed number of times, beside the steps of its glob; and to find it, it looks at as
-    /// many places for each head that begins the path as their count has binary digits. The look-up is asked once, on a
-    /// reset outcome, for each spec that lists attributes and fits. It takes no memory.
+    /// many places for each head that begins the path as their count has binary digits. For each of them that lists
+    /// attributes and fits, it resets an outcome and asks the look-up once. It takes no memory.
     ///
     /// # Errors
     /// The look-up's fault, and only where the look-up failed in this call.
@@ -108,7 +108,7 @@ impl Search {
             (L.failures look_up.new ≡ next_count (L.failures look_up.old)) }
         ensures room { scratch.new.room ≡ scratch.old.room }
 
-        // What is asked and compared is counted, and all of it is told; also where the look-up fails.
+        // It counts each question and each comparison, and tells all of them; also where the look-up fails.
         ensures counted { IsCounted self.now.specs (bstr_bytes path.entry)
             scratch.old.counts scratch.new.counts }
         ensures little_compared { IsLittleCompared self.now.specs (bstr_bytes path.entry)

@@ -1,4 +1,4 @@
-//! Searches are made: specs are normalised, numbered and put in search order.
+//! Makes searches: normalises specs, numbers them and puts them in search order.
 ghost use Rattle.std.specs.Prelude.{◌≡◌, List, Ok, Err, None, map, IfOk, IfErr, IsTrue};
 ghost use Rattle.std.specs.Iterator.{Drains, IsFinite};
 ghost use Rattle.std.specs.Option.{option_map};
@@ -71,8 +71,8 @@ impl Search {
     ///
     /// The prefix must be clean, as [`Pattern::normalize`] asks. None is the empty prefix.
     ///
-    /// The cost is linear in the bytes of all specs, and for each spec in the prefix and the root; and their heads are
-    /// sorted. It has room for its own matches; nothing grows afterwards.
+    /// The cost is linear in the bytes of all specs, and for each spec in the prefix and the root; and it sorts their
+    /// heads. The search has room for its own matches; nothing grows afterwards.
     ///
     /// # Errors
     /// [`BuildError::Spec`] for the first spec that has no normal form, and [`BuildError::Memory`].
@@ -208,7 +208,7 @@ fn of_ordered(
     })
 }
 
-/// What specs reach, and the excludes among them that are asked one by one.
+/// What specs reach, and the takers among them.
 ///
 /// # Errors
 /// Memory runs out.
@@ -368,7 +368,7 @@ fn by_head(alloc: Global, specs: Vec<CompiledSpec>) -> Result<SpecsByHead, Alloc
     Ok(SpecsByHead::new(CountedSpecs::new(specs), heads, common))
 }
 
-/// The excludes among these specs that are asked one by one, by their heads.
+/// The takers among these specs, by their heads.
 fn takers_by_head(alloc: Global, specs: &[CompiledSpec]) -> Result<TakersByHead, AllocError>
     ensures { IfOk result (λ takers. takers ≡ takers_of (specs_of specs.now)) }
 {

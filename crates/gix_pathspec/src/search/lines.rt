@@ -25,14 +25,14 @@ impl Search {
     /// empty line is at fault. (git reads a file of `--pathspec-from-file` so, but takes quotes off.) So the text `a`, line
     /// feed, `:!a/x`, line feed has the spec `a` with the number 0, and `:!a/x` with the number 1.
     ///
-    /// Each spec is normalised as its line is read, so that no list of the specs as they are written is kept. A line that
-    /// can't be read is told before a spec that has no normal form, wherever the two stand. Otherwise the specs become a
-    /// search as [`Search::from_specs`] makes one, under the same condition on the prefix.
+    /// It normalises each spec as it reads its line, and keeps no list of the specs as they are written. Where one line says
+    /// no spec and another a spec without a normal form, it tells the former, wherever the two stand. Otherwise the specs
+    /// become a search as [`Search::from_specs`] makes one, under the same condition on the prefix.
     ///
     /// It looks at each byte of the text a fixed number of times; the rest is the cost of [`Search::from_specs`].
     ///
     /// # Errors
-    /// [`BuildError::Spec`] with the number of the first line that can't be read, from 0, or else of the first whose spec
+    /// [`BuildError::Spec`] with the number of the first line that says no spec, from 0, or else of the first whose spec
     /// has no normal form; and [`BuildError::Memory`].
     pub fn from_lines(
         alloc: Global,

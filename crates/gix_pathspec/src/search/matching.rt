@@ -21,7 +21,7 @@ use pathspec_parts::glob::{Glob, Scratch};
 /// How a pattern matches a path that isn't empty and is a directory or a file, if it does: always, or since its glob
 /// matches the path, or since the path is the pattern's or lies below it. Of several ways it is the first.
 ///
-/// The glob is the one that the pattern is compared as, and None for a pattern that isn't compared as one.
+/// The glob is the pattern's, and None for a pattern that has none.
 ///
 /// A pattern without case that has a prefix directory matches only what lies below that directory, and the directory
 /// itself, both compared with case.
@@ -67,8 +67,8 @@ fn text_kind(pattern: &Pattern, path: BStr<'_>, is_dir: bool) -> Option<MatchKin
     }
 }
 
-/// Whether the path lies below the prefix directory or is that directory, compared with case; nothing is asked where
-/// case counts throughout or there is no such directory.
+/// Whether the path lies below the prefix directory or is that directory, compared with case. It is so, too, where case
+/// counts throughout or there is no such directory.
 #[inline(always)]
 pub(super) fn is_in_prefix_directory(pattern: &Pattern, path: BStr<'_>, is_dir: bool) -> bool
     ensures { result ≡ is_in_prefix_directory (pattern_spec pattern.now)
@@ -166,7 +166,7 @@ impl CompiledSpec {
 
     // Out of line, since few specs list attributes.
     /// Whether the path has each attribute that the spec lists, which has to list some: under `:(attr:a -b)x`, whether
-    /// `a` is set and `b` is unset. The look-up is asked once, on a reset outcome.
+    /// `a` is set and `b` is unset. It resets the outcome, and then asks the look-up once.
     ///
     /// # Errors
     /// The look-up's fault.
@@ -196,7 +196,7 @@ impl CompiledSpec {
     /// How the spec matches a path that isn't empty and is a directory or a file: it fits in this way, and the path has
     /// the attributes that the spec lists.
     ///
-    /// The look-up is asked at most once, and only where the spec lists attributes and fits.
+    /// It asks the look-up at most once, and only where the spec lists attributes and fits.
     ///
     /// # Errors
     /// The look-up's fault.

@@ -25,7 +25,7 @@ impl Search {
     /// and the empty text where there is no include.
     ///
     /// The head of a spec is its path before the first wildcard byte, of a spec without case its prefix directory, and
-    /// of a nil spec nothing. It was computed when the search was made; this takes constant time.
+    /// of a nil spec nothing. The search keeps it, so this takes constant time.
     pub fn common_prefix(&self) -> BStr<'_>
         ensures value { bstr_bytes result ≡ common_prefix (specs_of self.now.specs) }
         ensures longest { IsCommonPrefix (specs_of self.now.specs) (bstr_bytes result) }
@@ -81,16 +81,16 @@ impl Search {
         }
     }
 
-    /// In every search the paths of specs are bytes. That is a premise of what is promised of walks over a tree; the call
-    /// itself does nothing.
+    /// In every search the paths of specs are bytes. What walks over a tree promise rests on that; the call itself does
+    /// nothing.
     pub fn spec_paths_are_bytes(&self)
         ensures { SpecPathsAreBytes (specs_of self.now.specs) }
     {
         let _ = &self.specs;
     }
 
-    /// In every search a nil spec has no prefix directory. That is a premise of what is promised of walks over a tree; the
-    /// call itself does nothing.
+    /// In every search a nil spec has no prefix directory. What walks over a tree promise rests on that; the call itself
+    /// does nothing.
     pub fn nil_specs_lack_a_prefix(&self)
         ensures { NoNilPrefix (specs_of self.now.specs) }
     {

@@ -24,8 +24,8 @@ impl Search {
     ///
     /// It is so where there are no specs or the path is empty. Otherwise the path and the common prefix agree as far as
     /// both go, no exclude takes every path, and some include's stem and the path lead to one another, or there is no
-    /// include. Where the path is that of a file, say so by `is_dir`: a spec that wants a directory is then asked only
-    /// for what lies below it.
+    /// include. Where the path is that of a file, say so by `is_dir`: then a spec that wants a directory reaches it only
+    /// if it lies below the spec's path.
     ///
     /// It compares the path with at most as many stems of includes as their count has binary digits, and two, in each of
     /// six tables: with case and without, and of stems that a wildcard follows, of others, and of those that want a

@@ -13,7 +13,7 @@ use pathspec_heads::paths::PathTable;
 use pathspec_heads::tables::{StemHints, StemTable};
 use std::alloc::{AllocError, Global};
 
-/// What specs reach, and what their excludes take whole. It is made once, and a question goes through no list of specs.
+/// What specs reach, and what their excludes take whole. A search makes it once, and no question goes through its specs.
 #[derive(Drop)]
 pub(super) struct Reach {
     /// Whether an exclude takes every path.

@@ -10,8 +10,8 @@ use crate::search::{Scratch, Search};
 use std::alloc::{AllocError, Global};
 
 impl Search {
-    /// Room for matches of this search, in which nothing was asked yet. Each walker that shares a search has a scratch of its
-    /// own. Its cost is linear in the tokens of the largest glob and in the names of attributes that the specs list.
+    /// Room for matches of this search, with all counts at 0. Each walker that shares a search has a scratch of its own. Its
+    /// cost is linear in the tokens of the largest glob and in the names of attributes that the specs list.
     ///
     /// # Errors
     /// Memory runs out.
@@ -32,7 +32,7 @@ impl Search {
     }
 }
 
-/// Room for matches of these specs, in which nothing was asked yet.
+/// Room for matches of these specs, with all counts at 0.
 fn scratch_for(alloc: Global, specs: &SpecsByHead) -> Result<Scratch, AllocError>
     ensures fits { IfOk result (Fits specs.now) }
     ensures fresh { IfOk result (λ scratch. IsFresh scratch.counts) }

@@ -19,8 +19,8 @@ impl Search {
     /// look-up says (own; gix-pathspec has no such call).
     ///
     /// It is so where [`Search::can_match_relative_path`] says no; where an exclude without attributes takes the directory
-    /// whole, as `:!node_modules` does; where there are includes, and each that reaches the directory is taken whole by an
-    /// exclude; and where an exclude's glob takes the rest of the directory, as `:(exclude,glob)**/target/**` does. Then the
+    /// whole, as `:!node_modules` does; where there are includes, and excludes bury each that reaches the directory;
+    /// and where an exclude's glob takes the rest of the directory, as `:(exclude,glob)**/target/**` does. Then the
     /// directory itself may still be selected. Of plain specs (no wildcard, no attributes, no prefix directory without case) the
     /// answer is yes exactly where nothing at or below the directory is selected, unless an include without case stands beside
     /// an exclude with case.
@@ -83,8 +83,7 @@ impl Search {
         !path.is_empty() && self.skips_by_tables(path, scratch)
     }
 
-    /// Whether a walk may skip a directory of which tables don't say so: an exclude that is asked by itself takes it whole, or
-    /// the rest of it.
+    /// Whether a walk may skip a directory of which tables don't say so: a taker takes it whole, or the rest of it.
     #[inline(never)]
     pub(super) fn is_skipped_by_takers(&self, directory: BStr<'_>, scratch: &mut Scratch) -> bool
         requires fits { Fits self.now.specs scratch.old }

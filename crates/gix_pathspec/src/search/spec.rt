@@ -1,4 +1,4 @@
-//! Specs that are made ready for matching.
+//! Specs ready for matching.
 ghost use Rattle.std.specs.Prelude.{◌≡◌, ◌↔◌, ◌≤◌, length, IsTrue, IfOk, IfErr};
 ghost use Rattle.std.specs.Option.{option_map};
 ghost use Rattle.gix_pathspec.specs.Errors.{IsMemory};
@@ -18,14 +18,14 @@ use std::alloc::{AllocError, Global};
 use std::fmt;
 use std::marker::Model;
 
-/// A spec with its number, made ready for matching. What is printed of it is the spec.
+/// A spec with its number, ready for matching. It prints as the spec.
 #[derive(Drop)]
 pub(crate) struct CompiledSpec {
     pub(super) pattern: Pattern,
     pub(super) number: usize,
     /// How many bytes of the path are its stem.
     pub(super) stem: usize,
-    /// None for a spec that isn't compared as a glob.
+    /// None for a spec that compares its path literally.
     pub(super) glob: Option<Glob>,
 }
 
@@ -250,7 +250,7 @@ impl CompiledSpec {
         &self.pattern
     }
 
-    /// The spec without what was made ready for it.
+    /// The spec alone, by value.
     pub(super) fn into_pattern(self) -> Pattern
         ensures { pattern_spec result ≡ self.spec }
     {
@@ -271,7 +271,7 @@ impl CompiledSpec {
         self.pattern.always_matches()
     }
 
-    /// How many tokens the spec's glob has, 0 where it isn't compared as one.
+    /// How many tokens the spec's glob has, 0 where it has none.
     pub(super) fn tokens(&self) -> usize
         ensures { result ≡ tokens_of self.now.spec }
     {
@@ -311,8 +311,8 @@ impl CompiledSpec {
     }
 }
 
-/// The mode of the glob that a pattern is compared as; None for a pattern that isn't compared as one. Whether it has a wildcard
-/// was found out before.
+/// The mode of a pattern's glob; None for a pattern that compares its path literally. The caller knows whether it has a
+/// wildcard.
 pub(super) fn glob_mode(pattern: &Pattern, is_wild: bool) -> Option<Mode>
     requires { is_wild ≡ has_wildcard (pattern_spec pattern.now) }
     ensures { let spec = pattern_spec pattern.now in
@@ -328,8 +328,8 @@ pub(super) fn glob_mode(pattern: &Pattern, is_wild: bool) -> Option<Mode>
     }
 }
 
-/// The glob that a pattern is compared as; None for a pattern that isn't compared as one. Whether it has a wildcard was found out
-/// before. The cost is linear in the path.
+/// A pattern's glob; None for a pattern that compares its path literally. The caller knows whether it has a wildcard. The cost
+/// is linear in the path.
 ///
 /// # Errors
 /// Memory runs out.

@@ -1,4 +1,4 @@
-//! Excludes that are asked one by one whether a walk may skip a directory.
+//! Takers: excludes that a search asks one by one whether a walk may skip a directory.
 ghost use Rattle.std.specs.Prelude.{◌≡◌, ◌≤◌, ◌&&◌, [], ◌∷◌, ◌++◌, List, map, IfOk};
 ghost use Rattle.bstr.specs.BStr.{bstr_bytes};
 ghost use Rattle.gix_pathspec.specs.Bytes.{slash};
@@ -135,7 +135,7 @@ pub(super) fn takers_with_heads(
     Ok((takers, heads))
 }
 
-/// The glob that a spec is asked by of a directory and a slash; None where it can't take the rest of one.
+/// The glob that a spec compares with a directory and a slash; None where it can't take the rest of one.
 ///
 /// # Errors
 /// Memory runs out.

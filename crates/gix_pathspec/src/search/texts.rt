@@ -14,7 +14,7 @@ pub(crate) fn is_same_text(left: &[u8], right: &[u8], ignore_case: bool) -> bool
     }
 }
 
-// In line, since most paths are told by their length or the byte that has to be the slash.
+// In line, since of most paths the length tells, or the byte that has to be the slash.
 /// Whether a path begins with a directory's path and a slash, up to ASCII case where it doesn't count.
 #[inline(always)]
 pub(crate) fn is_below(path: &[u8], directory: &[u8], ignore_case: bool) -> bool

@@ -54,13 +54,13 @@ impl Search {
             (bstr_bytes path.entry) is_dir) }
         ensures entered { IfOk result (λ visit. visit.is_entered
             ≡ (is_dir && not (may_skip (specs_of self.now.specs) (bstr_bytes path.entry)))) }
-        // Nothing below a directory that isn't entered is chosen, whatever a look-up says.
+        // The search chooses nothing below a directory that the walk doesn't enter, whatever a look-up says.
         ensures safe { (table : Table) → SkippedIsNotChosen table (specs_of self.now.specs) }
         ensures room { scratch.new.room ≡ scratch.old.room }
-        // Of a directory that holds nothing, as far as tables tell, nothing is asked.
+        // Of a directory that holds nothing, as far as tables tell, it asks no spec and compares no head.
         ensures passed_over { IsTrue (is_dir && holds_nothing_by_tables (specs_of self.now.specs)
             (bstr_bytes path.entry)) → BeginsCounts scratch.old.counts scratch.new.counts }
-        // Of a file, and of a directory whose match takes it whole, nothing more is asked.
+        // Of a file, and of a directory whose match takes it whole, it asks for the match alone.
         ensures counted { let found = answer (L.table look_up.old) self.now.specs
             (bstr_bytes path.entry) is_dir in
             OnOk result (IsVisitCounted self.now.specs (bstr_bytes path.entry)
