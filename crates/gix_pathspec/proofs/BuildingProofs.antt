@@ -1,10 +1,10 @@
 -- Specs numbered, put in search order, and their common prefix.
-use Rattle.std.proofs.Common.{◌≡◌, ℕ, ◌+◌, ◌≤◌, arith, refl, sym, ◌∙◌, ap, subst, List, [], ◌∷◌, ◌++◌, length, take, drop, map, min, nat_eq, Some, None, Option, Ok, Err, Result, IfSome, MatchOption, unwrap_or, append_assoc, length-append, length-drop}
+use Rattle.std.proofs.Common.{◌≡◌, ℕ, ◌+◌, ◌≤◌, arith, refl, sym, ◌∙◌, ap, subst, List, [], ◌∷◌, ◌++◌, length, take, drop, map, min, nat_eq, Some, None, Option, Ok, Err, Result, IfOk, IfErr, IfSome, MatchOption, unwrap_or, append_assoc, length-drop}
 use Rattle.std.specs.Borrow.{Bor}
 use Rattle.std.specs.Option.{option_copied}
 use Rattle.std.specs.List.{filter, reduce, common_prefix_len}
+use Rattle.std.proofs.lemmas.List.{map-append}
 use Rattle.std.proofs.lemmas.List.Sums.{common_prefix_len-le}
-use Rattle.pathspec_pattern.proofs.ResultProofs.{bind_ok}
 use Rattle.pathspec_pattern.specs.declared.error.Error.{Error}
 use Rattle.pathspec_pattern.specs.declared.pattern.Pattern.{Pattern}
 use Rattle.gix_pathspec.specs.declared.search.init.BuildError.{BuildError}
@@ -18,7 +18,7 @@ use Rattle.gix_pathspec.specs.Patterns.{pattern_spec}
 use Rattle.gix_pathspec.specs.NormalForm.{normal_form}
 use Rattle.gix_pathspec.specs.Prefixes.{heads, common_front, common_prefix}
 use Rattle.gix_pathspec.specs.Search.{Numbered, at_number, numbered_from, in_search_order, search_of}
-use Rattle.gix_pathspec.specs.Building.{numbered_normal_form, with_next, or_prefix, search_of_numbered, AreNumbered, TellsFault, IsErrorAt}
+use Rattle.gix_pathspec.specs.Building.{numbered_normal_form, with_next, or_prefix, search_of_numbered, AreMade, AddsNext, AreNumbered, TellsFault, Builds, IsErrorAt}
 
 -- ---- faults
 
@@ -57,45 +57,6 @@ pub next-refused : (prefix root : List ℕ) (s : Spec) (ns : List Numbered) (k :
 next-refused prefix root s ns k fault e h =
     let refused : at_number (length ns) (normal_form prefix root s) ≡ Err fault = subst (λ (j : ℕ). at_number j (normal_form prefix root s) ≡ Err fault) e h in
     ap (λ r. (r >>= λ normal. Ok (numbered (length ns) normal)) >>= λ n. Ok (ns ++ n ∷ [])) refused
-
-one-more : (number : ℕ) (r : Result Spec (ℕ × Fault)) (ns : List Numbered) (others : Result (List Numbered) (ℕ × Fault)) (n : Numbered) → (r >>= λ s. Ok (numbered number s)) ≡ Ok n
-    → onto ns (r >>= λ s. others >>= λ ms. Ok (numbered number s ∷ ms)) ≡ onto (ns ++ n ∷ []) others
-one-more number (Ok s) ns others n e =
-    let same : numbered number s ≡ n = cc in
-    subst (λ (m : Numbered). onto ns (others >>= λ ms. Ok (numbered number s ∷ ms)) ≡ onto (ns ++ m ∷ []) others) same (onto-snoc ns (numbered number s) others)
-one-more number (Err f) ns others n e = cc
-
-one-fails : (number : ℕ) (r : Result Spec (ℕ × Fault)) (ns : List Numbered) (others : Result (List Numbered) (ℕ × Fault)) (fault : ℕ × Fault) → (r >>= λ s. Ok (numbered number s)) ≡ Err fault
-    → onto ns (r >>= λ s. others >>= λ ms. Ok (numbered number s ∷ ms)) ≡ Err fault
-one-fails number (Ok s) ns others fault e = cc
-one-fails number (Err f) ns others fault e = cc
-
--- a number more is a value of the next normal form
-next-ok : (prefix root : List ℕ) (s : Spec) (ns more : List Numbered) → with_next prefix root s ns ≡ Ok more → (n : Numbered) × (numbered_normal_form (length ns) prefix root s ≡ Ok n) × (more ≡ ns ++ n ∷ [])
-next-ok prefix root s ns more h =
-    let r = bind_ok (numbered_normal_form (length ns) prefix root s) _ more h in
-    let same : more ≡ ns ++ r.0 ∷ [] = cc in
-    (r.0, r.1, same)
-
--- the fault is that of the next spec
-next-fails : (ns : List Numbered) (r : Result Numbered (ℕ × Fault)) (fault : ℕ × Fault) → (r >>= λ n. Ok (ns ++ n ∷ [])) ≡ Err fault → r ≡ Err fault
-next-fails ns (Ok n) fault h = cc
-next-fails ns (Err f) fault h = cc
-
-module _ (prefix root : List ℕ) (all : Result (List Numbered) (ℕ × Fault)) (ns : List Numbered) (items : List Pattern) (so_far : all ≡ onto ns (numbered_from (length ns) prefix root (map pattern_spec items))) where
-  -- the next pattern gives a spec
-  pub number-more : (p : Pattern) (rest : List Pattern) (more : List Numbered) → items ≡ p ∷ rest → with_next prefix root (pattern_spec p) ns ≡ Ok more → all ≡ onto more (numbered_from (length more) prefix root (map pattern_spec rest))
-  number-more p rest more i s =
-      let next = next-ok prefix root (pattern_spec p) ns more s in
-      let grown : length ns + 1 ≡ length more = omega (arith, length-append ns (next.0 ∷ []), ap length next.2) in
-      let step = one-more (length ns) (at_number (length ns) (normal_form prefix root (pattern_spec p))) ns (numbered_from (length ns + 1) prefix root (map pattern_spec rest)) next.0 next.1 in
-      (rw i at so_far) ∙ (step ∙ (ap (λ xs. onto xs (numbered_from (length ns + 1) prefix root (map pattern_spec rest))) (sym next.2) ∙ ap (λ j. onto more (numbered_from j prefix root (map pattern_spec rest))) grown))
-
-  -- the next pattern is at fault
-  pub number-fails : (p : Pattern) (rest : List Pattern) (fault : ℕ × Fault) → items ≡ p ∷ rest → with_next prefix root (pattern_spec p) ns ≡ Err fault → all ≡ Err fault
-  number-fails p rest fault i s =
-      (rw i at so_far) ∙ one-fails (length ns) (at_number (length ns) (normal_form prefix root (pattern_spec p))) ns (numbered_from (length ns + 1) prefix root (map pattern_spec rest)) fault
-      (next-fails ns (numbered_normal_form (length ns) prefix root (pattern_spec p)) fault s)
 
 -- the first spec
 first-number : (n : ℕ) (r : Result Spec (ℕ × Fault)) → (r >>= λ s. Ok (numbered n s ∷ [])) ≡ ((r >>= λ s. Ok (numbered n s)) >>= λ m. Ok (m ∷ []))
@@ -136,6 +97,14 @@ next_from-zero prefix root s (Err fault) = refl
 pub numbered_with-next : (prefix root : List ℕ) (specs : List Spec) (s : Spec) → numbered_from 0 prefix root (specs ++ s ∷ []) ≡ (numbered_from 0 prefix root specs >>= with_next prefix root s)
 numbered_with-next prefix root specs s = numbered_from-snoc 0 prefix root specs s ∙ next_from-zero prefix root s (numbered_from 0 prefix root specs)
 
+-- one more pattern is made ready for matching, or its fault is the first
+pub made-more : (prefix root : List ℕ) (patterns : List Pattern) (p : Pattern) (ns more : List Numbered) (fault next : Option BuildError) → AreMade ns fault (numbered_from 0 prefix root (map pattern_spec patterns)) → AddsNext prefix root (pattern_spec p) ns fault more next
+    → AreMade more next (numbered_from 0 prefix root (map pattern_spec (patterns ++ p ∷ [])))
+made-more prefix root patterns p ns more fault next made adds =
+    let step : numbered_from 0 prefix root (map pattern_spec (patterns ++ p ∷ [])) ≡ (numbered_from 0 prefix root (map pattern_spec patterns) >>= with_next prefix root (pattern_spec p)) =
+    ap (numbered_from 0 prefix root) (map-append pattern_spec patterns (p ∷ [])) ∙ numbered_with-next prefix root (map pattern_spec patterns) (pattern_spec p) in
+    subst (λ c. AreMade more next c) (sym step) (adds (numbered_from 0 prefix root (map pattern_spec patterns)) made)
+
 -- ---- search order
 
 -- of all specs these are the excludes and the includes before the rest
@@ -163,6 +132,16 @@ module _ (prefix root : List ℕ) (specs : List Spec) where
   -- a spec has none
   pub search-fails : (fault : ℕ × Fault) → numbered_from 0 prefix root specs ≡ Err fault → search_of prefix root specs ≡ Err fault
   search-fails fault h = search_of-numbered_first prefix root specs ∙ ap (λ r. r >>= search_of_numbered prefix root) h
+
+  -- what is built of their normal forms is the search of the specs
+  pub search-built : {A : Type 0} (r : Result A BuildError) (view : A → List Numbered) (ns : List Numbered) → numbered_from 0 prefix root specs ≡ Ok ns → Builds view (search_of_numbered prefix root ns) r → IfOk r (λ x. search_of prefix root specs ≡ Ok (view x))
+  search-built (Ok x) view ns h b = search-normal ns h ∙ b
+  search-built (Err e) view ns h b = tt
+
+  -- and its fault is that of the search
+  pub search-told : {A : Type 0} (r : Result A BuildError) (view : A → List Numbered) (ns : List Numbered) → numbered_from 0 prefix root specs ≡ Ok ns → Builds view (search_of_numbered prefix root ns) r → IfErr r (λ e. TellsFault e (λ fault. search_of prefix root specs ≡ Err fault))
+  search-told (Ok x) view ns h b = tt
+  search-told (Err e) view ns h b = tells-on e _ _ (λ fault f. search-normal ns h ∙ f) b
 
 -- the search of normal forms is one of specs
 pub search-given : (prefix root : List ℕ) (ns given search : List Numbered) (are : AreNumbered prefix root ns) → or_prefix prefix root ns ≡ Ok given → search ≡ in_search_order given → search_of prefix root are.0 ≡ Ok search

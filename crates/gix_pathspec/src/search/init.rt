@@ -101,8 +101,9 @@ impl Search {
         // its own normal form.
         ensures forms { HoldsNormalForms × NormalFormIsNormal }
     {
-        let patterns = gather(alloc, specs)?;
-        build(alloc, patterns, prefix.unwrap_or(BStr::new(b"")), root)
+        let prefix = prefix.unwrap_or(BStr::new(b""));
+        let compiled = compile_all(alloc, specs, prefix, root)?;
+        of_compiled(alloc, compiled, None, prefix, root)
     }
 
     /// A search with the same specs and source, with room of its own. Its counts begin at 0.
@@ -121,42 +122,6 @@ impl Search {
         let source = clone_source(&self.source)?;
         Ok(of_ordered(alloc, specs, source)?)
     }
-}
-
-/// Takes every pattern.
-fn gather<I: IntoIterator<Item = Pattern>>(
-    alloc: Global,
-    specs: I,
-) -> Result<Vec<Pattern>, AllocError>
-where
-    I::IntoIter: Drop,
-    requires { (it : I.IntoIter) → I.into_iter_gives specs it
-        → I.IntoIter.can_next it × IsFinite (I.IntoIter.remaining it) }
-    ensures { IfOk result (λ patterns. (it : I.IntoIter) × I.into_iter_gives specs it
-        × Drains I.IntoIter.next_gives it patterns.items) }
-{
-    let mut patterns = Vec::new(alloc);
-    for pattern in specs {
-        patterns.push(pattern)?;
-    }
-    Ok(patterns)
-}
-
-/// Makes a search of these patterns.
-fn build(
-    alloc: Global,
-    patterns: Vec<Pattern>,
-    prefix: BStr<'_>,
-    root: BStr<'_>,
-) -> Result<Search, BuildError>
-    requires { IsTrue (is_clean_prefix (bstr_bytes prefix)) }
-    ensures search { Builds (λ search. search.specs) (search_of (bstr_bytes prefix.entry)
-        (bstr_bytes root.entry) (map pattern_spec patterns.items)) result }
-    ensures source { IfOk result (λ search. search.source ≡ None) }
-    ensures effort { IfOk result (λ search. IsFresh search.counts) }
-{
-    let specs = compile_all(alloc, patterns, prefix, root)?;
-    of_compiled(alloc, specs, None, prefix, root)
 }
 
 /// Makes a search of specs that are ready for matching, or where there is none, of the prefix, if it isn't empty.
@@ -260,23 +225,39 @@ fn or_prefix(
     Ok(specs)
 }
 
-/// Normalises each pattern and makes it ready for matching, numbered from 0.
-fn compile_all(
+/// Takes every pattern, normalises each as it comes and makes it ready for matching, numbered from 0.
+///
+/// It takes the patterns behind one that has no normal form, too.
+fn compile_all<I: IntoIterator<Item = Pattern>>(
     alloc: Global,
-    patterns: Vec<Pattern>,
+    patterns: I,
     prefix: BStr<'_>,
     root: BStr<'_>,
 ) -> Result<Vec<CompiledSpec>, BuildError>
-    requires { IsTrue (is_clean_prefix (bstr_bytes prefix)) }
-    ensures specs { Builds (λ specs. specs.items) (numbered_from 0 (bstr_bytes prefix.entry)
-        (bstr_bytes root.entry) (map pattern_spec patterns.items)) result }
+where
+    I::IntoIter: Drop,
+    requires clean { IsTrue (is_clean_prefix (bstr_bytes prefix)) }
+    requires ends { (it : I.IntoIter) → I.into_iter_gives patterns it
+        → I.IntoIter.can_next it × IsFinite (I.IntoIter.remaining it) }
+    ensures ok { IfOk result (λ specs. (it : I.IntoIter) × (xs : List Pattern)
+        × I.into_iter_gives patterns it × Drains I.IntoIter.next_gives it xs
+        × (numbered_from 0 (bstr_bytes prefix.entry) (bstr_bytes root.entry) (map pattern_spec xs)
+        ≡ Ok specs.items)) }
     ensures bytes { IfOk result (λ specs. SpecPathsAreBytes (specs_of specs.items)) }
+    ensures err { IfErr result (λ e. TellsFault e (λ fault. (it : I.IntoIter)
+        × (xs : List Pattern) × I.into_iter_gives patterns it × Drains I.IntoIter.next_gives it xs
+        × (numbered_from 0 (bstr_bytes prefix.entry) (bstr_bytes root.entry) (map pattern_spec xs)
+        ≡ Err fault))) }
 {
-    let mut specs = Vec::with_capacity(alloc, patterns.len())?;
+    let mut specs = Vec::new(alloc);
+    let mut fault = None;
     for pattern in patterns {
-        compile(alloc, &mut specs, pattern, prefix, root)?;
+        fault = compile_next(alloc, &mut specs, fault, pattern, prefix, root)?;
     }
-    Ok(specs)
+    match fault {
+        None => Ok(specs),
+        Some(error) => Err(error),
+    }
 }
 
 /// Makes one more spec ready for matching, unless one before it is at fault. It gives the first fault, if there is one.
