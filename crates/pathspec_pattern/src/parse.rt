@@ -125,7 +125,9 @@ fn holds_exclude(short: &[u8]) -> bool
 }
 
 impl Pattern {
+    // In line, since it takes the magic apart, and gives a large pattern, for each spec.
     /// The spec that magic and a body say.
+    #[inline(always)]
     #[tactic(auto, unfolding(crate::specs::Reading::spec_of))]
     fn with_body(
         alloc: Global,

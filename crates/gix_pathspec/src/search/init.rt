@@ -260,10 +260,12 @@ where
     }
 }
 
+// In line, since it moves a large pattern for each spec.
 /// Makes one more spec ready for matching, unless one before it is at fault. It gives the first fault, if there is one.
 ///
 /// # Errors
 /// Memory runs out.
+#[inline(always)]
 pub(super) fn compile_next(
     alloc: Global,
     specs: &mut Vec<CompiledSpec>,
