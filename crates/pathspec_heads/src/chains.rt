@@ -45,13 +45,29 @@ pub struct Between {
     pub agreed: usize,
 }
 
-/// The index after that of the last head that isn't behind a text, how many bytes that head agrees in, and how many heads were
-/// compared.
-#[derive(Clone, Copy)]
-struct PartitionPoint {
-    low: usize,
-    agreed: usize,
-    compared: usize,
+impl Between {
+    /// What a search through so many heads begins with.
+    #[inline(always)]
+    pub fn all(count: usize) -> Between
+        ensures low { result.low ≡ 0 }
+        ensures high { result.high ≡ count }
+    {
+        Between {
+            low: 0,
+            high: count,
+            agreed: 0,
+        }
+    }
+}
+
+/// The middle of two indexes.
+#[inline(always)]
+pub fn middle(low: usize, high: usize) -> usize
+    requires { low < high }
+    ensures within { (low ≤ result) × (result < high) }
+    ensures half { result ≡ low + (high - low) / 2 }
+{
+    low + (high - low) / 2
 }
 
 /// Where a search between two indexes looks: first at the hint or as near to it as can be, then beside that, and then in the
@@ -65,7 +81,7 @@ pub fn next_look(low: usize, high: usize, hint: usize, looks: usize) -> usize
     if looks < 2 {
         hint.clamp(low, high - 1)
     } else {
-        low + (high - low) / 2
+        middle(low, high)
     }
 }
 
@@ -139,32 +155,6 @@ fn looked(
     narrowed(heads.texts(), between, index, comparison)
 }
 
-/// The index after that of the last head that isn't behind the text, after a first look. It looks beside the head compared
-/// last, and then halves what is left; the first look is counted with its own.
-fn sought(heads: &Heads, text: &[u8], left: Between, scratch: &mut Scratch) -> PartitionPoint
-    requires rising { IsRising heads.now }
-    requires so_far { Brackets heads.now text.now left.low left.high left.agreed }
-    ensures found { Brackets heads.now text.now result.low result.low result.agreed }
-    ensures counted { (before : ℕ) → Counts before 1 scratch.old
-        → Counts before result.compared scratch.new }
-    ensures cost { (b : ℕ) → length heads.now < 2 ^ b → result.compared ≤ b + 2 }
-    ensures asked { 1 ≤ result.compared }
-{
-    let hint = scratch.last;
-    let mut between = left;
-    let mut compared = 1;
-    while between.low < between.high {
-        let index = next_look(between.low, between.high, hint, compared);
-        between = looked(heads, text, between, index, scratch);
-        compared += 1;
-    }
-    PartitionPoint {
-        low: between.low,
-        agreed: between.agreed,
-        compared,
-    }
-}
-
 /// The last head at or before the index that begins the first `agreed` bytes of the head there. It takes a link for
 /// each head that it passes, and there are at most as many as the head at the index has bytes.
 pub fn front_of(
@@ -187,6 +177,25 @@ pub fn front_of(
         }
     }
     Some(at)
+}
+
+/// The last head that begins a text, where the search for the text ended here.
+#[inline(always)]
+pub fn last_front(
+    heads: &Texts,
+    links: &[Option<usize>],
+    low: usize,
+    agreed: usize,
+) -> Option<usize>
+    requires low { low ≤ length heads.now }
+    requires chain { IsChain heads.now links.now }
+    ensures { (text : List ℕ) → Brackets heads.now text low low agreed
+        → IsLastFront heads.now (length heads.now) text result }
+{
+    if low == 0 {
+        return None;
+    }
+    front_of(heads, links, low - 1, agreed)
 }
 
 /// The last head before the one at the index that begins it, by the links of the heads before it.
@@ -285,23 +294,20 @@ impl Chains {
         ensures cost { (b : ℕ) → length self.now < 2 ^ b → result.compared ≤ b + 2 }
         ensures asked { 1 ≤ result.compared }
     {
-        let all = Between {
-            low: 0,
-            high: self.links.len(),
-            agreed: 0,
-        };
+        let all = Between::all(self.links.len());
         let index = next_look(0, all.high, scratch.last, 0);
         let left = looked(&self.heads, text, all, index, scratch);
         if left.low < left.high {
             return self.search_on(text, left, scratch);
         }
         Deepest {
-            head: self.last_front(left.low, left.agreed),
+            head: last_front(self.heads.texts(), &self.links, left.low, left.agreed),
             compared: 1,
         }
     }
 
-    /// The same after a first look, which is counted too.
+    /// The same after a first look, which is counted too. It looks beside the head compared last, and then halves what is
+    /// left.
     #[inline(never)]
     fn search_on(&self, text: &[u8], left: Between, scratch: &mut Scratch) -> Deepest
         requires { Brackets self.now text.now left.low left.high left.agreed }
@@ -311,25 +317,18 @@ impl Chains {
         ensures cost { (b : ℕ) → length self.now < 2 ^ b → result.compared ≤ b + 2 }
         ensures asked { 1 ≤ result.compared }
     {
-        let point = sought(&self.heads, text, left, scratch);
+        let hint = scratch.last;
+        let mut between = left;
+        let mut compared = 1;
+        while between.low < between.high {
+            let index = next_look(between.low, between.high, hint, compared);
+            between = looked(&self.heads, text, between, index, scratch);
+            compared += 1;
+        }
         Deepest {
-            head: self.last_front(point.low, point.agreed),
-            compared: point.compared as u128,
+            head: last_front(self.heads.texts(), &self.links, between.low, between.agreed),
+            compared: compared as u128,
         }
-    }
-
-    /// The last head that begins a text, where the search for the text ended here.
-    #[inline(always)]
-    fn last_front(&self, low: usize, agreed: usize) -> Option<usize>
-        requires { low ≤ length self.now }
-        ensures { (text : List ℕ) → Brackets self.now text low low agreed
-            → IsLastFront self.now (length self.now) text result }
-    {
-        let Chains { heads, links } = self;
-        if low == 0 {
-            return None;
-        }
-        front_of(heads.texts(), links, low - 1, agreed)
     }
 
     /// The last head before the one at the index that begins it.

@@ -6,7 +6,7 @@ ghost use Rattle.pathspec_heads.specs.Heads.{head_at, Brackets, IsLastFront, IsR
 ghost use Rattle.pathspec_heads.specs.Looks.{AgreeUpTo};
 ghost use Rattle.pathspec_heads.specs.Stems.{with_slash, leads_to, lies_below, lies_at_or_below, HasSameTexts, SomeText, NoText, IsBoundary, is_boundary};
 
-use crate::chains::{Between, front_of, linked, narrowed, next_look};
+use crate::chains::{Between, last_front, linked, middle, narrowed, next_look};
 use crate::groups::{grouped, sorted};
 use crate::heads::{StemTexts, byte_with_slash};
 use std::alloc::{AllocError, Global};
@@ -28,35 +28,6 @@ impl Model for Stems {
     ghost view = { λ s. s.texts };
 
     ghost invariant = { λ s. IsChain s.texts s.links.items };
-}
-
-/// The index after that of the last stem that isn't behind a path and a slash, and how many bytes that stem agrees in.
-#[derive(Clone, Copy)]
-struct PartitionPoint {
-    low: usize,
-    agreed: usize,
-}
-
-/// The index after that of the last text that isn't behind the path and a slash. It halves what is left.
-fn sought(texts: &StemTexts, path: &[u8], ignore_case: bool) -> PartitionPoint
-    requires { IsRising texts.now }
-    ensures { Brackets texts.now (with_slash ignore_case path.now)
-        result.low result.low result.agreed }
-{
-    let mut between = Between {
-        low: 0,
-        high: texts.texts().len(),
-        agreed: 0,
-    };
-    while between.low < between.high {
-        let index = between.low + (between.high - between.low) / 2;
-        let comparison = texts.compare_with_slash(index, path, ignore_case);
-        between = narrowed(texts.texts(), between, index, comparison);
-    }
-    PartitionPoint {
-        low: between.low,
-        agreed: between.agreed,
-    }
 }
 
 impl Stems {
@@ -82,14 +53,19 @@ impl Stems {
         self.links.is_empty()
     }
 
-    /// The last stem that begins the path and a slash.
+    /// The last stem that begins the path and a slash. It halves what is left to search.
     fn deepest(&self, path: &[u8], ignore_case: bool) -> Option<usize>
         ensures last { IsLastFront self.now (length self.now)
             (with_slash ignore_case path.now) result }
         ensures rising { IsRising self.now }
     {
-        let point = sought(&self.texts, path, ignore_case);
-        self.last_front(point.low, point.agreed)
+        let mut between = Between::all(self.links.len());
+        while between.low < between.high {
+            let index = middle(between.low, between.high);
+            let comparison = self.texts.compare_with_slash(index, path, ignore_case);
+            between = narrowed(self.texts.texts(), between, index, comparison);
+        }
+        self.last_front(between.low, between.agreed)
     }
 
     /// The last stem that begins a text, where the search for the text ended here.
@@ -100,11 +76,7 @@ impl Stems {
             → IsLastFront self.now (length self.now) text result }
         ensures rising { IsRising self.now }
     {
-        let Stems { texts, links } = self;
-        if low == 0 {
-            return None;
-        }
-        front_of(texts.texts(), links, low - 1, agreed)
+        last_front(self.texts.texts(), &self.links, low, agreed)
     }
 
     /// Whether a stem is shorter than this, and a slash stands in the path and a slash where it ends.
@@ -193,11 +165,7 @@ impl Stems {
         ensures { result ≡ list_any (λ stem.
             leads_to stem wild (fold_case ignore_case path.now)) self.now }
     {
-        let all = Between {
-            low: 0,
-            high: self.links.len(),
-            agreed: 0,
-        };
+        let all = Between::all(self.links.len());
         let index = next_look(0, all.high, *hint, 0);
         match self.looked(path, ignore_case, all, index) {
             Some(left) if left.low < left.high => {
