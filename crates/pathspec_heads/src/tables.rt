@@ -44,17 +44,14 @@ impl SpecStem<'_> {
     fn is_of_kind(&self, ignore_case: bool, kind: Kind) -> bool
         ensures { result ≡ is_of_kind ignore_case kind self.now }
     {
-        let has_kind = match kind {
+        if self.ignores_case != ignore_case {
+            return false;
+        }
+        match kind {
             Kind::Wild => self.has_wildcard,
             Kind::Literal => !self.has_wildcard && !self.wants_directory,
             Kind::Directory => !self.has_wildcard && self.wants_directory,
-        };
-        let has_case = if ignore_case {
-            self.ignores_case
-        } else {
-            !self.ignores_case
-        };
-        has_case && has_kind
+        }
     }
 }
 
