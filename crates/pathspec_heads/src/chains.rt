@@ -76,6 +76,7 @@ pub fn middle(low: usize, high: usize) -> usize
 pub fn next_look(low: usize, high: usize, hint: usize, looks: usize) -> usize
     requires { low < high }
     ensures within { (low ≤ result) × (result < high) }
+    ensures first { looks < 2 → low ≤ hint → hint < high → result ≡ hint }
     ensures middle { 2 ≤ looks → result ≡ low + (high - low) / 2 }
 {
     if looks < 2 {
