@@ -9,6 +9,9 @@ use std::simd::prelude::*;
 /// How many bytes are looked at together.
 const LANES: usize = 16;
 
+/// The wildcard bytes.
+const WILDCARDS: [u8; 4] = *b"*?[\\";
+
 /// The place of the first wildcard byte.
 pub fn place_of_wildcard(text: &[u8]) -> Option<usize>
     ensures { result ≡ position is_wildcard text.now }
@@ -55,8 +58,9 @@ fn plain_lanes(text: &[u8], at: usize) -> usize
     ensures { result ≡ min LANES (position_or_len is_wildcard (drop at text.now)) }
 {
     let bytes = u8x16::from_slice(&text[at..]);
-    let runs = bytes.simd_eq(u8x16::splat(b'*')) | bytes.simd_eq(u8x16::splat(b'?'));
-    let quotes = bytes.simd_eq(u8x16::splat(b'[')) | bytes.simd_eq(u8x16::splat(b'\\'));
+    let [star, question, bracket, backslash] = WILDCARDS;
+    let runs = bytes.simd_eq(u8x16::splat(star)) | bytes.simd_eq(u8x16::splat(question));
+    let quotes = bytes.simd_eq(u8x16::splat(bracket)) | bytes.simd_eq(u8x16::splat(backslash));
     first_set((runs | quotes).to_bitmask(), LANES)
 }
 
@@ -76,5 +80,6 @@ fn first_set(mask: u64, none: usize) -> usize
 pub fn is_wildcard(byte: u8) -> bool
     ensures { result ≡ is_wildcard byte }
 {
-    matches!(byte, b'*' | b'?' | b'[' | b'\\')
+    let [star, question, bracket, backslash] = WILDCARDS;
+    byte == star || byte == question || byte == bracket || byte == backslash
 }
