@@ -1,5 +1,6 @@
 -- What tokens are matched by.
 use Rattle.std.specs.Prelude.{◌≡◌, true}
+use Rattle.std.specs.Box.{box_value}
 use Rattle.pathspec_glob.specs.declared.middle.Way.{Way}
 use Rattle.pathspec_glob.specs.declared.middle.Way.TheVariants.{First, Word, Sets}
 use Rattle.pathspec_glob.specs.GlobParts.{MatchAsFirst}
@@ -15,11 +16,11 @@ pub record GoesByFirst (parts : TokenList) : Type 0 where
 -- the tokens that are matched in this way
 abbrev pub way_view : Way → TokenList
 way_view (First tokens) = tokens
-way_view (Word tokens word) = tokens
-way_view (Sets tokens moves) = tokens
+way_view (Word own) = (box_value own).tokens
+way_view (Sets own) = (box_value own).tokens
 
 -- the way is one of these tokens
 abbrev pub IsWayOf : TokenList → Way → Type 0
 IsWayOf parts (First tokens) = GoesByFirst parts
-IsWayOf parts (Word tokens word) = IsWordOf parts word
-IsWayOf parts (Sets tokens moves) = IsMovesOf parts moves
+IsWayOf parts (Word own) = IsWordOf parts (box_value own).word
+IsWayOf parts (Sets own) = IsMovesOf parts (box_value own).moves

@@ -29,10 +29,24 @@ pub struct Middle {
 enum Way {
     /// The first token alone, which takes the same texts.
     First(CountedFirst),
-    /// Sets of places in one word.
-    Word(CountedTokens, Word),
-    /// Sets of places in bit vectors.
-    Sets(CountedTokens, EmptyMoves),
+    /// Sets of places in one word. Few globs have them, and they are large, so they lie in a box.
+    Word(Box<ByWord>),
+    /// Sets of places in bit vectors, in a box too.
+    Sets(Box<BySets>),
+}
+
+/// Tokens as a word.
+#[derive(Drop)]
+struct ByWord {
+    tokens: CountedTokens,
+    word: Word,
+}
+
+/// Tokens and the moves between their places.
+#[derive(Drop)]
+struct BySets {
+    tokens: CountedTokens,
+    moves: EmptyMoves,
 }
 
 impl Model for Middle {
@@ -70,9 +84,8 @@ impl Middle {
     pub fn by_sets(alloc: Global, tokens: Tokens) -> Result<Middle, AllocError>
         ensures { IfOk result (λ middle. middle ≡ tokens) }
     {
-        let moves = EmptyMoves::of_tokens(alloc, &tokens)?;
         Ok(Middle {
-            way: Way::Sets(tokens.counted(), moves),
+            way: Way::by_sets(alloc, tokens)?,
         })
     }
 
@@ -82,7 +95,8 @@ impl Middle {
     {
         match &self.way {
             Way::First(tokens) => tokens.len(),
-            Way::Word(tokens, _) | Way::Sets(tokens, _) => tokens.len(),
+            Way::Word(own) => own.tokens.len(),
+            Way::Sets(own) => own.tokens.len(),
         }
     }
 
@@ -100,12 +114,12 @@ impl Middle {
     {
         match &self.way {
             Way::First(tokens) => test_first(tokens, text, steps),
-            Way::Word(_, word) => {
-                let Answer { accepted, tests } = word.run(text, case);
+            Way::Word(own) => {
+                let Answer { accepted, tests } = own.word.run(text, case);
                 steps.add(tests);
                 accepted
             }
-            Way::Sets(tokens, moves) => places.run(tokens, moves, text, case, steps),
+            Way::Sets(own) => places.run(&own.tokens, &own.moves, text, case, steps),
         }
     }
 
@@ -133,13 +147,13 @@ impl Middle {
             Way::First(tokens) => {
                 test_first(tokens, directory, steps) && test_first(tokens, b"/", steps)
             }
-            Way::Word(_, word) => {
-                let Answer { accepted, tests } = word.run_directory(directory, case);
+            Way::Word(own) => {
+                let Answer { accepted, tests } = own.word.run_directory(directory, case);
                 steps.add(tests);
                 accepted
             }
-            Way::Sets(tokens, moves) => {
-                places.run_directory(tokens, moves, directory, case, steps)
+            Way::Sets(own) => {
+                places.run_directory(&own.tokens, &own.moves, directory, case, steps)
             }
         }
     }
@@ -159,13 +173,26 @@ impl Way {
     {
         // The list has room for a token a byte of the pattern; `split_off` makes one that is just as long as it has to be.
         let own = tokens.split_off(0)?;
-        Ok(match Word::of_tokens(alloc, &own)? {
-            Some(word) => Way::Word(own.counted(), word),
-            None => {
-                let moves = EmptyMoves::of_tokens(alloc, &own)?;
-                Way::Sets(own.counted(), moves)
+        match Word::of_tokens(alloc, &own)? {
+            Some(word) => {
+                let tokens = own.counted();
+                Ok(Way::Word(Box::new(alloc, ByWord { tokens, word })?))
             }
-        })
+            None => Way::by_sets(alloc, own),
+        }
+    }
+
+    /// Tokens in bit vectors.
+    ///
+    /// # Errors
+    /// Memory runs out.
+    fn by_sets(alloc: Global, tokens: Tokens) -> Result<Way, AllocError>
+        ensures view { IfOk result (λ way. way_view way ≡ tokens) }
+        ensures way { IfOk result (λ way. IsWayOf tokens way) }
+    {
+        let moves = EmptyMoves::of_tokens(alloc, &tokens)?;
+        let tokens = tokens.counted();
+        Ok(Way::Sets(Box::new(alloc, BySets { tokens, moves })?))
     }
 }
 

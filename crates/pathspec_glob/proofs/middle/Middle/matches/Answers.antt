@@ -19,8 +19,9 @@ returns-in-First-clause-most c =
 -- a question is as many steps as there are tokens
 each : (c : After-add) → c.run-accepted.result.tests.tokens ≡ length c.args.self.now.tokens
 each c =
-    let way : IsWordOf c.in-Word.field-0 c.in-Word.word = rw c.in-Word.is at c.self.invariant in
-    c.run-accepted.ensures.tokens ∙ way.tokens ∙ ap (λ (t : TokenList). length t.tokens) (rw c.in-Word.is at c.self.view_is)
+    let own = c.deref.result.now in
+    let way : IsWordOf own.tokens own.word = rw c.deref.ensures (rw c.in-Word.is at c.self.invariant) in
+    c.run-accepted.ensures.tokens ∙ way.tokens ∙ ap (λ (t : TokenList). length t.tokens) (let same : own.tokens ≡ c.args.self.now = rw c.deref.ensures (rw c.in-Word.is at c.self.view_is) in same)
 
 pub returns-in-Word-clause-most : goal.returns-in-Word-clause-most
 returns-in-Word-clause-most c =
@@ -33,8 +34,9 @@ returns-in-Word-clause-most c =
 pub returns-in-Word-clause-least : goal.returns-in-Word-clause-least
 returns-in-Word-clause-least c accepted =
     let asked = c.run-accepted.result.tests in
-    let way : IsWordOf c.in-Word.field-0 c.in-Word.word = rw c.in-Word.is at c.self.invariant in
-    let some : 0 < asked.tokens = omega (arith, some-cell c.in-Word.field-0.tokens way.some, c.run-accepted.ensures.tokens, way.tokens) in
+    let own = c.deref.result.now in
+    let way : IsWordOf own.tokens own.word = rw c.deref.ensures (rw c.in-Word.is at c.self.invariant) in
+    let some : 0 < asked.tokens = omega (arith, some-cell own.tokens.tokens way.some, c.run-accepted.ensures.tokens, way.tokens) in
     let least = mul-le-mul {n₁ = 1} {m₁ = length c.args.text.now} {n₂ = asked.tokens} {m₂ = asked.count}
     some (omega (arith, c.run-accepted.ensures.least accepted)) in
     omega (arith, c.add.ensures.steps, least)
