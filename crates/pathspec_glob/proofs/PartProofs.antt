@@ -117,7 +117,7 @@ tail-stands mode ts = wide-stands mode (behind_head ts)
 
 -- ---- a token for any number of bytes before others for one byte each
 
-wide_size-plain : (mode : Mode) (rest : List ℕ) → wide_size mode (map (λ b. One (Byte b)) rest) ≡ 0
+pub wide_size-plain : (mode : Mode) (rest : List ℕ) → wide_size mode (map (λ b. One (Byte b)) rest) ≡ 0
 wide_size-plain mode [] = refl
 wide_size-plain mode (b ∷ rest) = rw (wide_size-plain mode rest) refl
 

@@ -88,7 +88,7 @@ tail_token Shell = Deep
 tail_token PathAware = Star
 
 -- a pattern without a wildcard is its bytes
-tokens_from-whole : (mode : Mode) (after_slash : Bool) (rest : List ℕ) → list_any is_wildcard rest ≡ false → tokens_from mode 0 after_slash rest ≡ map (λ b. One (Byte b)) rest
+pub tokens_from-whole : (mode : Mode) (after_slash : Bool) (rest : List ℕ) → list_any is_wildcard rest ≡ false → tokens_from mode 0 after_slash rest ≡ map (λ b. One (Byte b)) rest
 unfolding tokens_from
 tokens_from-whole mode after_slash rest h = ap (tokens_from mode 0 after_slash) (sym (append-nil rest)) ∙ (tokens_from-plain mode after_slash rest [] h ∙ append-nil (map (λ b. One (Byte b)) rest))
 

@@ -3,16 +3,18 @@ ghost use Rattle.std.specs.Prelude.{◌≡◌, ◌==◌, ◌≤◌, ◌++◌, �
 ghost use Rattle.std.specs.List.{list_any};
 ghost use Rattle.pathspec_glob.specs.Bytes.{first_is, is_wildcard, star};
 ghost use Rattle.pathspec_glob.specs.ByteSets.{listed_tokens};
-ghost use Rattle.pathspec_glob.specs.GlobParts.{behind_head, head_of};
+ghost use Rattle.pathspec_glob.specs.GlobParts.{behind_head, head_of, plain_tokens};
+ghost use Rattle.pathspec_glob.specs.GlobWays.{IsFormOf};
 ghost use Rattle.pathspec_glob.specs.Globs.{glob_tokens, is_tail_pattern, AnswersGlob, AnswersTail, GlobIsRelation};
 ghost use Rattle.pathspec_glob.specs.Counts.{Counts};
 
+use crate::counted::CountedFirst;
 use crate::ends::End;
 use crate::middle::Middle;
 use crate::scratch::Scratch;
 use crate::source::Source;
 use crate::tokens::Tokens;
-use crate::{Case, Mode, first_wildcard};
+use crate::{Case, Mode, first_wildcard, reading};
 use std::alloc::{AllocError, Global};
 use std::fmt;
 use std::marker::Model;
@@ -139,6 +141,27 @@ impl Parts {
         ensures parted { IfOk result (λ parts.
             IsParted mode pattern.now parts.head parts.middle parts.tail) }
     {
+        match split_plain(pattern, mode) {
+            Some(PlainParts { head, first, tail }) => Ok(Parts {
+                source: Source::of(pattern),
+                head: End::of_bytes(alloc, head, mode)?,
+                middle: Middle::of_first(first),
+                tail: End::of_bytes(alloc, tail, mode)?,
+            }),
+            None => Parts::of_tokens(alloc, pattern, mode),
+        }
+    }
+
+    /// The parts of a pattern, by its tokens.
+    ///
+    /// # Errors
+    /// Memory runs out.
+    fn of_tokens(alloc: Global, pattern: &[u8], mode: Mode) -> Result<Parts, AllocError>
+        ensures mode { IfOk result (λ parts. parts.head.mode ≡ mode) }
+        ensures pattern { IfOk result (λ parts. parts.source.pattern ≡ pattern.now) }
+        ensures parted { IfOk result (λ parts.
+            IsParted mode pattern.now parts.head parts.middle parts.tail) }
+    {
         let (head, mut behind) = split_head(alloc, pattern, mode)?;
         let middle_size = behind.wide_size();
         let tail = End::split_off(alloc, &mut behind, middle_size)?;
@@ -149,6 +172,27 @@ impl Parts {
             tail,
         })
     }
+}
+
+/// The parts of a pattern whose head and tail are bytes without a wildcard, and what stands between matches just what the first
+/// star or deep takes.
+struct PlainParts<'p> {
+    head: &'p [u8],
+    first: CountedFirst,
+    tail: &'p [u8],
+}
+
+/// The parts of a pattern that are read off its bytes, with no token made, as those of `src/**/*.c`.
+fn split_plain(pattern: &[u8], mode: Mode) -> Option<PlainParts<'_>>
+    ensures head { IfSome result (λ parts.
+        plain_tokens parts.head.now ≡ head_of (listed_tokens mode pattern.now)) }
+    ensures mode { IfSome result (λ parts. parts.first.mode ≡ mode) }
+    ensures form { IfSome result (λ parts. IsFormOf mode parts.first.tokens parts.tail.now
+        (behind_head (listed_tokens mode pattern.now))) }
+{
+    let (head, rest) = split_at_star(pattern)?;
+    let (first, tail) = reading::first_and_tail(head, rest, mode)?;
+    Some(PlainParts { head, first, tail })
 }
 
 /// The head of a pattern, and the tokens behind it. Where no other wildcard byte stands before the first star, the bytes

@@ -7,6 +7,7 @@ ghost use Rattle.pathspec_glob.specs.GlobCells.{alternates_behind};
 ghost use Rattle.pathspec_glob.specs.GlobParts.{first_token_takes, first_token_tests};
 ghost use Rattle.pathspec_glob.specs.GlobPlaces.{HasRoom, KeepsRoom};
 ghost use Rattle.pathspec_glob.specs.GlobSteps.{is_wide_at};
+ghost use Rattle.pathspec_glob.specs.GlobWays.{GoesByFirst};
 
 use crate::Case;
 use crate::counted::{CountedFirst, CountedTokens, Tests};
@@ -75,6 +76,16 @@ impl Middle {
                 None => Way::of_tokens(alloc, tokens)?,
             },
         })
+    }
+
+    /// Tokens that match just what the first of them takes.
+    pub fn of_first(first: CountedFirst) -> Middle
+        requires { GoesByFirst first }
+        ensures { result ≡ first }
+    {
+        Middle {
+            way: Way::First(first),
+        }
     }
 
     /// These tokens by bit vectors, whatever they are: nothing is asked of each byte.

@@ -1,18 +1,21 @@
 //! Patterns of globs, read as tokens (git's wildmatch).
-ghost use Rattle.std.specs.Prelude.{◌≡◌, ◌==◌, ◌+◌, ◌++◌, ◌||◌, ◌≤◌, ◌∷◌, Bool, codes, length, map, nat_eq, IfOk, IsTrue, IsFalse};
+ghost use Rattle.std.specs.Prelude.{◌≡◌, ◌==◌, ◌+◌, ◌++◌, ◌||◌, ◌≤◌, ◌∷◌, Bool, false, codes, length, map, nat_eq, IfOk, IfSome, IsTrue, IsFalse};
 ghost use Rattle.std.specs.List.{ends_with, list_any, prefix_len};
 ghost use Rattle.pathspec_glob.specs.declared.Mode.{Mode};
+ghost use Rattle.pathspec_glob.specs.declared.Mode.TheVariants.{PathAware};
 ghost use Rattle.pathspec_glob.specs.Bytes.{first_is, is_empty, is_one_of, is_wildcard, star};
 ghost use Rattle.pathspec_glob.specs.Tokens.{escaped_piece, bracket_piece, EndsPattern, is_deep, run_token, piece_of, StandsBefore, tokens_from};
 ghost use Rattle.pathspec_glob.specs.ByteSets.{listed, listed_piece, listed_tokens, ReadsOn};
 ghost use Rattle.pathspec_glob.specs.GlobParts.{behind_head};
-ghost use Rattle.pathspec_glob.specs.Tokens.Token.{One};
-ghost use Rattle.pathspec_glob.specs.GlobForms.{one_byte_view, token_view, tokens_view, piece_view};
+ghost use Rattle.pathspec_glob.specs.Tokens.Token.{One, Deep};
+ghost use Rattle.pathspec_glob.specs.GlobForms.{form_view, one_byte_view, token_view, tokens_view, piece_view};
+ghost use Rattle.pathspec_glob.specs.GlobWays.{IsFormOf};
 
+use crate::counted::CountedFirst;
 use crate::sets::ByteSet;
-use crate::tokens::{OneByte, Token};
+use crate::tokens::{FirstForm, OneByte, Token};
 use crate::wildcards::is_wildcard;
-use crate::{Mode, brackets};
+use crate::{Mode, brackets, first_wildcard};
 use std::alloc::{AllocError, Global};
 
 /// A token at the front of a pattern, and how many bytes of the pattern it takes.
@@ -52,6 +55,60 @@ pub fn behind_head(
         ≡ behind_head (listed_tokens mode (head.now ++ rest.now))) }
 {
     tokens_from(alloc, mode, is_after_slash(head), rest)
+}
+
+/// What stands between head and tail of a pattern, and the bytes of the tail, where the first star or deep takes just what all
+/// of it matches and no wildcard stands in the tail. The head is bytes without a wildcard, and the rest behind it begins with a
+/// star. No token is made, and it takes no memory; the cost is linear in the rest.
+pub fn first_and_tail<'p>(
+    head: &[u8],
+    rest: &'p [u8],
+    mode: Mode,
+) -> Option<(CountedFirst, &'p [u8])>
+    requires plain { IsFalse (list_any is_wildcard head.now) }
+    requires wide { IsTrue (first_is (λ b. b == star) rest.now) }
+    ensures mode { IfSome result (λ parts. parts.0.mode ≡ mode) }
+    ensures form { IfSome result (λ parts. IsFormOf mode parts.0.tokens parts.1.now
+        (behind_head (listed_tokens mode (head.now ++ rest.now)))) }
+{
+    let stars = count_stars(rest);
+    let (form, tail) = form_and_tail(mode, is_after_slash(head), stars, &rest[stars..])?;
+    match first_wildcard(tail) {
+        Some(_) => None,
+        None => Some((CountedFirst::new(mode, form), tail)),
+    }
+}
+
+/// The form that a run of stars and what follows it begin with, and the rest, which is the tail where it has no wildcard.
+fn form_and_tail(
+    mode: Mode,
+    after_slash: bool,
+    stars: usize,
+    behind: &[u8],
+) -> Option<(FirstForm, &[u8])>
+    ensures { IfSome result (λ parts. IsFalse (list_any is_wildcard parts.1.now)
+        → IsFormOf mode (form_view parts.0) parts.1.now
+        (run_token mode after_slash stars behind.now
+        ∷ map listed (tokens_from mode 0 false behind.now))) }
+{
+    match mode {
+        Mode::Shell => Some((FirstForm::Deep, behind)),
+        Mode::PathAware if is_deep(after_slash, stars, behind) => deep_and_tail(behind),
+        Mode::PathAware => Some((FirstForm::Star, behind)),
+    }
+}
+
+/// The same of a run that takes directories: `**` at the pattern's end, or `**/*`.
+fn deep_and_tail(behind: &[u8]) -> Option<(FirstForm, &[u8])>
+    ensures { IfSome result (λ parts. IsFalse (list_any is_wildcard parts.1.now)
+        → IsFormOf PathAware (form_view parts.0) parts.1.now
+        (Deep ∷ map listed (tokens_from PathAware 0 false behind.now))) }
+{
+    match behind {
+        [] => Some((FirstForm::Deep, behind)),
+        [b'/', b'*', tail @ ..] => Some((FirstForm::DeepSlashStar, tail)),
+        _ => None,
+    }
 }
 
 /// Whether what follows this front of a pattern stands after a slash or begins the whole.

@@ -4,7 +4,7 @@ use Rattle.pathspec_glob.specs.ByteSets.{listed_tokens}
 use Rattle.pathspec_glob.specs.GlobSteps.{TokenList}
 use Rattle.pathspec_glob.specs.GlobParts.{behind_head, head_size, middle_of, wide_size}
 use Rattle.pathspec_glob.proofs.RunProofs.{part-alternates}
-use Rattle.pathspec_glob.proofs.matcher.Parts.of_pattern.Goals as goal
+use Rattle.pathspec_glob.proofs.matcher.Parts.of_tokens.Goals as goal
 
 pub of_tokens-requires : goal.of_tokens-requires
 of_tokens-requires c =
