@@ -57,9 +57,9 @@ pub fn behind_head(
     tokens_from(alloc, mode, is_after_slash(head), rest)
 }
 
-/// What stands between head and tail of a pattern, and the bytes of the tail, where the first star or deep takes just what all
-/// of it matches and no wildcard stands in the tail. The head is bytes without a wildcard, and the rest behind it begins with a
-/// star. No token is made, and it takes no memory; the cost is linear in the rest.
+/// What stands between head and tail of a pattern, and the tail's bytes: where it is a star or deep alone, or `**/*`, and the
+/// tail has no wildcard. The head has none either, and the rest behind it begins with a star. No token is made: it takes no
+/// memory, and the cost is linear in the rest.
 pub fn first_and_tail<'p>(
     head: &[u8],
     rest: &'p [u8],
