@@ -1,6 +1,6 @@
 -- The numbers of a tree stay those of its entries when it grows and when a directory is closed.
 use Rattle.std.proofs.Common.{◌≡◌, ◌≢◌, ℕ, zero, suc, ◌+◌, ◌-◌, ◌<◌, ◌≤◌, Bool, true, false, cond, not, ◌&&◌, ◌==◌, refl, sym, ◌∙◌, ap, subst, List, [], ◌∷◌, ◌++◌, length, map, set, take, drop, arith, inl, inr, Option, Some, append_assoc, length-append, length-set}
-use Rattle.std.proofs.lemmas.Bool.{cases_lt, lt-ltb, le-ltb, ltb-true, ne_eqb}
+use Rattle.std.proofs.lemmas.Bool.{cases_eq, cases_lt, le-ltb, ltb-true, ne_eqb}
 use Rattle.std.proofs.lemmas.Grind.{flat_map-append}
 use Rattle.std.proofs.lemmas.List.{append-nil, map-append, take_all, take-append-le, drop-append-le, length_push, length-drop}
 use Rattle.std.proofs.lemmas.List.Elements.{Contains-push}
@@ -17,6 +17,7 @@ use Rattle.pathspec_parts.specs.Entries.Call.{Open, File, Close}
 use Rattle.pathspec_parts.specs.Trees.{TreeContents, empty_tree, tree_after, tree_of_calls, IsTreeName, AreNamed}
 use Rattle.pathspec_parts.specs.Cursors.{HoldsPaths}
 use Rattle.pathspec_parts.specs.TreeLayout.{name_end_at, name_start_at, name_at, end_at, is_directory_at, directories_before, directories_above, entry_of_node, tree_of_nodes, open_end, IsEnd, path_above, IsPathOfEntry, IsLayoutOf, IsLayout}
+use Rattle.pathspec_parts.proofs.EndProofs.{open-end, ends-push, open-push, open-new, within-closed, kind-closed, ends-closed}
 use Rattle.pathspec_parts.proofs.ListProofs.{snoc_cases, snoc_parts, take-snoc, count_by-push, get-front, get-set_same, get-set_other, map_range-same, filter_range-same, Contains-filter_range, filter_range-without_last}
 use Rattle.pathspec_parts.proofs.TreeProofs.{get-append, get-last, get-cases, AreOpen, IsBuilt, calls-built, empty-built}
 use Rattle.pathspec_parts.specs.declared.tree.Node.{Node}
@@ -129,16 +130,6 @@ IsPathOfEntry-more es more e name other above same h = record {
 
 -- ---- one more entry
 
--- tests on numbers that hold alike give one answer
-lt-same : (m a n b : ℕ) → (m < a → n < b) → (n < b → m < a) → nat_lt m a ≡ nat_lt n b
-lt-same m a n b f g = elim (cases_lt m a) [
-  | inl l ↦ lt-ltb m a l ∙ sym (lt-ltb n b (f l))
-  | inr l ↦ elim (cases_lt n b) [
-    | inl k ↦ let q = g k in absurd (omega (arith, l, q))
-    | inr k ↦ le-ltb m a l ∙ sym (le-ltb n b k)
-  ]
-]
-
 -- what is said of a new entry
 pub record IsNext (names : List ℕ) (nodes : List Node) (longest directories : ℕ) (name : List ℕ) (is_dir : Bool) (node : Node) (more_longest more_directories : ℕ) : Type 0 where
   pub named : IsTreeName name
@@ -218,29 +209,15 @@ module _ (names : List ℕ) (nodes : List Node) (stack : List ℕ) (longest dire
       ∙ (ap (λ t. t ++ entry_of_node (names ++ name) more count ∷ []) (map_range-same (entry_of_node (names ++ name) more) (entry_of_node names nodes) 0 count (λ i le lt. entry-old i (omega (arith, lt))))
       ∙ ap (λ x. map (entry_of_node names nodes) (range_with_len 0 count) ++ x ∷ []) entry-new))
 
-  -- each directory that was open stays open
-  open-old : (i : ℕ) → i < count → nat_lt (count + 1) (end_at more i) ≡ nat_lt count (end_at nodes i)
-  open-old i l = ap (nat_lt (count + 1)) (end-old i l) ∙ elim (h.ends i l) [
-    | inl z ↦ lt-same (count + 1) (end_at nodes i) count (end_at nodes i) (λ a. omega (arith, a)) (λ a. omega (arith, a, z))
-    | inr q ↦ elim q [
-      | inl z ↦ let r = n.room in lt-same (count + 1) (end_at nodes i) count (end_at nodes i) (λ a. omega (arith, a)) (λ a. omega (arith, z, r))
-      | inr z ↦ let r = z.1 in lt-same (count + 1) (end_at nodes i) count (end_at nodes i) (λ a. omega (arith, a)) (λ a. omega (arith, a, r))
-    ]
-  ]
-
   open_are : directories_above (names ++ name) more (length more) ≡ directories_above names nodes count ++ cond is_dir (record { number = count; name = name } ∷ []) []
   open_are =
       let p : OpenDirectory → Bool = λ d. nat_lt (count + 1) (end_at more d.number) in
       let f : ℕ → OpenDirectory = λ i. record { number = i; name = name_at (names ++ name) more i } in
       ap (λ k. directories_above (names ++ name) more k) (length_push nodes node)
       ∙ (filter_of_map_range_with_len_more p f 0 count count (omega arith)
-      ∙ (ap (λ t. t ++ cond (p (f count)) (f count ∷ []) []) (above-same names (names ++ name) nodes more (count + 1) count count (λ i lt. (name-old i lt, open-old i lt)))
-      ∙ (ap (λ b. directories_above names nodes count ++ cond b (f count ∷ []) []) (ap (nat_lt (count + 1)) end-new ∙ is_open is_dir)
+      ∙ (ap (λ t. t ++ cond (p (f count)) (f count ∷ []) []) (above-same names (names ++ name) nodes more (count + 1) count count (λ i lt. (name-old i lt, open-push count (end_at nodes) (end_at more) is_dir h.ends end-old end-new n.room i lt)))
+      ∙ (ap (λ b. directories_above names nodes count ++ cond b (f count ∷ []) []) (open-new count (end_at nodes) (end_at more) is_dir h.ends end-old end-new n.room)
       ∙ ap (λ x. directories_above names nodes count ++ cond is_dir (record { number = count; name = x } ∷ []) []) name-new)))
-    where
-      is_open : (b : Bool) → nat_lt (count + 1) (cond b open_end 0) ≡ b
-      is_open true = lt-ltb (count + 1) open_end n.room
-      is_open false = le-ltb (count + 1) 0 (omega arith)
 
   after_is : (b : Bool) → tree_after tree (own_call b name) ≡ record { entries = tree.entries ++ entry_in tree.open_directories name b ∷ []; open_directories = tree.open_directories ++ cond b (record { number = count; name = name } ∷ []) [] }
   unfolding tree_of_nodes
@@ -280,20 +257,7 @@ module _ (names : List ℕ) (nodes : List Node) (stack : List ℕ) (longest dire
   ]
 
   more_ends : (i : ℕ) → i < length more → IsEnd (length more) i (end_at more i)
-  more_ends i l = elim (more_cases i l) [
-    | inl lt ↦ subst (IsEnd (length more) i) (sym (end-old i lt)) (elim (h.ends i lt) [
-      | inl z ↦ inl z
-      | inr q ↦ elim q [
-        | inl z ↦ inr (inl z)
-        | inr z ↦ inr (inr (z.0, omega (arith, z.1, length_push nodes node)))
-      ]
-    ])
-    | inr e ↦ let P : ℕ → Type 0 = λ k. IsEnd (length more) k (end_at more k) in subst P (sym e) (subst (IsEnd (length more) count) (sym end-new) (new_end is_dir))
-  ]
-    where
-      new_end : (b : Bool) → IsEnd (length more) count (cond b open_end 0)
-      new_end true = inr (inl refl)
-      new_end false = inl refl
+  more_ends = ends-push count (end_at nodes) (end_at more) is_dir h.ends end-old end-new (length more) (omega (arith, length_push nodes node))
 
   entries_count : length tree.entries ≡ count
   entries_count = length-tree_of_nodes names nodes
@@ -383,13 +347,7 @@ module _ (names : List ℕ) (nodes : List Node) (stack : List ℕ) (longest dire
       let r = (Contains-above names nodes (length nodes) place).0 c in
       let l = ltb-true (length nodes) (end_at nodes place) r.1 in (
         r.0,
-        elim (h.ends place r.0) [
-          | inl z ↦ absurd (omega (arith, z, l))
-          | inr q ↦ elim q [
-            | inl z ↦ z
-            | inr z ↦ absurd (omega (arith, z.1, l))
-          ]
-        ],
+        open-end (length nodes) place (end_at nodes place) (h.ends place r.0) l,
         r.1,
       )
 
@@ -417,15 +375,6 @@ module _ (names : List ℕ) (nodes : List Node) (stack : List ℕ) (longest dire
     get_closed : slice_get closed place ≡ Some (record node { end = length nodes })
     get_closed = get-set_same nodes place (record node { end = length nodes }) top_is.0
 
-    cases_place : (i : ℕ) → (i ≡ place) ⊎ (i ≢ place)
-    cases_place i = elim (cases_lt i place) [
-      | inl l ↦ inr (λ e. omega (arith, e, l))
-      | inr g ↦ elim (cases_lt place i) [
-        | inl l ↦ inr (λ e. omega (arith, e, l))
-        | inr k ↦ inl (omega (arith, g, k))
-      ]
-    ]
-
     end-top : end_at closed place ≡ length nodes
     end-top = ap (λ (o : Option Node). unwrap_or (option_map (λ x. x.end) o) 0) get_closed
 
@@ -433,7 +382,7 @@ module _ (names : List ℕ) (nodes : List Node) (stack : List ℕ) (longest dire
     end-other i n = ap (λ (o : Option Node). unwrap_or (option_map (λ x. x.end) o) 0) (get-set_other nodes place i (record node { end = length nodes }) n)
 
     name_end-closed : (i : ℕ) → name_end_at closed i ≡ name_end_at nodes i
-    name_end-closed i = elim (cases_place i) [
+    name_end-closed i = elim (cases_eq i place) [
       | inl e ↦
           let P : ℕ → Type 0 = λ k. name_end_at closed k ≡ name_end_at nodes k in
           subst P (sym e) (ap (λ (o : Option Node). unwrap_or (option_map (λ x. x.name_end) o) 0) get_closed ∙ sym (ap (λ (o : Option Node). unwrap_or (option_map (λ x. x.name_end) o) 0) at))
@@ -446,32 +395,13 @@ module _ (names : List ℕ) (nodes : List Node) (stack : List ℕ) (longest dire
     name-closed : (i : ℕ) → name_at names closed i ≡ name_at names nodes i
     name-closed i = ap (λ a. slice_range names a (name_end_at closed i)) (start-closed i) ∙ ap (λ b. slice_range names (name_start_at nodes i) b) (name_end-closed i)
 
-    -- an entry before the end lies in the directory as before
-    within : (i j : ℕ) → i < length nodes → nat_lt i (end_at closed j) ≡ nat_lt i (end_at nodes j)
-    within i j l = elim (cases_place j) [
-      | inl e ↦
-          let P : ℕ → Type 0 = λ k. nat_lt i (end_at closed k) ≡ nat_lt i (end_at nodes k) in
-          subst P (sym e) (lt-same i (end_at closed place) i (end_at nodes place) (λ a. omega (arith, l, room, top_is.1)) (λ a. omega (arith, l, end-top)))
-      | inr n ↦ ap (nat_lt i) (end-other j n)
-    ]
-
     above-closed : (i : ℕ) → i < length nodes → directories_above names closed i ≡ directories_above names nodes i
-    above-closed i l = above-same names names nodes closed i i i (λ j lt. (name-closed j, within i j l))
-
-    kind-closed : (i : ℕ) → is_directory_at closed i ≡ is_directory_at nodes i
-    kind-closed i = elim (cases_place i) [
-      | inl e ↦
-          let P : ℕ → Type 0 = λ k. is_directory_at closed k ≡ is_directory_at nodes k in
-          let a : (end_at closed place == 0) ≡ false = ne_eqb (end_at closed place) 0 (λ z. omega (arith, z, end-top, top_is.0)) in
-          let b : (end_at nodes place == 0) ≡ false = ne_eqb (end_at nodes place) 0 (λ z. omega (arith, z, top_is.1)) in
-          subst P (sym e) (ap not (a ∙ sym b))
-      | inr n ↦ ap (λ e. not (e == 0)) (end-other i n)
-    ]
+    above-closed i l = above-same names names nodes closed i i i (λ j lt. (name-closed j, within-closed (length nodes) place (end_at nodes) (end_at closed) top_is.0 room top_is.1 end-top end-other i j l))
 
     entry-closed : (i : ℕ) → i < length nodes → entry_of_node names closed i ≡ entry_of_node names nodes i
     entry-closed i l =
         ap (λ x. entry_in x (name_at names closed i) (is_directory_at closed i)) (above-closed i l)
-        ∙ (ap (λ x. entry_in (directories_above names nodes i) x (is_directory_at closed i)) (name-closed i) ∙ ap (λ b. entry_in (directories_above names nodes i) (name_at names nodes i) b) (kind-closed i))
+        ∙ (ap (λ x. entry_in (directories_above names nodes i) x (is_directory_at closed i)) (name-closed i) ∙ ap (λ b. entry_in (directories_above names nodes i) (name_at names nodes i) b) (kind-closed (length nodes) place (end_at nodes) (end_at closed) top_is.0 room top_is.1 end-top end-other i))
 
     long : length closed ≡ length nodes
     long = length-set nodes place (record node { end = length nodes })
@@ -508,13 +438,10 @@ module _ (names : List ℕ) (nodes : List Node) (stack : List ℕ) (longest dire
         ap (λ es. record { entries = es; open_directories = directories_above names closed (length closed) }) e ∙ ap (λ os. record { entries = map (entry_of_node names nodes) (range_with_len 0 (length nodes)); open_directories = os }) (o.2 ∙ sym o.3)
 
     closed_ends : (i : ℕ) → i < length closed → IsEnd (length closed) i (end_at closed i)
-    closed_ends i l = elim (cases_place i) [
-      | inl e ↦ let P : ℕ → Type 0 = λ k. IsEnd (length closed) k (end_at closed k) in subst P (sym e) (inr (inr (omega (arith, end-top, top_is.0), omega (arith, end-top, long))))
-      | inr n ↦ subst (IsEnd (length closed) i) (sym (end-other i n)) (subst (λ k. IsEnd k i (end_at nodes i)) (sym long) (h.ends i (omega (arith, l, long))))
-    ]
+    closed_ends = ends-closed (length nodes) place (end_at nodes) (end_at closed) top_is.0 room top_is.1 end-top end-other h.ends (length closed) long
 
     closed_paths : (i : ℕ) (m : Node) (e : Entry) → slice_get closed i ≡ Some m → slice_get (tree_of_nodes names nodes).entries i ≡ Some e → IsPathOfEntry (tree_of_nodes names nodes).entries e (name_at names closed i) m.above
-    closed_paths i m e a b = subst (λ x. IsPathOfEntry (tree_of_nodes names nodes).entries e x m.above) (sym (name-closed i)) (elim (cases_place i) [
+    closed_paths i m e a b = subst (λ x. IsPathOfEntry (tree_of_nodes names nodes).entries e x m.above) (sym (name-closed i)) (elim (cases_eq i place) [
       | inl p ↦
           let same : record node { end = length nodes } ≡ m = same_Some (record node { end = length nodes }) m (sym get_closed ∙ (ap (slice_get closed) (sym p) ∙ a)) in
           subst (λ (x : Node). IsPathOfEntry (tree_of_nodes names nodes).entries e (name_at names nodes i) x.above) same (h.paths i node e (ap (slice_get nodes) p ∙ at) b)

@@ -7,6 +7,7 @@ pub mod TreeProofs
 mod TreeRows
 pub mod SeenProofs
 pub mod ListProofs
+pub mod EndProofs
 pub mod LayoutProofs
 pub mod NodeProofs
 pub mod CursorProofs

@@ -1,9 +1,9 @@
 -- What the numbers of a tree say of one entry.
 use Rattle.std.proofs.Common.{◌≡◌, ◌≢◌, ℕ, ◌+◌, ◌-◌, ◌<◌, ◌≤◌, cond, not, ◌==◌, sym, ◌∙◌, ap, subst, List, [], ◌∷◌, ◌++◌, length, take, arith, inl, inr, Option, Some, append_assoc, length-append}
-use Rattle.std.proofs.lemmas.Bool.{lt-ltb, le-ltb, ltb-true}
+use Rattle.std.proofs.lemmas.Bool.{lt-ltb, le-ltb}
 use Rattle.std.proofs.lemmas.List.{take_at, length_push}
 use Rattle.std.proofs.lemmas.Option.{slice_get_within, same_Some}
-use Rattle.std.specs.Prelude.{◌↔◌, slice_get, Contains, nat_lt, unwrap_or, option_map}
+use Rattle.std.specs.Prelude.{slice_get, nat_lt, unwrap_or, option_map}
 use Rattle.pathspec_glob.specs.Bytes.{slash}
 use Rattle.pathspec_parts.specs.Entries.{Entry, numbers_of}
 use Rattle.pathspec_parts.specs.Trees.{TreeContents, IsNested, HasBytePaths}
@@ -11,6 +11,7 @@ use Rattle.pathspec_parts.specs.Cursors.{IsEndOf, IsNearPath, HoldsPaths}
 use Rattle.pathspec_parts.specs.TreeLayout.{name_at, end_at, directories_above, entry_of_node, tree_of_nodes, open_end, IsPathOfEntry, IsLayout}
 use Rattle.pathspec_parts.proofs.ListProofs.{snoc_cases, get-map_range}
 use Rattle.pathspec_parts.proofs.TreeProofs.{get-last, tree_of_calls-nested, tree_of_calls-bytes}
+use Rattle.pathspec_parts.proofs.EndProofs.{file-ends, directory-ends}
 use Rattle.pathspec_parts.proofs.LayoutProofs.{Contains-above, length-tree_of_nodes}
 use Rattle.pathspec_parts.specs.declared.tree.Node.{Node}
 
@@ -58,34 +59,20 @@ module _ (names : List ℕ) (nodes : List Node) (stack : List ℕ) (longest dire
       let inside : i < length nodes = let w = slice_get_within t.entries i e s in omega (arith, w, entries_count) in
       (inside, same_Some e (entry_of_node names nodes i) (sym s ∙ (ap (λ (x : TreeContents). slice_get x.entries i) (sym view) ∙ get-tree_of_nodes names nodes i inside)))
 
-  -- an entry lies in those before it that end after it
-  lies_in : (i j : ℕ) (f : Entry) → i < j → slice_get t.entries j ≡ Some f → Contains f.above i ↔ (j < end_at nodes i)
-  lies_in i j f l s =
-      let is : f.above ≡ numbers_of (directories_above names nodes j) = ap (λ (x : Entry). x.above) (entry_is j f s).1 in
-      let both = Contains-above names nodes j i in (
-        λ c. ltb-true j (end_at nodes i) (both.0 (subst (λ (x : List ℕ). Contains x i) is c)).1,
-        λ lt. subst (λ (x : List ℕ). Contains x i) (sym is) (both.1 (l, lt-ltb j (end_at nodes i) lt)),
-      )
+  above_is : (j : ℕ) (f : Entry) → slice_get t.entries j ≡ Some f → f.above ≡ numbers_of (directories_above names nodes j)
+  above_is j f s = ap (λ (x : Entry). x.above) (entry_is j f s).1
 
   module _ (i : ℕ) (node : Node) (at : slice_get nodes i ≡ Some node) where
     end_at_is : end_at nodes i ≡ node.end
     end_at_is = ap (λ (o : Option Node). unwrap_or (option_map (λ x. x.end) o) 0) at
 
     pub end_of_file : node.end ≡ 0 → IsEndOf t.entries i (i + 1)
-    end_of_file z = (omega arith, λ j f l s. (λ c. let r = (lies_in i j f l s).0 c in omega (arith, r, end_at_is, z), λ lt. absurd (omega (arith, l, lt))))
+    end_of_file z = file-ends (end_at nodes) (λ j. numbers_of (directories_above names nodes j)) t.entries (Contains-above names nodes) above_is i (end_at_is ∙ z)
 
     pub end_of_directory : node.end ≢ 0 → length nodes ≤ open_end → IsEndOf t.entries i node.end
     end_of_directory n room =
-        let w = slice_get_within nodes i node at in (
-          elim (h.ends i w) [
-            | inl z ↦ absurd (n (sym end_at_is ∙ z))
-            | inr q ↦ elim q [
-              | inl z ↦ omega (arith, z, w, room, end_at_is)
-              | inr z ↦ omega (arith, z.0, end_at_is)
-            ]
-          ],
-          λ j f l s. let r = lies_in i j f l s in (λ c. let k = r.0 c in omega (arith, k, end_at_is), λ lt. r.1 (omega (arith, lt, end_at_is))),
-        )
+        let w = slice_get_within nodes i node at in
+        subst (IsEndOf t.entries i) end_at_is (directory-ends (end_at nodes) (λ j. numbers_of (directories_above names nodes j)) t.entries (Contains-above names nodes) above_is (length nodes) i w room (h.ends i w) (λ z. n (sym end_at_is ∙ z)))
 
     pub kind_is : (e : Entry) → slice_get t.entries i ≡ Some e → not (node.end == 0) ≡ e.is_dir
     kind_is e s = ap (λ k. not (k == 0)) (sym end_at_is) ∙ ap (λ (x : Entry). x.is_dir) (sym (entry_is i e s).1)

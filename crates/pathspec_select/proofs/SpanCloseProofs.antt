@@ -1,19 +1,19 @@
 -- The numbers of an outline stay those of its entries when a directory is closed.
-use Rattle.std.proofs.Common.{◌≡◌, ◌≢◌, ℕ, zero, suc, ◌+◌, ◌-◌, ◌<◌, ◌≤◌, Bool, true, false, cond, not, ◌==◌, refl, sym, ◌∙◌, ap, subst, List, [], ◌∷◌, ◌++◌, length, map, set, take, arith, inl, inr, Option, Some, length-set}
-use Rattle.std.proofs.lemmas.Bool.{cases_lt, cases_Bool, both_ways, lt-ltb, le-ltb, ltb-true, ne_eqb}
+use Rattle.std.proofs.Common.{◌≡◌, ◌≢◌, ℕ, zero, suc, ◌+◌, ◌-◌, ◌<◌, ◌≤◌, Bool, true, cond, not, ◌==◌, refl, sym, ◌∙◌, ap, subst, List, [], ◌∷◌, ◌++◌, length, map, set, take, arith, inl, inr, Option, Some, length-set}
+use Rattle.std.proofs.lemmas.Bool.{cases_eq, cases_lt, cases_Bool, both_ways, lt-ltb, le-ltb, ltb-true}
 use Rattle.std.proofs.lemmas.List.{append-nil}
 use Rattle.std.proofs.lemmas.List.Elements.{Contains-push}
 use Rattle.std.proofs.lemmas.List.FromFn.{filter_of_map_range_with_len_more}
 use Rattle.std.proofs.lemmas.Option.{same_Some}
-use Rattle.std.specs.Prelude.{◌⊎◌, slice_get, Contains, filter, nat_lt, unwrap_or, option_map}
+use Rattle.std.specs.Prelude.{slice_get, Contains, filter, nat_lt, unwrap_or, option_map}
 use Rattle.std.specs.List.{range_with_len}
 use Rattle.pathspec_parts.specs.TreeLayout.{open_end, IsEnd}
+use Rattle.pathspec_parts.proofs.EndProofs.{open-end, within-closed, kind-closed, ends-closed}
 use Rattle.pathspec_parts.proofs.ListProofs.{snoc_parts, take-snoc, get-set_same, get-set_other, map_range-same, filter_range-same, filter_range-without_last}
 use Rattle.pathspec_select.specs.Spans.{SpanContents, contents_closed}
 use Rattle.pathspec_select.specs.SpanLayout.{path_of_span, path_at_span, end_at, numbers_above, entry_of_span, contents_of_spans, AreSpans, AreSpansOf}
 use Rattle.pathspec_select.specs.declared.listing.spans.Span.{Span}
 use Rattle.pathspec_select.proofs.SpanProofs.{Contains-above}
-use Rattle.pathspec_select.proofs.SpanGrowProofs.{lt-same}
 
 -- the last number below n that passes is the greatest
 greatest : (p : ℕ → Bool) (n : ℕ) (xs : List ℕ) (t : ℕ) → filter p (map (λ k. k) (range_with_len 0 n)) ≡ xs ++ t ∷ [] → (m : ℕ) → m < n → p m ≡ true → m ≤ t
@@ -58,13 +58,7 @@ module _ (bytes : List ℕ) (spans : List Span) (stack : List ℕ) (directories 
         let r = (Contains-above spans (length spans) place).0 (subst (λ (t : List ℕ). Contains t place) (sym numbers) (Contains-push below place)) in
         let l = ltb-true (length spans) (end_at spans place) r.1 in (
           r.0,
-          elim (h.ends place r.0) [
-            | inl z ↦ absurd (omega (arith, z, l))
-            | inr q ↦ elim q [
-              | inl z ↦ z
-              | inr z ↦ let w = z.1 in absurd (omega (arith, w, l))
-            ]
-          ],
+          open-end (length spans) place (end_at spans place) (h.ends place r.0) l,
           r.1,
         )
 
@@ -82,15 +76,6 @@ module _ (bytes : List ℕ) (spans : List Span) (stack : List ℕ) (directories 
       long : length closed ≡ length spans
       long = length-set spans place (record span { end = length spans })
 
-      cases_place : (i : ℕ) → (i ≡ place) ⊎ (i ≢ place)
-      cases_place i = elim (cases_lt i place) [
-        | inl l ↦ inr (λ e. omega (arith, e, l))
-        | inr g ↦ elim (cases_lt place i) [
-          | inl l ↦ inr (λ e. omega (arith, e, l))
-          | inr k ↦ inl (omega (arith, g, k))
-        ]
-      ]
-
       end-top : end_at closed place ≡ length spans
       end-top = ap (λ (o : Option Span). unwrap_or (option_map (λ x. x.end) o) 0) get_closed
 
@@ -98,39 +83,23 @@ module _ (bytes : List ℕ) (spans : List Span) (stack : List ℕ) (directories 
       end-other i n = ap (λ (o : Option Span). unwrap_or (option_map (λ x. x.end) o) 0) (get-set_other spans place i (record span { end = length spans }) n)
 
       pub path-closed : (i : ℕ) → path_at_span bytes closed i ≡ path_at_span bytes spans i
-      path-closed i = elim (cases_place i) [
+      path-closed i = elim (cases_eq i place) [
         | inl e ↦
             let P : ℕ → Type 0 = λ k. path_at_span bytes closed k ≡ path_at_span bytes spans k in
             subst P (sym e) (ap (λ (o : Option Span). unwrap_or (option_map (path_of_span bytes) o) []) get_closed ∙ sym (ap (λ (o : Option Span). unwrap_or (option_map (path_of_span bytes) o) []) at))
         | inr n ↦ ap (λ (o : Option Span). unwrap_or (option_map (path_of_span bytes) o) []) (get-set_other spans place i (record span { end = length spans }) n)
       ]
 
-      -- an entry before the end lies in the directory as before
-      within : (i j : ℕ) → i < length spans → nat_lt i (end_at closed j) ≡ nat_lt i (end_at spans j)
-      within i j l = elim (cases_place j) [
-        | inl e ↦
-            let P : ℕ → Type 0 = λ k. nat_lt i (end_at closed k) ≡ nat_lt i (end_at spans k) in
-            subst P (sym e) (lt-same i (end_at closed place) i (end_at spans place) (λ a. omega (arith, l, room, top_is.1)) (λ a. omega (arith, l, end-top)))
-        | inr n ↦ ap (nat_lt i) (end-other j n)
-      ]
+      most : length spans ≤ open_end
+      most = omega (arith, room)
 
       above-closed : (i : ℕ) → i < length spans → numbers_above closed i ≡ numbers_above spans i
-      above-closed i l = ap (map (λ k. k)) (filter_range-same (λ k. nat_lt i (end_at closed k)) (λ k. nat_lt i (end_at spans k)) (λ k. k) (λ k. k) 0 i (λ j le lt. (refl, within i j l)))
-
-      kind-closed : (i : ℕ) → not (end_at closed i == 0) ≡ not (end_at spans i == 0)
-      kind-closed i = elim (cases_place i) [
-        | inl e ↦
-            let P : ℕ → Type 0 = λ k. not (end_at closed k == 0) ≡ not (end_at spans k == 0) in
-            let a : (end_at closed place == 0) ≡ false = ne_eqb (end_at closed place) 0 (λ z. omega (arith, z, end-top, top_is.0)) in
-            let b : (end_at spans place == 0) ≡ false = ne_eqb (end_at spans place) 0 (λ z. omega (arith, z, top_is.1)) in
-            subst P (sym e) (ap not (a ∙ sym b))
-        | inr n ↦ ap (λ e. not (e == 0)) (end-other i n)
-      ]
+      above-closed i l = ap (map (λ k. k)) (filter_range-same (λ k. nat_lt i (end_at closed k)) (λ k. nat_lt i (end_at spans k)) (λ k. k) (λ k. k) 0 i (λ j le lt. (refl, within-closed (length spans) place (end_at spans) (end_at closed) top_is.0 most top_is.1 end-top end-other i j l)))
 
       entry-closed : (i : ℕ) → i < length spans → entry_of_span bytes closed i ≡ entry_of_span bytes spans i
       entry-closed i l =
           ap (λ x. record { path = x; is_dir = not (end_at closed i == 0); above = numbers_above closed i }) (path-closed i)
-          ∙ (ap (λ b. record { path = path_at_span bytes spans i; is_dir = b; above = numbers_above closed i }) (kind-closed i)
+          ∙ (ap (λ b. record { path = path_at_span bytes spans i; is_dir = b; above = numbers_above closed i }) (kind-closed (length spans) place (end_at spans) (end_at closed) top_is.0 most top_is.1 end-top end-other i)
           ∙ ap (λ x. record { path = path_at_span bytes spans i; is_dir = not (end_at spans i == 0); above = x }) (above-closed i l))
 
       open_closed : numbers_above closed (length closed) ≡ below
@@ -158,10 +127,7 @@ module _ (bytes : List ℕ) (spans : List Span) (stack : List ℕ) (directories 
           ∙ ap (λ os. record { entries = map (entry_of_span bytes spans) (range_with_len 0 (length spans)); open_numbers = os; bytes = bytes }) (open_closed ∙ sym taken)
 
       closed_ends : (i : ℕ) → i < length closed → IsEnd (length closed) i (end_at closed i)
-      closed_ends i l = elim (cases_place i) [
-        | inl e ↦ let P : ℕ → Type 0 = λ k. IsEnd (length closed) k (end_at closed k) in subst P (sym e) (inr (inr (omega (arith, end-top, top_is.0), omega (arith, end-top, long))))
-        | inr n ↦ subst (IsEnd (length closed) i) (sym (end-other i n)) (subst (λ k. IsEnd k i (end_at spans i)) (sym long) (h.ends i (omega (arith, l, long))))
-      ]
+      closed_ends = ends-closed (length spans) place (end_at spans) (end_at closed) top_is.0 most top_is.1 end-top end-other h.ends (length closed) long
 
       -- what stands after the directory is closed
       ends_below : (m : ℕ) → place < m → m < length spans → end_at spans m ≤ length spans
@@ -176,12 +142,12 @@ module _ (bytes : List ℕ) (spans : List Span) (stack : List ℕ) (directories 
       ]
 
       closed_laminar : (k m : ℕ) → k < m → m < end_at closed k → m < length closed → end_at closed m ≤ end_at closed k
-      closed_laminar k m a b l = elim (cases_place k) [
+      closed_laminar k m a b l = elim (cases_eq k place) [
         | inl e ↦
             let ne : m ≢ place = λ z. omega (arith, z, e, a) in
             let less = ends_below m (omega (arith, e, a)) (omega (arith, l, long)) in
             omega (arith, less, end-other m ne, ap (end_at closed) e, end-top)
-        | inr n ↦ elim (cases_place m) [
+        | inr n ↦ elim (cases_eq m place) [
           | inl e ↦
               let old = h.laminar k m a (omega (arith, b, end-other k n)) (omega (arith, l, long)) in
               omega (arith, old, ap (end_at spans) e, top_is.1, ap (end_at closed) e, end-top, end-other k n, room)
@@ -192,7 +158,7 @@ module _ (bytes : List ℕ) (spans : List Span) (stack : List ℕ) (directories 
       ]
 
       closed_fits : (i : ℕ) (s : Span) → slice_get closed i ≡ Some s → s.start + s.length ≤ length bytes
-      closed_fits i s e = elim (cases_place i) [
+      closed_fits i s e = elim (cases_eq i place) [
         | inl z ↦
             let same : record span { end = length spans } ≡ s = same_Some (record span { end = length spans }) s (sym get_closed ∙ (ap (slice_get closed) (sym z) ∙ e)) in
             subst (λ (x : Span). x.start + x.length ≤ length bytes) same (h.fits place span at)

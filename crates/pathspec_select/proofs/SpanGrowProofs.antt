@@ -1,6 +1,6 @@
 -- The numbers of an outline stay those of its entries when one more is added.
 use Rattle.std.proofs.Common.{◌≡◌, ◌≢◌, ℕ, ◌+◌, ◌<◌, ◌≤◌, Bool, true, false, cond, not, ◌&&◌, ◌==◌, refl, sym, ◌∙◌, ap, subst, List, [], ◌∷◌, ◌++◌, length, map, drop, arith, inl, inr, Option, Some}
-use Rattle.std.proofs.lemmas.Bool.{cases_lt, lt-ltb, le-ltb, ltb-true, ne_eqb}
+use Rattle.std.proofs.lemmas.Bool.{cases_lt, lt-ltb, ltb-true, ne_eqb}
 use Rattle.std.proofs.lemmas.List.{append-nil, map-append, length_push}
 use Rattle.std.proofs.lemmas.List.Elements.{All-take, All-drop}
 use Rattle.std.proofs.lemmas.List.FromFn.{filter_of_map_range_with_len_more, map-range_with_len_more}
@@ -11,22 +11,13 @@ use Rattle.pathspec_parts.specs.Paths.{IsBytes}
 use Rattle.pathspec_parts.specs.Entries.{Entry}
 use Rattle.pathspec_parts.specs.Trees.{IsNested, IsAbove, HasBytePaths}
 use Rattle.pathspec_parts.specs.TreeLayout.{open_end, IsEnd}
+use Rattle.pathspec_parts.proofs.EndProofs.{ends-push, open-push, open-new}
 use Rattle.pathspec_parts.proofs.ListProofs.{count_by-push, get-front, map_range-same, filter_range-same}
 use Rattle.pathspec_parts.proofs.TreeProofs.{get-append, get-last, get-cases}
 use Rattle.pathspec_select.specs.Spans.{SpanContents, contents_after, LiesInOpen}
 use Rattle.pathspec_select.specs.SpanLayout.{path_of_span, path_at_span, end_at, numbers_above, entry_of_span, contents_of_spans, AreSpans, AreSpansOf}
 use Rattle.pathspec_select.specs.declared.listing.spans.Span.{Span}
 use Rattle.pathspec_select.proofs.SpanProofs.{Contains-above, length-contents, get-contents}
-
--- tests on numbers that hold alike give one answer
-pub lt-same : (m a n b : ℕ) → (m < a → n < b) → (n < b → m < a) → nat_lt m a ≡ nat_lt n b
-lt-same m a n b f g = elim (cases_lt m a) [
-  | inl l ↦ lt-ltb m a l ∙ sym (lt-ltb n b (f l))
-  | inr l ↦ elim (cases_lt n b) [
-    | inl k ↦ let q = g k in absurd (omega (arith, l, q))
-    | inr k ↦ le-ltb m a l ∙ sym (le-ltb n b k)
-  ]
-]
 
 -- what is said of a new entry
 pub record IsNext (bytes : List ℕ) (spans : List Span) (is_dir : Bool) (span : Span) : Type 0 where
@@ -89,16 +80,6 @@ module _ (bytes : List ℕ) (spans : List Span) (stack : List ℕ) (directories 
       ∙ (ap (λ t. t ++ entry_of_span bytes more count ∷ []) (map_range-same (entry_of_span bytes more) (entry_of_span bytes spans) 0 count (λ i le lt. entry-old i (omega (arith, lt))))
       ∙ ap (λ x. map (entry_of_span bytes spans) (range_with_len 0 count) ++ x ∷ []) entry-new))
 
-  -- each directory that was open stays open
-  open-old : (i : ℕ) → i < count → nat_lt (count + 1) (end_at more i) ≡ nat_lt count (end_at spans i)
-  open-old i l = ap (nat_lt (count + 1)) (end-old i l) ∙ elim (h.ends i l) [
-    | inl z ↦ lt-same (count + 1) (end_at spans i) count (end_at spans i) (λ a. omega (arith, a)) (λ a. omega (arith, a, z))
-    | inr q ↦ elim q [
-      | inl z ↦ let r = n.room in lt-same (count + 1) (end_at spans i) count (end_at spans i) (λ a. omega (arith, a)) (λ a. omega (arith, z, r))
-      | inr z ↦ let r = z.1 in lt-same (count + 1) (end_at spans i) count (end_at spans i) (λ a. omega (arith, a)) (λ a. omega (arith, a, r))
-    ]
-  ]
-
   open_are : numbers_above more (length more) ≡ numbers_above spans count ++ cond is_dir (count ∷ []) []
   open_are =
       let p : ℕ → Bool = λ k. nat_lt (count + 1) (end_at more k) in
@@ -107,14 +88,10 @@ module _ (bytes : List ℕ) (spans : List Span) (stack : List ℕ) (directories 
       let old = filter q (map f (range_with_len 0 count)) in
       ap (λ k. numbers_above more k) (length_push spans span)
       ∙ (ap (map f) (filter_of_map_range_with_len_more p f 0 count count (omega arith)
-      ∙ (ap (λ t. t ++ cond (p count) (count ∷ []) []) (filter_range-same p q f f 0 count (λ i le lt. (refl, open-old i (omega (arith, lt)))))
-      ∙ ap (λ b. old ++ cond b (count ∷ []) []) (ap (nat_lt (count + 1)) end-new ∙ is_open is_dir)))
+      ∙ (ap (λ t. t ++ cond (p count) (count ∷ []) []) (filter_range-same p q f f 0 count (λ i le lt. (refl, open-push count (end_at spans) (end_at more) is_dir h.ends end-old end-new n.room i (omega (arith, lt)))))
+      ∙ ap (λ b. old ++ cond b (count ∷ []) []) (open-new count (end_at spans) (end_at more) is_dir h.ends end-old end-new n.room)))
       ∙ (map-append f old (cond is_dir (count ∷ []) []) ∙ ap (λ t. map f old ++ t) (same is_dir)))
     where
-      is_open : (b : Bool) → nat_lt (count + 1) (cond b open_end 0) ≡ b
-      is_open true = lt-ltb (count + 1) open_end n.room
-      is_open false = le-ltb (count + 1) 0 (omega arith)
-
       same : (b : Bool) → map (λ k. k) (cond b (count ∷ []) []) ≡ cond b (count ∷ []) []
       same true = refl
       same false = refl
@@ -221,20 +198,7 @@ module _ (bytes : List ℕ) (spans : List Span) (stack : List ℕ) (directories 
   ]
 
   more_ends : (i : ℕ) → i < length more → IsEnd (length more) i (end_at more i)
-  more_ends i l = elim (more_cases i l) [
-    | inl lt ↦ subst (IsEnd (length more) i) (sym (end-old i lt)) (elim (h.ends i lt) [
-      | inl z ↦ inl z
-      | inr q ↦ elim q [
-        | inl z ↦ inr (inl z)
-        | inr z ↦ inr (inr (z.0, omega (arith, z.1, length_push spans span)))
-      ]
-    ])
-    | inr e ↦ let P : ℕ → Type 0 = λ k. IsEnd (length more) k (end_at more k) in subst P (sym e) (subst (IsEnd (length more) count) (sym end-new) (new_end is_dir))
-  ]
-    where
-      new_end : (b : Bool) → IsEnd (length more) count (cond b open_end 0)
-      new_end true = inr (inl refl)
-      new_end false = inl refl
+  more_ends = ends-push count (end_at spans) (end_at more) is_dir h.ends end-old end-new (length more) (omega (arith, length_push spans span))
 
   end_most : cond is_dir open_end 0 ≤ open_end
   end_most = by_kind is_dir

@@ -1,6 +1,5 @@
 -- What the numbers of an outline say of one entry.
-use Rattle.std.proofs.Common.{◌≡◌, ◌≢◌, ℕ, ◌+◌, ◌<◌, ◌≤◌, not, ◌==◌, refl, sym, ◌∙◌, ap, subst, List, [], length, arith, inl, inr, Option, Some, true}
-use Rattle.std.proofs.lemmas.Bool.{lt-ltb, ltb-true}
+use Rattle.std.proofs.Common.{◌≡◌, ◌≢◌, ℕ, ◌+◌, ◌<◌, ◌≤◌, not, ◌==◌, refl, sym, ◌∙◌, ap, subst, List, [], length, arith, Option, Some, true}
 use Rattle.std.proofs.lemmas.List.FromFn.{length-map-range_with_len}
 use Rattle.std.proofs.lemmas.Option.{slice_get_within, same_Some}
 use Rattle.std.specs.Prelude.{◌↔◌, slice_get, Contains, nat_lt, unwrap_or, option_map}
@@ -9,6 +8,7 @@ use Rattle.pathspec_parts.specs.Entries.{Entry}
 use Rattle.pathspec_parts.specs.Trees.{IsNested, HasBytePaths}
 use Rattle.pathspec_parts.specs.Cursors.{IsEndOf, directory_count}
 use Rattle.pathspec_parts.specs.TreeLayout.{open_end}
+use Rattle.pathspec_parts.proofs.EndProofs.{file-ends, directory-ends}
 use Rattle.pathspec_parts.proofs.ListProofs.{get-map_range, Contains-filter_range}
 use Rattle.pathspec_select.specs.Spans.{SpanContents, empty_contents}
 use Rattle.pathspec_select.specs.SpanLayout.{path_of_span, end_at, numbers_above, entry_of_span, contents_of_spans, AreSpans}
@@ -50,34 +50,20 @@ module _ (bytes : List ℕ) (spans : List Span) (stack : List ℕ) (directories 
       let inside : i < length spans = let w = slice_get_within o.entries i e s in omega (arith, w, entries_count) in
       (inside, same_Some e (entry_of_span bytes spans i) (sym s ∙ (ap (λ (x : SpanContents). slice_get x.entries i) (sym view) ∙ get-contents bytes spans i inside)))
 
-  -- an entry lies in those before it that end after it
-  lies_in : (i j : ℕ) (f : Entry) → i < j → slice_get o.entries j ≡ Some f → Contains f.above i ↔ (j < end_at spans i)
-  lies_in i j f l s =
-      let is : f.above ≡ numbers_above spans j = ap (λ (x : Entry). x.above) (entry_is j f s).1 in
-      let both = Contains-above spans j i in (
-        λ c. ltb-true j (end_at spans i) (both.0 (subst (λ (x : List ℕ). Contains x i) is c)).1,
-        λ lt. subst (λ (x : List ℕ). Contains x i) (sym is) (both.1 (l, lt-ltb j (end_at spans i) lt)),
-      )
+  above_is : (j : ℕ) (f : Entry) → slice_get o.entries j ≡ Some f → f.above ≡ numbers_above spans j
+  above_is j f s = ap (λ (x : Entry). x.above) (entry_is j f s).1
 
   module _ (i : ℕ) (span : Span) (at : slice_get spans i ≡ Some span) where
     end_at_is : end_at spans i ≡ span.end
     end_at_is = ap (λ (x : Option Span). unwrap_or (option_map (λ s. s.end) x) 0) at
 
     pub end_of_file : span.end ≡ 0 → IsEndOf o.entries i (i + 1)
-    end_of_file z = (omega arith, λ j f l s. (λ c. let r = (lies_in i j f l s).0 c in omega (arith, r, end_at_is, z), λ lt. absurd (omega (arith, l, lt))))
+    end_of_file z = file-ends (end_at spans) (numbers_above spans) o.entries (Contains-above spans) above_is i (end_at_is ∙ z)
 
     pub end_of_directory : span.end ≢ 0 → length spans ≤ open_end → IsEndOf o.entries i span.end
     end_of_directory n room =
-        let w = slice_get_within spans i span at in (
-          elim (h.ends i w) [
-            | inl z ↦ absurd (n (sym end_at_is ∙ z))
-            | inr q ↦ elim q [
-              | inl z ↦ omega (arith, z, w, room, end_at_is)
-              | inr z ↦ omega (arith, z.0, end_at_is)
-            ]
-          ],
-          λ j f l s. let r = lies_in i j f l s in (λ c. let k = r.0 c in omega (arith, k, end_at_is), λ lt. r.1 (omega (arith, lt, end_at_is))),
-        )
+        let w = slice_get_within spans i span at in
+        subst (IsEndOf o.entries i) end_at_is (directory-ends (end_at spans) (numbers_above spans) o.entries (Contains-above spans) above_is (length spans) i w room (h.ends i w) (λ z. n (sym end_at_is ∙ z)))
 
     pub kind_is : (e : Entry) → slice_get o.entries i ≡ Some e → not (span.end == 0) ≡ e.is_dir
     kind_is e s = ap (λ k. not (k == 0)) (sym end_at_is) ∙ ap (λ (x : Entry). x.is_dir) (sym (entry_is i e s).1)
