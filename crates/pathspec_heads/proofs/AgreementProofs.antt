@@ -9,7 +9,7 @@ use Rattle.std.proofs.Math.Nat.{mul_comm, div-add-mod, mod-lt}
 use Rattle.std.specs.Int.{bit_at, to_le_bytes, trailing_zeros}
 use Rattle.std.specs.Int.Bits.{bit_xor}
 use Rattle.pathspec_glob.specs.Bytes.{begins_with}
-use Rattle.pathspec_heads.specs.Agreement.{agreement, is_behind, eight_bytes}
+use Rattle.pathspec_heads.specs.Agreement.{agreement, is_behind, four_bytes, eight_bytes}
 
 pub agreement-more : (x y : List ℕ) (n : ℕ) → n ≤ agreement x y → n < length x → n < length y → get_or x n 0 ≡ get_or y n 0 → n + 1 ≤ agreement x y
 agreement-more [] y n h i j e = absurd (omega (arith, i))
@@ -227,13 +227,29 @@ eight_bytes-at x n (suc (suc (suc (suc (suc (suc zero)))))) l = refl
 eight_bytes-at x n (suc (suc (suc (suc (suc (suc (suc zero))))))) l = refl
 eight_bytes-at x n (suc (suc (suc (suc (suc (suc (suc (suc i)))))))) l = absurd (omega (arith, l))
 
--- some more bytes, up to eight
+-- some more bytes
+agreement-some : (x y : List ℕ) (n k : ℕ) → n ≤ agreement x y → n + k ≤ length x → n + k ≤ length y → ((i : ℕ) → i < k → get_or x (n + i) 0 ≡ get_or y (n + i) 0) → n + k ≤ agreement x y
+agreement-some x y n zero h i j e = omega (arith, h)
+agreement-some x y n (suc k) h i j e =
+    let before = agreement-some x y n k h (omega (arith, i)) (omega (arith, j)) (λ m s. e m (omega (arith, s))) in
+    omega (arith, agreement-more x y (n + k) before (omega (arith, i)) (omega (arith, j)) (e k (omega arith)))
+
+-- up to eight
 agreement-bytes : (x y : List ℕ) (n k : ℕ) → n ≤ agreement x y → n + 8 ≤ length x → n + 8 ≤ length y → k ≤ 8 → ((i : ℕ) → i < k → get_or (eight_bytes x n) i 0 ≡ get_or (eight_bytes y n) i 0) → n + k ≤ agreement x y
-agreement-bytes x y n zero h i j l e = omega (arith, h)
-agreement-bytes x y n (suc k) h i j l e =
-    let before = agreement-bytes x y n k h i j (omega (arith, l)) (λ m s. e m (omega (arith, s))) in
-    let same : get_or x (n + k) 0 ≡ get_or y (n + k) 0 = sym (eight_bytes-at x n k (omega (arith, l))) ∙ (e k (omega arith) ∙ eight_bytes-at y n k (omega (arith, l))) in
-    omega (arith, agreement-more x y (n + k) before (omega (arith, i, l)) (omega (arith, j, l)) same)
+agreement-bytes x y n k h i j l e =
+    agreement-some x y n k h (omega (arith, i, l)) (omega (arith, j, l)) (λ m s. sym (eight_bytes-at x n m (omega (arith, l, s))) ∙ (e m s ∙ eight_bytes-at y n m (omega (arith, l, s))))
+
+four_bytes-at : (x : List ℕ) (n i : ℕ) → i < 4 → get_or (four_bytes x n) i 0 ≡ get_or x (n + i) 0
+four_bytes-at x n zero l = ap (λ k. get_or x k 0) (omega arith)
+four_bytes-at x n (suc zero) l = refl
+four_bytes-at x n (suc (suc zero)) l = refl
+four_bytes-at x n (suc (suc (suc zero))) l = refl
+four_bytes-at x n (suc (suc (suc (suc i)))) l = absurd (omega (arith, l))
+
+-- and four
+pub agreement-fours : (x y : List ℕ) (n : ℕ) → n ≤ agreement x y → n + 4 ≤ length x → n + 4 ≤ length y → four_bytes x n ≡ four_bytes y n → n + 4 ≤ agreement x y
+agreement-fours x y n h i j e =
+    agreement-some x y n 4 h i j (λ m s. sym (four_bytes-at x n m s) ∙ (ap (λ bs. get_or bs m 0) e ∙ four_bytes-at y n m s))
 
 -- two words of texts: what agrees before the lowest bit in which they are apart, or all eight bytes
 module _ (x y : List ℕ) (n a b : ℕ) (h : n ≤ agreement x y) (i : n + 8 ≤ length x) (j : n + 8 ≤ length y) (here : to_le_bytes w64 a ≡ eight_bytes x n) (there : to_le_bytes w64 b ≡ eight_bytes y n) where

@@ -17,6 +17,10 @@ pub record IsComparison (x y : List ℕ) (agreed : ℕ) (behind : Bool) : Type 0
   pub agrees : agreed ≡ agreement x y
   pub stands : behind ≡ is_behind x y
 
+-- the four bytes of a text from a position on
+abbrev pub four_bytes : List ℕ → ℕ → List ℕ
+four_bytes x n = get_or x n 0 ∷ get_or x (n + 1) 0 ∷ get_or x (n + 2) 0 ∷ get_or x (n + 3) 0 ∷ []
+
 -- the eight bytes of a text from a position on
 abbrev pub eight_bytes : List ℕ → ℕ → List ℕ
 eight_bytes x n =

@@ -1,8 +1,8 @@
 //! Different heads in byte order, which are compared with a text by one question that counts, in a scratch.
-ghost use Rattle.std.specs.Prelude.{◌≡◌, ◌+◌, ◌<◌, ◌≤◌, length, map, slice_index, IfOk};
-ghost use Rattle.std.specs.Int.{w64, to_le_bytes};
+ghost use Rattle.std.specs.Prelude.{◌≡◌, ◌+◌, ◌<◌, ◌≤◌, length, map, slice_index, IfOk, IsTrue};
+ghost use Rattle.std.specs.Int.{w32, w64, to_le_bytes};
 ghost use Rattle.pathspec_glob.specs.Counts.{Counts};
-ghost use Rattle.pathspec_heads.specs.Agreement.{agreement, is_behind, eight_bytes};
+ghost use Rattle.pathspec_heads.specs.Agreement.{agreement, is_behind, four_bytes, eight_bytes};
 ghost use Rattle.pathspec_heads.specs.Heads.{head_at};
 ghost use Rattle.pathspec_heads.specs.Stems.{with_slash};
 
@@ -314,15 +314,53 @@ fn eight_bytes_at(text: &[u8], at: usize) -> u64
     ])
 }
 
-/// Bytes in which two texts agree: all of them, but none where a text is shorter than eight. It looks at eight at a time,
-/// and in the end at the last eight of the shorter text.
-fn agreed_by_eights(head: &[u8], text: &[u8]) -> usize
+/// The four bytes from a position on.
+fn four_bytes_at(text: &[u8], at: usize) -> u32
+    requires { at + 4 ≤ length text.now }
+    ensures { to_le_bytes w32 result ≡ four_bytes text.now at }
+{
+    u32::from_le_bytes([text[at], text[at + 1], text[at + 2], text[at + 3]])
+}
+
+/// Bytes in which two texts agree, found by words: all of them where the shorter text has eight or more, all or none where it
+/// has four to seven, and else none.
+#[inline(always)]
+fn agreed_by_words(head: &[u8], text: &[u8]) -> usize
     ensures { result ≤ agreement head.now text.now }
 {
     let shorter = head.len().min(text.len());
-    if shorter < 8 {
-        return 0;
+    if shorter >= 8 {
+        agreed_by_eights(head, text, shorter)
+    } else if shorter >= 4 && agree_by_fours(head, text, shorter) {
+        shorter
+    } else {
+        0
     }
+}
+
+/// Whether two texts agree in this many first bytes, four to eight. It looks at the first four and at the last four.
+fn agree_by_fours(head: &[u8], text: &[u8], len: usize) -> bool
+    requires least { 4 ≤ len }
+    requires most { len ≤ 8 }
+    requires head { len ≤ length head.now }
+    requires text { len ≤ length text.now }
+    ensures { IsTrue result → len ≤ agreement head.now text.now }
+{
+    let last = len - 4;
+    four_bytes_at(head, 0) == four_bytes_at(text, 0)
+        && four_bytes_at(head, last) == four_bytes_at(text, last)
+}
+
+// A function of its own, so that the comparison of short heads, which stands in line, stays short.
+/// Bytes in which two texts agree, up to this many, eight or more. It looks at eight at a time, and in the end at the last
+/// eight.
+#[inline(never)]
+fn agreed_by_eights(head: &[u8], text: &[u8], shorter: usize) -> usize
+    requires least { 8 ≤ shorter }
+    requires head { shorter ≤ length head.now }
+    requires text { shorter ≤ length text.now }
+    ensures { result ≤ agreement head.now text.now }
+{
     let last = shorter - 8;
     let mut at = 0;
     while at < last {
@@ -339,14 +377,14 @@ fn agreed_by_eights(head: &[u8], text: &[u8]) -> usize
     shorter
 }
 
-/// Bytes in which a stem agrees with a path and a slash: eight at a time where case counts, and else none.
+/// Bytes in which a stem agrees with a path and a slash, found by words: none where case does not count.
 fn agreed_with_slash(stem: &[u8], path: &[u8], ignore_case: bool) -> usize
     ensures { result ≤ agreement stem.now (with_slash ignore_case path.now) }
 {
     if ignore_case {
         0
     } else {
-        agreed_by_eights(stem, path)
+        agreed_by_words(stem, path)
     }
 }
 
@@ -361,7 +399,7 @@ fn compared(head: &[u8], text: &[u8]) -> Comparison
             is_behind: false,
         };
     }
-    for at in agreed_by_eights(head, text)..head.len() {
+    for at in agreed_by_words(head, text)..head.len() {
         if at == text.len() {
             return Comparison {
                 agreed: at,
