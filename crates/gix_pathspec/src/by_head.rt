@@ -200,14 +200,14 @@ impl SpecsByHead {
         &self.common_prefix
     }
 
-    /// The specs, whose questions about a path a scratch counts.
+    /// The specs. A scratch counts each question to one of them.
     pub(crate) fn counted(&self) -> &CountedSpecs
         ensures { result.now ≡ self.now }
     {
         &self.specs
     }
 
-    /// The heads of the specs, whose comparisons with a path a scratch counts.
+    /// The heads of the specs. A scratch counts each comparison of one with a path.
     pub(crate) fn heads(&self) -> &CountedHeads {
         &self.heads
     }

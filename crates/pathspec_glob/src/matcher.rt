@@ -174,8 +174,8 @@ impl Parts {
     }
 }
 
-/// The parts of a pattern whose head and tail are bytes without a wildcard, and what stands between matches just what the first
-/// star or deep takes.
+/// The parts of a pattern whose head and tail are bytes without a wildcard, where the tokens between them match just what the
+/// first of them takes. In `src/**/*.c` they are `src/`, the deep `**/` and `.c`.
 struct PlainParts<'p> {
     head: &'p [u8],
     first: CountedFirst,

@@ -67,8 +67,9 @@ fn text_kind(pattern: &Pattern, path: BStr<'_>, is_dir: bool) -> Option<MatchKin
     }
 }
 
-/// Whether the path lies below the prefix directory or is that directory, compared with case. It is so, too, where case
-/// counts throughout or there is no such directory.
+/// Whether a spec that ignores case may match the path: the path lies below the spec's prefix directory or is that
+/// directory, compared with case. `:(icase)B`, given in `a`, may match `a/b`, but not `A/b`. The answer is also yes where
+/// case counts throughout, and where there is no prefix directory.
 #[inline(always)]
 pub(super) fn is_in_prefix_directory(pattern: &Pattern, path: BStr<'_>, is_dir: bool) -> bool
     ensures { result ≡ is_in_prefix_directory (pattern_spec pattern.now)

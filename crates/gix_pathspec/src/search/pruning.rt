@@ -22,10 +22,10 @@ impl Search {
     /// A directory's path has no slash at its end: for the spec `src/lib` the answer is yes to `src`, but no to `src/`. So a
     /// walk takes off the slash with which `git status` prints a directory (`strip_last_slash` of `pathspec_parts::path`).
     ///
-    /// It is so where there are no specs or the path is empty. Otherwise the path and the common prefix agree as far as
-    /// both go, no exclude takes every path, and some include's stem and the path lead to one another, or there is no
-    /// include. Where the path is that of a file, say so by `is_dir`: then a spec that wants a directory reaches it only
-    /// if it lies below the spec's path.
+    /// The answer is yes where there are no specs or the path is empty. Otherwise it is yes where the path and the common
+    /// prefix agree as far as both go, no exclude takes every path, and some include's stem and the path lead to one
+    /// another, or there is no include. Where the path is that of a file, pass `Some(false)` as `is_dir`: then a spec that
+    /// wants a directory, as `src/` does, reaches the path only if it lies below the spec's path.
     ///
     /// It compares the path with at most as many stems of includes as their count has binary digits, and two, in each of
     /// six tables: with case and without, and of stems that a wildcard follows, of others, and of those that want a
