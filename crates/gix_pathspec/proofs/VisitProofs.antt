@@ -1,5 +1,5 @@
 -- What the match of a directory tells of skipping it.
-use Rattle.std.proofs.Common.{◌≡◌, ◌%◌, ◌^◌, arith, ℕ, Bool, true, false, not, ◌&&◌, ◌||◌, inl, inr, refl, sym, ◌∙◌, ap, List, [], ◌∷◌, length, Option, Some, None, cond}
+use Rattle.std.proofs.Common.{◌≡◌, ◌≢◌, ◌%◌, ◌^◌, arith, ℕ, Bool, true, false, not, ◌&&◌, ◌||◌, inl, inr, refl, sym, ◌∙◌, ap, List, [], ◌∷◌, length, Option, Some, None, cond}
 use Rattle.std.proofs.lemmas.Bool.{and_from, or_left, or_right, cases_Bool, both_ways}
 use Rattle.std.specs.Prelude.{MatchBool, find}
 use Rattle.std.specs.List.{list_any}
@@ -12,7 +12,7 @@ use Rattle.gix_pathspec.specs.Reading.{nil_spec}
 use Rattle.gix_pathspec.specs.Matching.{is_chosen, is_in_prefix_directory, is_glob_match, is_verbatim_match, is_prefix_match, fit, spec_matches}
 use Rattle.gix_pathspec.specs.Prefixes.{common_prefix}
 use Rattle.gix_pathspec.specs.Pruning.{reaches, can_match}
-use Rattle.gix_pathspec.specs.Search.{BeginsCounts, MatchCounts, Numbered, Answer, specs_of, answer, answer_of, answer_with}
+use Rattle.gix_pathspec.specs.Search.{BeginsCounts, MatchCounts, Numbered, Answer, specs_of, in_search_order, answer, answer_of, answer_with, selects}
 use Rattle.gix_pathspec.specs.Skipping.{fits_plainly, takes_whole, takes_rest, is_without_glob, found_takes_whole, answer_takes_whole, is_live, holds_nothing, may_skip}
 use Rattle.gix_pathspec.specs.SkipLaws.{FoundIsSkipped}
 use Rattle.gix_pathspec.specs.SkipTables.{holds_nothing_by_tables}
@@ -23,7 +23,7 @@ use Rattle.gix_pathspec.proofs.ChosenProofs.{chosen_is_test}
 use Rattle.gix_pathspec.proofs.SkipProofs.{nothing_is_chosen}
 use Rattle.gix_pathspec.proofs.SkipTableProofs.{tables-hold_nothing, tables-skip}
 use Rattle.gix_pathspec.proofs.NotChosenProofs.{all_three}
-use Rattle.gix_pathspec.proofs.SelectedProofs.{list_any-map}
+use Rattle.gix_pathspec.proofs.SelectedProofs.{list_any-map, selects_chosen}
 
 -- ---- one exclude
 
@@ -123,6 +123,18 @@ held-not-chosen table specs d no_nil h = elim (cases_Bool (is_chosen table specs
 -- What is told of a directory where tables tell that it holds nothing: it isn't selected, and isn't entered.
 pub passed-not-chosen : (table : Table) (specs : List Spec) (d : List ℕ) (is_dir : Bool) → NoNilPrefix specs → is_dir ≡ true → holds_nothing_by_tables specs d ≡ true → false ≡ is_chosen table specs d is_dir
 passed-not-chosen table specs d is_dir no_nil k h = sym (ap (is_chosen table specs d) k ∙ held-not-chosen table specs d no_nil (tables-hold_nothing specs d h))
+
+passed-path : (specs : List Spec) (d : List ℕ) → holds_nothing_by_tables specs d ≡ true → d ≢ []
+passed-path specs [] h e = cc
+passed-path specs (b ∷ d) h e = cc
+
+pub passed-not-selected : (table : Table) (search : List Numbered) (d : List ℕ) (is_dir : Bool) → in_search_order search ≡ search → NoNilPrefix (specs_of search) → is_dir ≡ true → holds_nothing_by_tables (specs_of search) d ≡ true → false ≡ selects (answer table search d is_dir)
+passed-not-selected table search d is_dir ordered no_nil k h = elim (cases_Bool (selects (answer table search d is_dir))) [
+  | inl e ↦
+      let chosen = (selects_chosen table search d is_dir ordered (passed-path (specs_of search) d h)).0 e in
+      absurd (both_ways (is_chosen table (specs_of search) d is_dir) (sym (passed-not-chosen table (specs_of search) d is_dir no_nil k h)) ((chosen_is_test table (specs_of search) d is_dir).1 chosen))
+  | inr e ↦ sym e
+]
 
 pub passed-not-entered : (specs : List Spec) (d : List ℕ) (is_dir : Bool) → holds_nothing_by_tables specs d ≡ true → false ≡ (is_dir && not (may_skip specs d))
 passed-not-entered specs d true h = rw (tables-skip specs d h) refl

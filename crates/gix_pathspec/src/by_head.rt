@@ -208,7 +208,9 @@ impl SpecsByHead {
     }
 
     /// The heads of the specs. A scratch counts each comparison of one with a path.
-    pub(crate) fn heads(&self) -> &CountedHeads {
+    pub(crate) fn heads(&self) -> &CountedHeads
+        ensures { ArePlacesOf self.now result.now }
+    {
         &self.heads
     }
 

@@ -109,6 +109,9 @@ impl End {
         ensures taken { is_some result ≡ takes_front self.now case text.now }
         ensures behind { IfSome result (λ behind. behind.now ≡ behind_front self.now text.now) }
         ensures most { steps.new.last ≤ steps.old.last + length text.now }
+        ensures few { steps.new.last ≤ steps.old.last + length self.now.tokens }
+        ensures short { length text.now < length self.now.tokens
+            → steps.new.last ≡ steps.old.last }
         ensures least { IfSome result (λ behind.
             steps.new.last + length behind.now ≡ steps.old.last + length text.now) }
         ensures counted { KeepsCount steps.old steps.new }
@@ -135,6 +138,9 @@ impl End {
         ensures taken { is_some result ≡ takes_end self.now case text.now }
         ensures before { IfSome result (λ before. before.now ≡ before_end self.now text.now) }
         ensures most { steps.new.last ≤ steps.old.last + length text.now }
+        ensures few { steps.new.last ≤ steps.old.last + length self.now.tokens }
+        ensures short { length text.now < length self.now.tokens
+            → steps.new.last ≡ steps.old.last }
         ensures least { IfSome result (λ before.
             steps.new.last + length before.now ≡ steps.old.last + length text.now) }
         ensures counted { KeepsCount steps.old steps.new }

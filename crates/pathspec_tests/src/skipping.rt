@@ -563,6 +563,7 @@ fn a_walk_visits_each_entry_once(rt: HostRuntime) -> Result<(), Fail> {
         Visits("a/b :!a/b", "a", true, (false, false), 0),
         // The empty path is the tree itself.
         Visits(":!a", "", true, (true, true), 0),
+        Visits(":!a", "", false, (true, false), 0),
     ];
     assert_each(rt.alloc(), ROWS)
 }

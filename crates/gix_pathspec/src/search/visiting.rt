@@ -8,7 +8,7 @@ ghost use Rattle.gix_pathspec.specs.Effort.{IsCounted};
 ghost use Rattle.gix_pathspec.specs.Found.{match_view};
 ghost use Rattle.gix_pathspec.specs.Matching.{is_chosen};
 ghost use Rattle.gix_pathspec.specs.Room.{Fits};
-ghost use Rattle.gix_pathspec.specs.Search.{BeginsCounts, specs_of, answer};
+ghost use Rattle.gix_pathspec.specs.Search.{BeginsCounts, specs_of, answer, selects};
 ghost use Rattle.gix_pathspec.specs.Skipping.{answer_takes_whole, may_skip};
 ghost use Rattle.gix_pathspec.specs.SkipLaws.{SkippedIsNotChosen};
 ghost use Rattle.gix_pathspec.specs.SkipTables.{holds_nothing_by_tables};
@@ -49,6 +49,9 @@ impl Search {
         look_up: &mut L,
     ) -> Result<Visit, L::Fault>
         requires { Fits self.now.specs scratch.old }
+        ensures answer { IfOk result (λ visit. visit.is_selected
+            ≡ selects (answer (L.table look_up.old) self.now.specs
+            (bstr_bytes path.entry) is_dir)) }
         ensures selected { IfOk result (λ visit. bstr_bytes path.entry ≢ []
             → visit.is_selected ≡ is_chosen (L.table look_up.old) (specs_of self.now.specs)
             (bstr_bytes path.entry) is_dir) }

@@ -3,12 +3,12 @@ use Rattle.std.proofs.Common.{◌≡◌, ◌∙◌, ℕ, Bool, List, true, subst
 use Rattle.std.specs.Option.{option_map}
 use Rattle.bstr.specs.BStr.{bstr_bytes}
 use Rattle.gix_pathspec.specs.Found.{match_view}
-use Rattle.gix_pathspec.specs.Search.{SearchContents, specs_of}
+use Rattle.gix_pathspec.specs.Search.{SearchContents, specs_of, in_search_order}
 use Rattle.gix_pathspec.specs.SelectionLaws.{NoNilPrefix}
 use Rattle.gix_pathspec.specs.SkipTables.{holds_nothing_by_tables}
 use Rattle.gix_pathspec.specs.Specs.{Spec}
 use Rattle.gix_pathspec.proofs.SkipProofs.{skipped_is_not_chosen}
-use Rattle.gix_pathspec.proofs.VisitProofs.{passed-counted, passed-not-chosen, passed-not-entered, visit-skipped}
+use Rattle.gix_pathspec.proofs.VisitProofs.{passed-counted, passed-not-chosen, passed-not-entered, passed-not-selected, visit-skipped}
 use Rattle.gix_pathspec.proofs.search.Search.visit.Goals as goal
 
 pub enters-is_entered-requires-clause-skipped : goal.enters-is_entered-requires-clause-skipped
@@ -18,6 +18,13 @@ enters-is_entered-requires-clause-skipped g c =
 -- tables tell that the directory holds nothing
 told : (specs : List Spec) (d : List ℕ) {told : Bool} → told ≡ holds_nothing_by_tables specs d → told ≡ true → holds_nothing_by_tables specs d ≡ true
 told specs d answer is = sym answer ∙ is
+
+pub returns-then-holds_nothing_by_tables-clause-answer :
+    goal.returns-then-holds_nothing_by_tables-clause-answer
+returns-then-holds_nothing_by_tables-clause-answer g c =
+    let no_nil = subst (λ (s : SearchContents). NoNilPrefix (specs_of s.specs)) c.self.view_is c.self.invariant.has_no_nil_prefix in
+    let ordered = subst (λ (s : SearchContents). in_search_order s.specs ≡ s.specs) c.self.view_is c.self.invariant.is_ordered in
+    passed-not-selected (g.L.LookUp.table c.args.look_up.now) c.args.self.now.specs (bstr_bytes c.args.path) c.args.is_dir ordered no_nil c.if-is_dir.true (told _ (bstr_bytes c.args.path) c.holds_nothing_by_tables.ensures.answer c.if-holds_nothing_by_tables.true)
 
 pub returns-then-holds_nothing_by_tables-clause-selected :
     goal.returns-then-holds_nothing_by_tables-clause-selected
