@@ -2,6 +2,7 @@ pub mod AgreementProofs
 pub mod HeadProofs
 pub mod SpanProofs
 pub mod SearchProofs
+pub mod PieceProofs
 pub mod PlacedProofs
 pub mod GroupProofs
 pub mod NextProofs

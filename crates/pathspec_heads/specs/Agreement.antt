@@ -1,5 +1,5 @@
 -- How far two texts agree, and which of them stands behind the other in byte order.
-use Rattle.std.specs.Prelude.{◌≡◌, ℕ, ◌+◌, Bool, List, [], ◌∷◌, nat_eq, get_or}
+use Rattle.std.specs.Prelude.{◌≡◌, ℕ, Bool, List, nat_eq}
 use Rattle.std.specs.List.{common_prefix_len}
 use Rattle.std.specs.Ordering.{nat_cmp, is_gt}
 use Rattle.std.specs.Cmp.Lexicographic.{slice_cmp}
@@ -16,12 +16,3 @@ is_behind x y = is_gt (slice_cmp nat_cmp x y)
 pub record IsComparison (x y : List ℕ) (agreed : ℕ) (behind : Bool) : Type 0 where
   pub agrees : agreed ≡ agreement x y
   pub stands : behind ≡ is_behind x y
-
--- the four bytes of a text from a position on
-abbrev pub four_bytes : List ℕ → ℕ → List ℕ
-four_bytes x n = get_or x n 0 ∷ get_or x (n + 1) 0 ∷ get_or x (n + 2) 0 ∷ get_or x (n + 3) 0 ∷ []
-
--- the eight bytes of a text from a position on
-abbrev pub eight_bytes : List ℕ → ℕ → List ℕ
-eight_bytes x n =
-    get_or x n 0 ∷ get_or x (n + 1) 0 ∷ get_or x (n + 2) 0 ∷ get_or x (n + 3) 0 ∷ get_or x (n + 4) 0 ∷ get_or x (n + 5) 0 ∷ get_or x (n + 6) 0 ∷ get_or x (n + 7) 0 ∷ []

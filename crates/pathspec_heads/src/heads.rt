@@ -1,8 +1,8 @@
 //! Different heads in byte order, which are compared with a text by one question that counts, in a scratch.
-ghost use Rattle.std.specs.Prelude.{◌≡◌, ◌+◌, ◌<◌, ◌≤◌, length, map, slice_index, IfOk, IsTrue};
+ghost use Rattle.std.specs.Prelude.{◌≡◌, ◌↔◌, ◌+◌, ◌<◌, ◌≤◌, drop, length, map, slice_index, take, IfOk, IsTrue};
 ghost use Rattle.std.specs.Int.{w32, w64, to_le_bytes};
 ghost use Rattle.pathspec_glob.specs.Counts.{Counts};
-ghost use Rattle.pathspec_heads.specs.Agreement.{agreement, is_behind, four_bytes, eight_bytes};
+ghost use Rattle.pathspec_heads.specs.Agreement.{agreement, is_behind};
 ghost use Rattle.pathspec_heads.specs.Heads.{head_at};
 ghost use Rattle.pathspec_heads.specs.Stems.{with_slash};
 
@@ -300,7 +300,7 @@ fn compared_with_slash(stem: &[u8], path: &[u8], ignore_case: bool) -> Compariso
 /// The eight bytes from a position on.
 fn eight_bytes_at(text: &[u8], at: usize) -> u64
     requires { at + 8 ≤ length text.now }
-    ensures { to_le_bytes w64 result ≡ eight_bytes text.now at }
+    ensures { to_le_bytes w64 result ≡ take 8 (drop at text.now) }
 {
     u64::from_le_bytes([
         text[at],
@@ -317,7 +317,7 @@ fn eight_bytes_at(text: &[u8], at: usize) -> u64
 /// The four bytes from a position on.
 fn four_bytes_at(text: &[u8], at: usize) -> u32
     requires { at + 4 ≤ length text.now }
-    ensures { to_le_bytes w32 result ≡ four_bytes text.now at }
+    ensures { to_le_bytes w32 result ≡ take 4 (drop at text.now) }
 {
     u32::from_le_bytes([text[at], text[at + 1], text[at + 2], text[at + 3]])
 }
@@ -344,7 +344,7 @@ fn agree_by_fours(head: &[u8], text: &[u8], len: usize) -> bool
     requires most { len ≤ 8 }
     requires head { len ≤ length head.now }
     requires text { len ≤ length text.now }
-    ensures { IsTrue result → len ≤ agreement head.now text.now }
+    ensures { IsTrue result ↔ len ≤ agreement head.now text.now }
 {
     let last = len - 4;
     four_bytes_at(head, 0) == four_bytes_at(text, 0)

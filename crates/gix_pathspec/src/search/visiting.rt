@@ -31,7 +31,7 @@ pub struct Visit {
 impl Search {
     /// What a walk does with an entry that it comes to: whether the search selects it, as [`Search::is_selected`] says, and
     /// whether it is a directory that the walk enters, since it may not skip it ([`Search::may_skip`]) (own; gix-pathspec has no
-    /// such call).
+    /// such call). The top of a tree is an entry too, by the empty path: `:!a` selects it, and `a` does not.
     ///
     /// One call costs less than the two. Of a directory it asks the tables of [`Search::may_skip`] first: where they tell that
     /// nothing at or below it is selected, as of `b` under `a/x`, or of `node_modules` under `:!node_modules`, it asks for no

@@ -1,21 +1,11 @@
-use Rattle.std.proofs.Common.{ℕ, suc, zero, ◌+◌, ◌<◌, List, get_or, arith, refl, rules, Fits, w8}
+use Rattle.std.proofs.Common.{◌∙◌, ap, take, drop, w64}
+use Rattle.std.specs.Int.{from_le_bytes}
 use Rattle.std.proofs.lemmas.Nat.{le_bytes_8}
-use Rattle.pathspec_heads.specs.Agreement.{eight_bytes}
+use Rattle.pathspec_heads.proofs.PieceProofs.{piece-fits, piece-length, piece-listed}
 use Rattle.pathspec_heads.proofs.heads.eight_bytes_at.Goals as goal
 
-byte_fits : (b : ℕ) → Fits w8 b → b < 256
-byte_fits b h = search rules
-
-are_bytes : (x : List ℕ) (n : ℕ) → ((i : ℕ) → get_or x i 0 < 256) → (i : ℕ) → get_or (eight_bytes x n) i 0 < 256
-are_bytes x n h zero = h n
-are_bytes x n h (suc zero) = h (n + 1)
-are_bytes x n h (suc (suc zero)) = h (n + 2)
-are_bytes x n h (suc (suc (suc zero))) = h (n + 3)
-are_bytes x n h (suc (suc (suc (suc zero)))) = h (n + 4)
-are_bytes x n h (suc (suc (suc (suc (suc zero))))) = h (n + 5)
-are_bytes x n h (suc (suc (suc (suc (suc (suc zero)))))) = h (n + 6)
-are_bytes x n h (suc (suc (suc (suc (suc (suc (suc zero))))))) = h (n + 7)
-are_bytes x n h (suc (suc (suc (suc (suc (suc (suc (suc i)))))))) = omega arith
-
 pub returns : goal.returns
-returns c = le_bytes_8 (eight_bytes c.args.text.now c.args.at) c.from_le_bytes.result refl (are_bytes c.args.text.now c.args.at (λ i. byte_fits (get_or c.args.text.now i 0) (c.type_inv.text i))) c.from_le_bytes.ensures
+returns c =
+    let x = c.args.text.now in
+    let n = c.args.at in
+    le_bytes_8 (take 8 (drop n x)) c.from_le_bytes.result (piece-length 8 x n c.requires) (piece-fits 8 x n c.requires c.type_inv.text) (c.from_le_bytes.ensures ∙ ap (from_le_bytes w64) (piece-listed 7 x n c.requires))
