@@ -17,12 +17,12 @@ use Rattle.pathspec_parts.specs.TreeLayout.{path_above, open_end}
 use Rattle.pathspec_parts.proofs.EntryProofs.{Contains-here, Contains-later}
 use Rattle.pathspec_parts.proofs.ListProofs.{get-set_same, get-set_other}
 use Rattle.pathspec_parts.proofs.TreeProofs.{get-append, get-last, get-cases, tree_of_calls-nested}
-use Rattle.pathspec_select.specs.Listing.{mark_at, written_of, written_entries}
+use Rattle.pathspec_select.specs.Listing.{mark_at, written_of}
 use Rattle.pathspec_select.specs.Spans.{SpanContents, contents_after, contents_closed, LiesInOpen}
 use Rattle.pathspec_select.specs.SpanLayout.{path_of_span, path_at_span, end_at, numbers_above, contents_of_spans, AreSpans}
-use Rattle.pathspec_select.specs.Outlines.{OutlineContents, part, empty_outline, mark_of, last_name, record_from, record_length, outline_after, outline_closed, LiesOpen, IsMade, open_of_span, tree_of_spans, is_dir_span, mark_of_span, outline_of_spans, LiesInRecord, LieInRecords, IsOutline, IsRecordTo}
+use Rattle.pathspec_select.specs.Outlines.{OutlineContents, part, empty_outline, mark_of, last_name, record_from, record_length, outline_after, outline_closed, LiesOpen, IsMade, open_of_span, tree_of_spans, is_dir_span, mark_of_span, outline_of_spans, LiesInRecord, LieInRecords, IsOutline, IsPiece, IsRecordPiece, bytes_of}
+use Rattle.pathspec_select.specs.declared.listing.outline.Piece.{Piece}
 use Rattle.pathspec_select.specs.declared.listing.spans.Span.{Span}
-use Rattle.pathspec_select.proofs.OutputProofs.{written-more}
 use Rattle.pathspec_select.proofs.ListingProofs.{length-before_first}
 use Rattle.pathspec_select.proofs.SpanProofs.{Contains-above, length-contents, contents_of_none}
 use Rattle.pathspec_select.proofs.SpanGrowProofs.{IsNext, path-old, path-new, pushes}
@@ -289,10 +289,10 @@ pub mark-is : (bytes : List ℕ) (separator : ℕ) (spans : List Span) (o : Outl
 mark-is bytes separator spans o view n s at =
     sym (ap (option_and_then (λ mark. mark)) (slice_get-map (mark_of_span separator bytes) spans n ∙ ap (option_map (mark_of_span separator bytes)) at)) ∙ ap (λ (x : OutlineContents). mark_at x.marks n) view
 
--- where the record of an entry ends with its separator
-pub record-to : (bytes : List ℕ) (separator : ℕ) (spans : List Span) (o : OutlineContents) (view : outline_of_spans bytes separator spans ≡ o) (n : ℕ) (s : Span) (at : slice_get spans n ≡ Some s) (r : List ℕ) → Some r ≡ mark_at o.marks n → s.start + length r < length bytes
-    → IsRecordTo o n s.start (s.start + length r + 1)
-record-to bytes separator spans o view n s at r m l =
+-- where the record of an entry stands with its separator
+pub record-piece : (bytes : List ℕ) (separator : ℕ) (spans : List Span) (o : OutlineContents) (view : outline_of_spans bytes separator spans ≡ o) (n : ℕ) (s : Span) (at : slice_get spans n ≡ Some s) (r : List ℕ) → Some r ≡ mark_at o.marks n → s.start + length r < length bytes
+    → IsRecordPiece o separator n (record { start = s.start; end = s.start + length r + 1 })
+record-piece bytes separator spans o view n s at r m l =
     let rest = drop s.start bytes in
     let p : ℕ → Bool = λ b. b == separator in
     let k = position_or_len p rest in
@@ -304,9 +304,8 @@ record-to bytes separator spans o view n s at r m l =
     let inside : k < length rest = omega (arith, l, long, d) in
     let here : get_or rest k 0 ≡ separator = eqb-true (get_or rest k 0) separator (passes_at_first p rest 0 inside) in
     let count : (s.start + length r + 1) - s.start ≡ k + 1 = omega (arith, long) in
-    subst (λ (x : OutlineContents). IsRecordTo x n s.start (s.start + length r + 1)) view (record {
-      rises = omega arith;
-      fits = omega (arith, l);
+    subst (λ (x : OutlineContents). IsRecordPiece x separator n (record { start = s.start; end = s.start + length r + 1 })) view (record {
+      lies = record { rises = omega arith; fits = omega (arith, l) };
       written =
           ap (λ j. take j rest) count ∙ (take_more rest k 0 inside ∙ (ap (λ x. take k rest ++ x ∷ []) here ∙ (ap (λ x. x ++ separator ∷ []) (sym same)
           ∙ ap (written_of separator) (m ∙ ap (λ (x : OutlineContents). mark_at x.marks n) (sym view)))));
@@ -322,21 +321,9 @@ part-more bytes start end next a b =
     ap (λ n. take n (drop start bytes)) (omega (arith, a, b))
     ∙ (take-add (end - start) (next - end) (drop start bytes) ∙ ap (λ t. part bytes start (end - start) ++ take (next - end) t) (drop-drop (end - start) start bytes ∙ ap (λ n. drop n bytes) (omega (arith, a))))
 
--- one more record of a run
-pub run-more : (o : OutlineContents) (entries : List ℕ) (count start end next number : ℕ) → count < length entries → number ≡ get_or entries count 0 → start ≤ end → IsRecordTo o number end next
-    → part o.bytes start (end - start) ≡ written_entries o.separator o.marks (take count entries) → part o.bytes start (next - start) ≡ written_entries o.separator o.marks (take (count + 1) entries)
-run-more o entries count start end next number l n rises r w =
-    part-more o.bytes start end next rises r.rises
-    ∙ (ap (λ t. t ++ part o.bytes end (next - end)) w ∙ (ap (λ t. written_entries o.separator o.marks (take count entries) ++ t) (r.written ∙ ap (λ m. written_of o.separator (mark_at o.marks m)) n)
-    ∙ written-more o.separator o.marks entries count (mark_at o.marks (get_or entries count 0)) l refl))
-
--- the first record of a run
-pub run-begun : (o : OutlineContents) (entries : List ℕ) (count start begin next number : ℕ) → count < length entries → number ≡ get_or entries count 0 → IsRecordTo o number begin next → count ≡ 0 → start ≡ begin
-    → part o.bytes start (next - start) ≡ written_entries o.separator o.marks (take (count + 1) entries)
-run-begun o entries count start begin next number l n r none is =
-    let same : begin - begin ≡ 0 = omega arith in
-    let nothing : part o.bytes begin (begin - begin) ≡ written_entries o.separator o.marks (take count entries) = rw (same, none) refl in
-    subst (λ s. part o.bytes s (next - s) ≡ written_entries o.separator o.marks (take (count + 1) entries)) (sym is) (run-more o entries count begin begin next number l n (omega arith) r nothing)
+-- a piece, and the one that follows it
+pub piece-more : (bytes : List ℕ) (p q : Piece) → IsPiece bytes p → IsPiece bytes q → q.start ≡ p.end → bytes_of bytes p ++ bytes_of bytes q ≡ bytes_of bytes (record { start = p.start; end = q.end })
+piece-more bytes p q a b e = ap (λ s. part bytes p.start (p.end - p.start) ++ part bytes s (q.end - s)) e ∙ sym (part-more bytes p.start p.end q.end a.rises (omega (arith, b.rises, e)))
 
 -- ---- none
 

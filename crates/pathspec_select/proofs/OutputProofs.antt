@@ -1,9 +1,8 @@
 -- What a buffer holds back of what is written.
-use Rattle.std.proofs.Common.{◌≡◌, ℕ, ◌+◌, ◌-◌, ◌<◌, ◌≤◌, List, [], ◌∷◌, ◌++◌, length, take, drop, get_or, Option, Some, Result, Ok, Err, refl, sym, ◌∙◌, ap, subst, append_assoc, arith}
-use Rattle.std.proofs.lemmas.List.{append-nil, length-drop, take_all, take_more, take_rest, take-append-drop}
-use Rattle.std.proofs.Math.Seq.{take-add}
+use Rattle.std.proofs.Common.{◌≡◌, ℕ, ◌+◌, ◌<◌, ◌≤◌, List, [], ◌∷◌, ◌++◌, length, take, drop, get_or, Option, Some, None, Result, Ok, Err, sym, ◌∙◌, ap, subst, append_assoc, arith}
+use Rattle.std.proofs.lemmas.List.{append-nil, take_all, take_more, take-append-drop}
 use Rattle.std.proofs.lemmas.Grind.{flat_map-append}
-use Rattle.std.specs.Prelude.{◌≢◌, OnOk, OnErr}
+use Rattle.std.specs.Prelude.{OnOk, OnErr}
 use Rattle.std.specs.Option.{option_map}
 use Rattle.bstr.specs.declared.bstr.BStr.{BStr}
 use Rattle.bstr.specs.BStr.{bstr_bytes}
@@ -14,6 +13,11 @@ use Rattle.pathspec_select.proofs.DeviceProofs.{appends-append}
 
 -- ---- fronts
 
+-- nothing
+pub appends-none : (held : Option (List ℕ)) → Appends held held []
+appends-none None = tt
+appends-none (Some xs) = sym (append-nil xs)
+
 -- all that a buffer holds
 pub upto-all : (old new : Option (List ℕ)) (bs : List ℕ) → Appends old new bs → AppendsUpTo old new bs []
 upto-all old new bs h = (bs, sym (append-nil bs), h)
@@ -22,6 +26,14 @@ upto-all old new bs h = (bs, sym (append-nil bs), h)
 pub upto-more : (old between new : Option (List ℕ)) (bs buffered more left : List ℕ) → AppendsUpTo old between bs buffered → AppendsUpTo between new (buffered ++ more) left → AppendsUpTo old new (bs ++ more) left
 upto-more old between new bs buffered more left p q =
     (p.0 ++ q.0, ap (λ t. t ++ more) p.1 ∙ (append_assoc p.0 buffered more ∙ (ap (λ t. p.0 ++ t) q.1 ∙ sym (append_assoc p.0 q.0 left))), appends-append old between new p.0 q.0 p.2 q.2)
+
+-- the bytes of a buffer, put on
+pub upto-on : (old between new : Option (List ℕ)) (bs buffered left : List ℕ) → AppendsUpTo old between bs buffered → AppendsUpTo between new buffered left → AppendsUpTo old new bs left
+upto-on old between new bs buffered left p q = (p.0 ++ q.0, p.1 ∙ (ap (λ t. p.0 ++ t) q.1 ∙ sym (append_assoc p.0 q.0 left)), appends-append old between new p.0 q.0 p.2 q.2)
+
+-- more bytes, kept back
+pub upto-longer : (old new : Option (List ℕ)) (bs left more : List ℕ) → AppendsUpTo old new bs left → AppendsUpTo old new (bs ++ more) (left ++ more)
+upto-longer old new bs left more p = (p.0, ap (λ t. t ++ more) p.1 ∙ append_assoc p.0 left more, p.2)
 
 -- a failed write of them
 pub front-more : (old between new : Option (List ℕ)) (bs buffered more : List ℕ) → AppendsUpTo old between bs buffered → AppendsFront between new (buffered ++ more) → AppendsFront old new (bs ++ more)
@@ -41,6 +53,16 @@ module _ {A E : Type 0} (old between new : Option (List ℕ)) (bs buffered more 
   pub then-front : (result : Result A E) → OnErr result (AppendsFront between new (buffered ++ more)) → OnErr result (AppendsFront old new (bs ++ more))
   then-front (Ok done) h = tt
   then-front (Err e) h = front-more old between new bs buffered more before h
+
+-- the last write, of which more is kept back
+module _ {A E : Type 0} (old new : Option (List ℕ)) (bs more : List ℕ) where
+  pub longer-put : (left : List ℕ) (result : Result A E) → OnOk result (AppendsUpTo old new bs left) → OnOk result (AppendsUpTo old new (bs ++ more) (left ++ more))
+  longer-put left (Ok done) h = upto-longer old new bs left more h
+  longer-put left (Err e) h = tt
+
+  pub longer-front : (result : Result A E) → OnErr result (AppendsFront old new bs) → OnErr result (AppendsFront old new (bs ++ more))
+  longer-front (Ok done) h = tt
+  longer-front (Err e) h = front-longer old new bs more h
 
 pub all-put : {A E : Type 0} (old new : Option (List ℕ)) (bs left : List ℕ) → left ≡ [] → (result : Result A E) → OnOk result (Appends old new bs) → OnOk result (AppendsUpTo old new bs left)
 all-put old new bs left e (Ok done) h = rw e (upto-all old new bs h)
@@ -68,33 +90,12 @@ written-rest separator marks entries n =
     let f : ℕ → List ℕ = λ m. written_of separator (mark_at marks m) in
     ap (written_entries separator marks) (sym (take-append-drop n entries)) ∙ flat_map-append f (take n entries) (drop n entries)
 
--- the same, where what is left is what a slice has
-module _ (separator : ℕ) (marks : List (Option (List ℕ))) (entries : List ℕ) (done : ℕ) (rest : List ℕ) (slice : rest ≡ take (length entries - done) (drop done entries)) where
-  rest_is : rest ≡ drop done entries
-  rest_is = slice ∙ take_rest entries done
-
-  pub length-rest : length rest ≡ length entries - done
-  length-rest = ap length rest_is ∙ length-drop done entries
-
-  pub written-run : (count : ℕ) → written_entries separator marks (take done entries) ++ written_entries separator marks (take count rest) ≡ written_entries separator marks (take (done + count) entries)
-  written-run count =
-      let f : ℕ → List ℕ = λ m. written_of separator (mark_at marks m) in
-      sym (ap (written_entries separator marks) (take-add done count entries ∙ ap (λ t. take done entries ++ take count t) (sym rest_is)) ∙ flat_map-append f (take done entries) (take count rest))
-
-  pub written-left : written_entries separator marks (take done entries) ++ written_entries separator marks rest ≡ written_entries separator marks entries
-  written-left = ap (λ t. written_entries separator marks (take done entries) ++ written_entries separator marks t) rest_is ∙ sym (written-rest separator marks entries done)
-
 -- a front of what is written for the first of some entries is one of what is written for all
-pub front-count : (old new : Option (List ℕ)) (buffered bytes : List ℕ) (separator : ℕ) (marks : List (Option (List ℕ))) (entries : List ℕ) (count : ℕ) → bytes ≡ written_entries separator marks (take count entries)
-    → AppendsFront old new (buffered ++ bytes) → AppendsFront old new (buffered ++ written_entries separator marks entries)
-front-count old new buffered bytes separator marks entries count e h =
+pub front-count : (old new : Option (List ℕ)) (bytes : List ℕ) (separator : ℕ) (marks : List (Option (List ℕ))) (entries : List ℕ) (count : ℕ) → bytes ≡ written_entries separator marks (take count entries)
+    → AppendsFront old new bytes → AppendsFront old new (written_entries separator marks entries)
+front-count old new bytes separator marks entries count e h =
     let more = written_entries separator marks (drop count entries) in
-    subst (AppendsFront old new) (append_assoc buffered bytes more ∙ ap (λ t. buffered ++ t) (ap (λ t. t ++ more) e ∙ sym (written-rest separator marks entries count))) (front-longer old new (buffered ++ bytes) more h)
-
-pub front-first : (old new : Option (List ℕ)) (buffered : List ℕ) (separator : ℕ) (marks : List (Option (List ℕ))) (entries : List ℕ) (mark : Option (List ℕ)) → entries ≢ [] → mark ≡ mark_at marks (get_or entries 0 0)
-    → AppendsFront old new (buffered ++ written_of separator mark) → AppendsFront old new (buffered ++ written_entries separator marks entries)
-front-first old new buffered separator marks [] mark some e h = absurd (some refl)
-front-first old new buffered separator marks (n ∷ ns) mark some e h = front-count old new buffered (written_of separator mark) separator marks (n ∷ ns) 1 (written-more separator marks (n ∷ ns) 0 mark (omega arith) e) h
+    subst (AppendsFront old new) (ap (λ t. t ++ more) e ∙ sym (written-rest separator marks entries count)) (front-longer old new bytes more h)
 
 -- what is buffered is written
 pub written-buffered : (old between new : Option (List ℕ)) (bs buffered : List ℕ) → AppendsUpTo old between bs buffered → Appends between new buffered → Appends old new bs
@@ -102,7 +103,7 @@ written-buffered old between new bs buffered p w = subst (Appends old new) (sym 
 
 -- a front of it is
 pub front-buffered : (old between new : Option (List ℕ)) (bs buffered : List ℕ) → AppendsUpTo old between bs buffered → AppendsFront between new buffered → AppendsFront old new bs
-front-buffered old between new bs buffered p q = (q.0, (p.0 ++ q.1.0, p.1 ∙ (ap (λ t. p.0 ++ t) q.1.1 ∙ sym (append_assoc p.0 q.1.0 q.0)), appends-append old between new p.0 q.1.0 p.2 q.1.2))
+front-buffered old between new bs buffered p q = (q.0, upto-on old between new bs buffered q.0 p q.1)
 
 -- what is buffered where no entry is left
 pub upto-end : (old between : Option (List ℕ)) (separator : ℕ) (marks : List (Option (List ℕ))) (entries : List ℕ) (n : ℕ) (buffered bytes : List ℕ) → length entries ≤ n

@@ -1,5 +1,5 @@
 -- What a clause reads of a listing that is read, and of its parts.
-use Rattle.std.specs.Prelude.{◌≡◌, ◌≢◌, ◌⊎◌, ℕ, ◌+◌, ◌<◌, ◌≤◌, Bool, true, false, List, [], ◌++◌, length, take, drop, All, ◌==◌, Option, Some, None, Result, Ok, Err}
+use Rattle.std.specs.Prelude.{◌≡◌, ◌≢◌, ◌⊎◌, ℕ, ◌+◌, ◌<◌, ◌≤◌, Bool, true, false, List, [], ◌++◌, length, take, drop, All, ◌==◌, Some, None, Result, Ok, Err}
 use Rattle.std.specs.List.{list_any, before_first, after_first}
 use Rattle.pathspec_select.specs.declared.listing.entries.RecordError.{RecordError}
 use Rattle.pathspec_select.specs.declared.listing.entries.RecordError.TheVariants as record_error
@@ -7,7 +7,7 @@ use Rattle.pathspec_parts.specs.Bytes.{slash, is_empty}
 use Rattle.pathspec_parts.specs.Paths.{ends_with_slash}
 use Rattle.pathspec_select.specs.declared.listing.contents.ListingError.{ListingError}
 use Rattle.pathspec_select.specs.declared.listing.contents.ListingError.TheVariants as listing_error
-use Rattle.pathspec_select.specs.Listing.{records, first_bad, written_entries}
+use Rattle.pathspec_select.specs.Listing.{records, first_bad}
 
 -- the names of a directory's path that has a slash after each
 abbrev pub directory_names : List ℕ → List (List ℕ)
@@ -90,12 +90,3 @@ AnswersRecords rs (Err error) = RefusesRecords rs error
 abbrev pub refusal_of : RecordError → ℕ → ListingError
 refusal_of record_error.EmptyName number = listing_error.BadLine number
 refusal_of record_error.Memory number = listing_error.Memory
-
--- These bytes are what is written for so many first of some entries.
-pub record IsRun (separator : ℕ) (marks : List (Option (List ℕ))) (entries bytes : List ℕ) (count : ℕ) : Type 0 where
-  pub few : count ≤ length entries
-  pub written : bytes ≡ written_entries separator marks (take count entries)
-
--- at least one of some entries, and no more than there are
-abbrev pub IsCountOf : List ℕ → ℕ → Type 0
-IsCountOf entries count = (0 < count) × (count ≤ length entries)

@@ -9,6 +9,7 @@ use Rattle.pathspec_parts.specs.TreeLayout.{path_above, open_end}
 use Rattle.pathspec_select.specs.Listing.{ListingContents, mark_at, written_of}
 use Rattle.pathspec_select.specs.ListingAnswers.{directory_names, IsClosed}
 use Rattle.pathspec_select.specs.SpanLayout.{path_at_span, contents_of_spans, AreSpans}
+use Rattle.pathspec_select.specs.declared.listing.outline.Piece.{Piece}
 use Rattle.pathspec_select.specs.declared.listing.spans.Span.{Span}
 
 -- a listing, its separator, the tree of what was read of it so far, and the record of each entry that has one
@@ -86,11 +87,25 @@ pub record HasOpen (t : TreeContents) (directory : List ℕ) : Type 0 where
   pub names : names_of t.open_directories ≡ directory_names directory
   pub path : path_above t.open_directories ≡ directory
 
--- The record of an entry, with its separator, is what stands between two places.
-pub record IsRecordTo (o : OutlineContents) (number start end : ℕ) : Type 0 where
-  pub rises : start ≤ end
-  pub fits : end ≤ length o.bytes
-  pub written : part o.bytes start (end - start) ≡ written_of o.separator (mark_at o.marks number)
+-- ---- pieces of a listing
+
+-- a piece lies in the listing
+pub record IsPiece (bytes : List ℕ) (p : Piece) : Type 0 where
+  pub rises : p.start ≤ p.end
+  pub fits : p.end ≤ length bytes
+
+-- the bytes of a piece
+abbrev pub bytes_of : List ℕ → Piece → List ℕ
+bytes_of bytes p = part bytes p.start (p.end - p.start)
+
+-- bytes and those of a piece behind them
+abbrev pub with_piece : List ℕ → List ℕ → Piece → List ℕ
+with_piece held bytes p = held ++ bytes_of bytes p
+
+-- The piece is the record of an entry, with the separator after it.
+pub record IsRecordPiece (o : OutlineContents) (separator number : ℕ) (p : Piece) : Type 0 where
+  pub lies : IsPiece o.bytes p
+  pub written : bytes_of o.bytes p ≡ written_of separator (mark_at o.marks number)
 
 -- ---- by its numbers
 

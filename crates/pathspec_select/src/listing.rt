@@ -8,3 +8,4 @@ mod spans;
 
 pub use contents::{Listing, ListingError, read};
 pub use outline::Outline;
+pub(crate) use outline::Piece;

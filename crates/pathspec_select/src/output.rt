@@ -1,21 +1,24 @@
 //! What is written for a listing, through a buffer.
-ghost use Rattle.std.specs.Prelude.{◌≡◌, ◌≢◌, ◌++◌, [], take, IfOk, OnOk, OnErr};
+ghost use Rattle.std.specs.Prelude.{◌++◌, OnOk, OnErr};
 ghost use Rattle.std.specs.Io.KnownBytes.{Appends};
 ghost use Rattle.std.specs.Option.{option_map};
 ghost use Rattle.bstr.specs.BStr.{bstr_bytes};
-ghost use Rattle.pathspec_select.specs.Listing.{written_entries, written_of};
-ghost use Rattle.pathspec_select.specs.ListingAnswers.{IsCountOf};
+ghost use Rattle.pathspec_select.specs.Listing.{mark_at, written_entries, written_of};
+ghost use Rattle.pathspec_select.specs.Outlines.{IsPiece, with_piece};
 ghost use Rattle.pathspec_select.specs.Program.{AppendsFront, AppendsUpTo, EndsOutput};
 
 use crate::Refusal;
 use crate::devices::{self, WriteError};
-use crate::listing::Listing;
+use crate::listing::{Listing, Outline, Piece};
 use bstr::BStr;
 use std::alloc::Global;
 use std::io::Write;
 
 /// How many bytes are kept back, so that few writes are made.
 const ROOM: usize = 65536;
+
+/// No byte of a listing.
+const NO_PIECE: Piece = Piece { start: 0, end: 0 };
 
 /// Writes the records of these entries of a listing, each with the separator after it.
 ///
@@ -34,43 +37,62 @@ pub(crate) fn write_records<W: Write>(
     ensures { EndsOutput (W.contents writer.old) (W.contents writer.new)
         (written_entries separator listing.now.marks entries.now) result }
 {
+    let outline = listing.outline();
     let mut buffer = Vec::with_capacity(alloc, ROOM)?;
-    let mut done = 0;
-    while done < entries.len() {
-        done += write_run(writer, &mut buffer, listing, &entries[done..], separator)?;
+    let mut piece = NO_PIECE;
+    for index in 0..entries.len() {
+        add_record(
+            writer,
+            &mut buffer,
+            &mut piece,
+            outline,
+            entries[index],
+            separator,
+        )?;
     }
+    write_buffered(writer, &mut buffer, outline.bytes_of(piece))?;
     devices::write_whole(writer, buffer.as_slice())?;
     Ok(())
 }
 
-/// Puts what is written for the first of some entries, at least one, after those bytes that a buffer holds: in one piece, as
-/// far as their records follow one another in the listing. It gives how many entries these are.
+// In line, so that the piece stays in registers.
+/// Puts the record of an entry, with the separator after it, after those bytes that a buffer holds and those of a piece of the
+/// listing behind them. Where the record follows the piece in the listing, the piece grows by it; else the piece goes into the
+/// buffer, and the record is the next piece.
 ///
 /// # Errors
 /// [`WriteError`]: a beginning of all these bytes is written.
-fn write_run<W: Write>(
+#[inline(always)]
+fn add_record<W: Write>(
     writer: &mut W,
     buffer: &mut Vec<u8>,
-    listing: &Listing<'_>,
-    entries: &[usize],
+    piece: &mut Piece,
+    outline: &Outline<'_>,
+    entry: usize,
     separator: u8,
-) -> Result<usize, WriteError>
-    requires { entries.now ≢ [] }
-    ensures count { IfOk result (IsCountOf entries.now) }
-    ensures written { IfOk result (λ count. AppendsUpTo
-        (W.contents writer.old) (W.contents writer.new)
-        (buffer.old.items ++ written_entries separator listing.now.marks (take count entries.now))
-        buffer.new.items) }
+) -> Result<(), WriteError>
+    requires piece { IsPiece outline.now.bytes piece.old }
+    ensures piece { IsPiece outline.now.bytes piece.new }
+    ensures written { OnOk result (AppendsUpTo (W.contents writer.old) (W.contents writer.new)
+        (with_piece buffer.old.items outline.now.bytes piece.old
+        ++ written_of separator (mark_at outline.now.marks entry))
+        (with_piece buffer.new.items outline.now.bytes piece.new)) }
     ensures front { OnErr result (AppendsFront (W.contents writer.old) (W.contents writer.new)
-        (buffer.old.items ++ written_entries separator listing.now.marks entries.now)) }
+        (with_piece buffer.old.items outline.now.bytes piece.old
+        ++ written_of separator (mark_at outline.now.marks entry))) }
 {
-    let (records, count) = listing.run(entries, separator);
-    if count == 0 {
-        write_record(writer, buffer, listing.record(entries[0]), separator)?;
-        return Ok(1);
+    let before = *piece;
+    let Some(record) = outline.record_piece(entry, separator) else {
+        *piece = NO_PIECE;
+        write_buffered(writer, buffer, outline.bytes_of(before))?;
+        return write_record(writer, buffer, outline.record(entry), separator);
+    };
+    if record.start == before.end {
+        piece.end = record.end;
+        return Ok(());
     }
-    write_buffered(writer, buffer, records)?;
-    Ok(count)
+    *piece = record;
+    write_buffered(writer, buffer, outline.bytes_of(before))
 }
 
 /// Puts the text of a record, if there is one, and the separator after it, after those bytes that a buffer holds.

@@ -4,7 +4,8 @@ ghost use Rattle.std.specs.Option.{option_map};
 ghost use Rattle.bstr.specs.BStr.{bstr_bytes};
 ghost use Rattle.pathspec_parts.specs.Cursors.{new_cursor};
 ghost use Rattle.pathspec_select.specs.Listing.{records, listing_of, mark_at, RecordsAreEntries};
-ghost use Rattle.pathspec_select.specs.ListingAnswers.{AnswersRecords, refusal_of, IsRun};
+ghost use Rattle.pathspec_select.specs.ListingAnswers.{AnswersRecords, refusal_of};
+ghost use Rattle.pathspec_select.specs.Outlines.{listing_of_outline};
 
 use crate::listing::entries::{RecordError, add_first};
 use crate::listing::outline::Outline;
@@ -86,13 +87,11 @@ impl<'a> Listing<'a> {
         self.outline.record(entry)
     }
 
-    /// What is written for the first of some entries, in one piece as it stands in the listing, and for how many: as far as
-    /// their records follow one another there, each with this separator after it. It is for none where the first entry has no
-    /// record, or its record isn't followed by the separator.
-    pub(crate) fn run(&self, entries: &[usize], separator: u8) -> (&[u8], usize)
-        ensures { IsRun separator self.now.marks entries.now result.0.now result.1 }
+    /// The entries, whose paths and records are parts of the listing.
+    pub(crate) fn outline(&self) -> &Outline<'a>
+        ensures { listing_of_outline result.now ≡ self.now }
     {
-        self.outline.run(entries, separator)
+        &self.outline
     }
 }
 

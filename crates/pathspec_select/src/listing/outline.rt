@@ -5,14 +5,20 @@ ghost use Rattle.std.specs.Option.{option_map};
 ghost use Rattle.bstr.specs.BStr.{bstr_bytes};
 ghost use Rattle.pathspec_parts.specs.TreeLayout.{open_end};
 ghost use Rattle.pathspec_select.specs.Listing.{mark_at};
-ghost use Rattle.pathspec_select.specs.Outlines.{part, empty_outline, outline_after, outline_closed, is_dir_span, mark_of_span, LiesInRecord, LiesOpen, IsRecordTo};
-ghost use Rattle.pathspec_select.specs.ListingAnswers.{IsRun};
+ghost use Rattle.pathspec_select.specs.Outlines.{part, empty_outline, outline_after, outline_closed, is_dir_span, mark_of_span, LiesInRecord, LiesOpen, IsPiece, IsRecordPiece, bytes_of};
 
 use crate::listing::spans::{Span, Spans};
 use bstr::BStr;
 use pathspec_parts::tree::{Entries, EntryPaths};
 use std::alloc::{AllocError, Global};
 use std::marker::Model;
+
+/// A piece of a listing, from one place to another.
+#[derive(Clone, Copy)]
+pub(crate) struct Piece {
+    pub(crate) start: usize,
+    pub(crate) end: usize,
+}
 
 /// The entries of a listing, whose paths are parts of it: what a walk over a [`super::Listing`] is over.
 ///
@@ -86,7 +92,7 @@ impl<'a> Outline<'a> {
     }
 
     /// The record of an entry, if it has one: a directory has none where its record goes on behind its path and a slash.
-    pub(super) fn record(&self, number: usize) -> Option<BStr<'_>>
+    pub(crate) fn record(&self, number: usize) -> Option<BStr<'_>>
         ensures { option_map bstr_bytes result ≡ mark_at self.now.marks number }
     {
         let span = self.spans.get(number)?;
@@ -94,44 +100,32 @@ impl<'a> Outline<'a> {
         Some(BStr::new(record))
     }
 
-    /// The records of the first of some entries, each with this separator after it, as far as they follow one another in
-    /// the listing, and of how many entries they are. They are of none where the first entry has no record, or its record
-    /// isn't followed by the separator.
-    pub(super) fn run(&self, entries: &[usize], separator: u8) -> (&[u8], usize)
-        ensures { IsRun separator self.now.marks entries.now result.0.now result.1 }
+    /// Where the record of an entry stands in the listing, with this separator after it; None where the entry has no record, or
+    /// the separator doesn't stand there.
+    pub(crate) fn record_piece(&self, number: usize, separator: u8) -> Option<Piece>
+        ensures { IfSome result (IsRecordPiece self.now separator number) }
     {
         if separator != self.separator {
-            return (&[], 0);
+            return None;
         }
-        let mut start = 0;
-        let mut end = 0;
-        let mut count = 0;
-        while count < entries.len() {
-            let Some((begin, next)) = self.record_bounds(entries[count]) else {
-                break;
-            };
-            if count == 0 {
-                start = begin;
-            } else if begin != end {
-                break;
-            }
-            end = next;
-            count += 1;
-        }
-        (piece(self.bytes, start, end - start), count)
-    }
-
-    /// Where the record of an entry begins, and where it ends with its separator, if it has one.
-    fn record_bounds(&self, number: usize) -> Option<(usize, usize)>
-        ensures { IfSome result (λ bounds. IsRecordTo self.now number bounds.0 bounds.1) }
-    {
         let span = self.spans.get(number)?;
         let end = span.start + record_of(self.bytes, self.separator, span)?.len();
         if end < self.bytes.len() {
-            Some((span.start, end + 1))
+            Some(Piece {
+                start: span.start,
+                end: end + 1,
+            })
         } else {
             None
         }
+    }
+
+    /// The bytes of a piece.
+    pub(crate) fn bytes_of(&self, piece: Piece) -> &[u8]
+        requires { IsPiece self.now.bytes piece }
+        ensures { result.now ≡ bytes_of self.now.bytes piece }
+    {
+        part(self.bytes, piece.start, piece.end - piece.start)
     }
 }
 
@@ -159,12 +153,12 @@ impl<'a> Entries for Outline<'a> {
 impl<'a> EntryPaths for Outline<'a> {
     fn path(&self, number: usize) -> &[u8] {
         let span = self.spans.at(number);
-        piece(self.bytes, span.start, span.length)
+        part(self.bytes, span.start, span.length)
     }
 }
 
 /// So many bytes from a place on.
-fn piece(bytes: &[u8], start: usize, count: usize) -> &[u8]
+fn part(bytes: &[u8], start: usize, count: usize) -> &[u8]
     requires { start + count ≤ length bytes.now }
     ensures { result.now ≡ part bytes.now start count }
 {

@@ -10,8 +10,8 @@ at-span-requires c =
     let count = entries_count s.bytes.now s.spans s.stack.items s.directories c.self.invariant.spans_are (laid s.bytes.now s.separator s.spans s.stack.items s.directories c.self.invariant c.args.self.now c.self.view_is) (view_laid s.bytes.now s.separator s.spans s.stack.items s.directories c.self.invariant c.args.self.now c.self.view_is) in
     omega (arith, count, c.requires, c.self.invariant.room)
 
-pub piece-requires : goal.piece-requires
-piece-requires c =
+pub part-requires : goal.part-requires
+part-requires c =
     let s = c.self.inside in
     let count = entries_count s.bytes.now s.spans s.stack.items s.directories c.self.invariant.spans_are (laid s.bytes.now s.separator s.spans s.stack.items s.directories c.self.invariant c.args.self.now c.self.view_is) (view_laid s.bytes.now s.separator s.spans s.stack.items s.directories c.self.invariant c.args.self.now c.self.view_is) in
     let at = read_at s.spans c.args.number c.at-span.result (omega (arith, count, c.requires)) c.at-span.ensures in
@@ -22,4 +22,4 @@ returns c = λ e there.
     let s = c.self.inside in
     let count = entries_count s.bytes.now s.spans s.stack.items s.directories c.self.invariant.spans_are (laid s.bytes.now s.separator s.spans s.stack.items s.directories c.self.invariant c.args.self.now c.self.view_is) (view_laid s.bytes.now s.separator s.spans s.stack.items s.directories c.self.invariant c.args.self.now c.self.view_is) in
     let at = read_at s.spans c.args.number c.at-span.result (omega (arith, count, c.requires)) c.at-span.ensures in
-    c.piece.ensures ∙ path_is s.bytes.now s.spans s.stack.items s.directories c.self.invariant.spans_are (laid s.bytes.now s.separator s.spans s.stack.items s.directories c.self.invariant c.args.self.now c.self.view_is) (view_laid s.bytes.now s.separator s.spans s.stack.items s.directories c.self.invariant c.args.self.now c.self.view_is) c.args.number c.at-span.result at e there
+    c.part.ensures ∙ path_is s.bytes.now s.spans s.stack.items s.directories c.self.invariant.spans_are (laid s.bytes.now s.separator s.spans s.stack.items s.directories c.self.invariant c.args.self.now c.self.view_is) (view_laid s.bytes.now s.separator s.spans s.stack.items s.directories c.self.invariant c.args.self.now c.self.view_is) c.args.number c.at-span.result at e there
