@@ -209,7 +209,6 @@ impl Way {
 
 /// Tests the first token, which takes any number of bytes, on the bytes of a text up to one that it doesn't take, each
 /// of which is counted as one step: whether it takes them all.
-#[inline(never)]
 fn test_first(tokens: &CountedFirst, text: &[u8], steps: &mut Steps) -> bool
     requires wide { IsTrue (is_wide_at tokens.now.tokens) }
     requires room { steps.old.last + length text.now < 2 ^ 128 }
