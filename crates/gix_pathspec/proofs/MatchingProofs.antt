@@ -7,9 +7,13 @@ use Rattle.std.specs.Prelude.{bytes_eq}
 use Rattle.std.specs.Char.{to_ascii_lowercase}
 use Rattle.pathspec_parts.specs.Bytes.{slash, fold_case, is_empty}
 use Rattle.pathspec_parts.specs.Attributes.{Table}
+use Rattle.pathspec_pattern.specs.declared.SearchMode.{SearchMode}
+use Rattle.pathspec_pattern.specs.declared.SearchMode.TheVariants.{ShellGlob, Literal, PathAwareGlob}
+use Rattle.pathspec_glob.specs.Globs.{GlobSource}
 use Rattle.gix_pathspec.specs.declared.search.MatchKind.{MatchKind}
 use Rattle.gix_pathspec.specs.declared.search.MatchKind.TheVariants.{Always, Prefix, WildcardMatch, Verbatim}
-use Rattle.gix_pathspec.specs.Specs.{Spec, always_matches}
+use Rattle.gix_pathspec.specs.Specs.{Spec, always_matches, has_wildcard}
+use Rattle.gix_pathspec.specs.Room.{glob_of}
 use Rattle.gix_pathspec.specs.SelectionLaws.{FittedMatches}
 use Rattle.gix_pathspec.specs.Matching.{fit, match_way, spec_matches, has_attributes, is_in_prefix_directory, is_glob_match, is_verbatim_match, is_prefix_match}
 use Rattle.pathspec_parts.specs.Paths.{is_below}
@@ -82,6 +86,25 @@ pub fit-lost : (s : Spec) (path : List ℕ) (is_dir : Bool) → is_in_prefix_dir
 unfolding fit
 fit-lost s path is_dir lost = rw lost refl
 
+-- a spec that has a glob has a wildcard, so it doesn't match always
+glob-asks : (s : Spec) (g : GlobSource) → glob_of s ≡ Some g → always_matches s ≡ false
+glob-asks s g h = asks s.nil refl s.path refl
+  where
+    asks : (nil : Bool) → s.nil ≡ nil → (path : List ℕ) → s.path ≡ path → always_matches s ≡ false
+    asks true n path p = let no : false ≡ true = sym (rw n refl) ∙ ap is_some h in cc
+    asks false n [] p = let no : false ≡ true = sym (rw (n, p) refl) ∙ ap is_some h in cc
+    asks false n (b ∷ rest) p = rw (n, p) refl
+
+-- one that has none matches by no glob
+glob-lacks : (s : Spec) (path : List ℕ) (is_dir : Bool) → glob_of s ≡ None → is_glob_match s path is_dir ≡ false
+glob-lacks s path is_dir h = lacks (has_wildcard s) refl s.mode refl
+  where
+    lacks : (w : Bool) → has_wildcard s ≡ w → (mode : SearchMode) → s.mode ≡ mode → is_glob_match s path is_dir ≡ false
+    lacks false w mode m = rw w refl
+    lacks true w ShellGlob m = let no : true ≡ false = sym (rw (w, m) refl) ∙ ap is_some h in cc
+    lacks true w Literal m = rw (w, m) refl
+    lacks true w PathAwareGlob m = let no : true ≡ false = sym (rw (w, m) refl) ∙ ap is_some h in cc
+
 -- where it is kept
 module _ (s : Spec) (path : List ℕ) (is_dir : Bool) (kept : is_in_prefix_directory s path is_dir ≡ true) where
   fit-kept : fit s path is_dir ≡ match_way s path is_dir
@@ -91,12 +114,20 @@ module _ (s : Spec) (path : List ℕ) (is_dir : Bool) (kept : is_in_prefix_direc
   pub fit-always : always_matches s ≡ true → Some Always ≡ fit s path is_dir
   fit-always a = sym (fit-kept ∙ (rw a refl))
 
-  pub fit-globbed : always_matches s ≡ false → is_glob_match s path is_dir ≡ true → Some WildcardMatch ≡ fit s path is_dir
-  fit-globbed a g = sym (fit-kept ∙ (rw (a, g) refl))
+  pub fit-globbed : (g : GlobSource) → glob_of s ≡ Some g → is_glob_match s path is_dir ≡ true → Some WildcardMatch ≡ fit s path is_dir
+  fit-globbed g h m = sym (fit-kept ∙ (rw (glob-asks s g h, m) refl))
 
-  pub fit-text : always_matches s ≡ false → is_glob_match s path is_dir ≡ false
+  fit-text : always_matches s ≡ false → is_glob_match s path is_dir ≡ false
       → (if is_verbatim_match s path is_dir then Some Verbatim else if is_prefix_match s path then Some Prefix else None) ≡ fit s path is_dir
-  fit-text a g = sym (fit-kept ∙ (rw (a, g) refl))
+  fit-text a m = sym (fit-kept ∙ (rw (a, m) refl))
+
+  pub fit-text_beside : (g : GlobSource) → glob_of s ≡ Some g → is_glob_match s path is_dir ≡ false
+      → (if is_verbatim_match s path is_dir then Some Verbatim else if is_prefix_match s path then Some Prefix else None) ≡ fit s path is_dir
+  fit-text_beside g h = fit-text (glob-asks s g h)
+
+  pub fit-text_alone : glob_of s ≡ None → always_matches s ≡ false
+      → (if is_verbatim_match s path is_dir then Some Verbatim else if is_prefix_match s path then Some Prefix else None) ≡ fit s path is_dir
+  fit-text_alone h a = fit-text a (glob-lacks s path is_dir h)
 
 -- a spec that lists no attributes means what it fits
 pub spec_matches-fits : (s : Spec) (path : List ℕ) (is_dir : Bool) (kind : Option MatchKind) → is_empty s.attributes ≡ true → kind ≡ fit s path is_dir → (table : Table) → is_some kind ≡ spec_matches table s path is_dir

@@ -43,12 +43,13 @@ fn match_kind(
     if !is_in_prefix_directory(pattern, path, is_dir) {
         return None;
     }
-    if pattern.always_matches() {
-        Some(MatchKind::Always)
-    } else if is_glob_match(pattern, glob, globs, path, is_dir) {
-        Some(MatchKind::WildcardMatch)
-    } else {
-        text_kind(pattern, path, is_dir)
+    // A pattern with a glob has a wildcard, so it doesn't match always.
+    match glob {
+        Some(glob) if is_glob_match(pattern, glob, globs, path, is_dir) => {
+            Some(MatchKind::WildcardMatch)
+        }
+        None if pattern.always_matches() => Some(MatchKind::Always),
+        _ => text_kind(pattern, path, is_dir),
     }
 }
 
@@ -85,26 +86,21 @@ pub(super) fn is_in_prefix_directory(pattern: &Pattern, path: BStr<'_>, is_dir: 
         || is_same_text(path, prefix, false) && is_dir
 }
 
-/// Whether the pattern's glob, if it has one, matches the path, which is a directory where the pattern wants one.
+/// Whether the pattern's glob matches the path, which is a directory where the pattern wants one.
 fn is_glob_match(
     pattern: &Pattern,
-    glob: &Option<Glob>,
+    glob: &Glob,
     globs: &mut Scratch,
     path: BStr<'_>,
     is_dir: bool,
 ) -> bool
-    requires glob { glob.now ≡ glob_of (pattern_spec pattern.now) }
+    requires glob { glob_of (pattern_spec pattern.now) ≡ Some glob.now }
     requires room { tokens_of (pattern_spec pattern.now) ≤ globs.old.tokens }
     ensures answer { result ≡ is_glob_match (pattern_spec pattern.now)
         (bstr_bytes path.entry) is_dir }
     ensures room { globs.new.tokens ≡ globs.old.tokens }
 {
-    match glob {
-        Some(glob) => {
-            takes_kind(pattern, is_dir) && glob.matches(path.as_bytes(), case_of(pattern), globs)
-        }
-        None => false,
-    }
+    takes_kind(pattern, is_dir) && glob.matches(path.as_bytes(), case_of(pattern), globs)
 }
 
 /// Whether the path is the pattern's, and a directory where the pattern wants one.

@@ -41,6 +41,7 @@ impl Search {
     ///
     /// # Errors
     /// The look-up's fault, and only where the look-up failed in this call.
+    #[inline(always)]
     pub fn visit<L: LookUp>(
         &self,
         path: BStr<'_>,
