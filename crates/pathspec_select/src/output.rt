@@ -58,7 +58,8 @@ pub(crate) fn write_records<W: Write>(
 // In line, so that the piece stays in registers.
 /// Puts the record of an entry, with the separator after it, after those bytes that a buffer holds and those of a piece of the
 /// listing behind them. Where the record follows the piece in the listing, the piece grows by it; else the piece goes into the
-/// buffer, and the record is the next piece.
+/// buffer, and the record is the next piece. Of `*.md` in a listing of `a.md`, `b.md`, `c.c`, `d.md` the first two records are one
+/// piece, and `d.md` is the next.
 ///
 /// # Errors
 /// [`WriteError`]: a beginning of all these bytes is written.

@@ -29,6 +29,7 @@ pub struct Visit {
 }
 
 impl Search {
+    // In line, since a walk asks this of each entry.
     /// What a walk does with an entry that it comes to: whether the search selects it, as [`Search::is_selected`] says, and
     /// whether it is a directory that the walk enters, since it may not skip it ([`Search::may_skip`]) (own; gix-pathspec has no
     /// such call). The top of a tree is an entry too, by the empty path: `:!a` selects it, and `a` does not.
