@@ -3,8 +3,10 @@ ghost use Rattle.std.specs.Prelude.{◌≡◌, bytes_eq};
 ghost use Rattle.gix_pathspec.specs.Bytes.{fold_case, begins_with};
 ghost use Rattle.gix_pathspec.specs.Paths.{is_below};
 
+// In line, since the last byte mostly tells.
 /// Whether two texts are one, up to ASCII case where it doesn't count. With case, it compares the last byte first, in which most
 /// paths differ.
+#[inline(always)]
 pub(crate) fn is_same_text(left: &[u8], right: &[u8], ignore_case: bool) -> bool
     ensures { result ≡ bytes_eq (fold_case ignore_case left.now) (fold_case ignore_case right.now) }
 {
