@@ -8,37 +8,36 @@ use Rattle.pathspec_select.specs.Outlines.{with_piece, bytes_of}
 use Rattle.pathspec_select.specs.Program.{AppendsUpTo, AppendsFront}
 use Rattle.pathspec_select.proofs.OutlineProofs.{piece-more}
 use Rattle.pathspec_select.proofs.OutputProofs.{appends-none, front-longer, longer-put, longer-front, then-put, then-front}
+use Rattle.pathspec_select.proofs.output.add_record.Given.{Over}
+use Rattle.pathspec_select.proofs.output.add_record.Goals.{After-write_record}
 use Rattle.pathspec_select.proofs.output.add_record.Goals as goal
+
+-- what was put before the record: the buffer and the piece
+before : (g : Over) (c : After-write_record g) → AppendsUpTo (g.W.Write.contents c.args.writer.now) (g.W.Write.contents c.write_buffered.new.writer) (with_piece c.args.buffer.now.items c.args.outline.now.bytes c.args.piece.now) c.write_buffered.new.buffer.items
+before g c = subst (λ t. AppendsUpTo (g.W.Write.contents c.args.writer.now) (g.W.Write.contents c.write_buffered.new.writer) (c.args.buffer.now.items ++ t) c.write_buffered.new.buffer.items) c.bytes_of.ensures c.in_ok-write_buffered.ensures.written
 
 pub returns-in_err-write_buffered-clause-front : goal.returns-in_err-write_buffered-clause-front
 returns-in_err-write_buffered-clause-front g c =
-    let old = g.W.Write.contents c.args.writer.now in
-    let new = g.W.Write.contents c.write_buffered.new.writer in
     let p = err_from_is_err_and c.from_residual.result c.from_residual.ensures.1 in
-    let front = subst (λ t. AppendsFront old new (c.args.buffer.now.items ++ t)) c.bytes_of.ensures c.in_err-write_buffered.ensures.front in
-    rw p.1 (front-longer old new (with_piece c.args.buffer.now.items c.args.outline.now.bytes c.args.piece.now) (written_of c.args.separator (mark_at c.args.outline.now.marks c.args.entry)) front)
+    let front = subst (λ t. AppendsFront (g.W.Write.contents c.args.writer.now) (g.W.Write.contents c.write_buffered.new.writer) (c.args.buffer.now.items ++ t)) c.bytes_of.ensures c.in_err-write_buffered.ensures.front in
+    rw p.1 (front-longer _ _ _ (written_of c.args.separator (mark_at c.args.outline.now.marks c.args.entry)) front)
 
 pub returns-in_default-clause-written : goal.returns-in_default-clause-written
 returns-in_default-clause-written g c =
     let old = g.W.Write.contents c.args.writer.now in
     let between = g.W.Write.contents c.write_buffered.new.writer in
     let new = g.W.Write.contents c.write_record.new.writer in
-    let held = c.write_buffered.new.buffer.items in
     let left = c.write_record.new.buffer.items in
-    let before = subst (λ t. AppendsUpTo old between (c.args.buffer.now.items ++ t) held) c.bytes_of.ensures c.in_ok-write_buffered.ensures.written in
-    let behind = subst (λ m. OnOk c.write_record.result (AppendsUpTo between new (held ++ written_of c.args.separator m) left)) c.record.ensures c.write_record.ensures.written in
-    let all = then-put old between new (with_piece c.args.buffer.now.items c.args.outline.now.bytes c.args.piece.now) held (written_of c.args.separator (mark_at c.args.outline.now.marks c.args.entry)) before left c.write_record.result behind in
-    subst (λ (t : List ℕ). OnOk c.write_record.result (AppendsUpTo old new (with_piece c.args.buffer.now.items c.args.outline.now.bytes c.args.piece.now ++ written_of c.args.separator (mark_at c.args.outline.now.marks c.args.entry)) t)) (sym (append-nil left)) all
+    let behind = subst (λ m. OnOk c.write_record.result (AppendsUpTo between new (c.write_buffered.new.buffer.items ++ written_of c.args.separator m) left)) c.record.ensures c.write_record.ensures.written in
+    rw (append-nil left) (then-put old between new _ _ _ (before g c) left c.write_record.result behind)
 
 pub returns-in_default-clause-front : goal.returns-in_default-clause-front
 returns-in_default-clause-front g c =
     let old = g.W.Write.contents c.args.writer.now in
     let between = g.W.Write.contents c.write_buffered.new.writer in
     let new = g.W.Write.contents c.write_record.new.writer in
-    let held = c.write_buffered.new.buffer.items in
-    let before = subst (λ t. AppendsUpTo old between (c.args.buffer.now.items ++ t) held) c.bytes_of.ensures c.in_ok-write_buffered.ensures.written in
-    let behind = subst (λ m. OnErr c.write_record.result (AppendsFront between new (held ++ written_of c.args.separator m))) c.record.ensures c.write_record.ensures.front in
-    then-front old between new (with_piece c.args.buffer.now.items c.args.outline.now.bytes c.args.piece.now) held (written_of c.args.separator (mark_at c.args.outline.now.marks c.args.entry)) before c.write_record.result behind
+    let behind = subst (λ m. OnErr c.write_record.result (AppendsFront between new (c.write_buffered.new.buffer.items ++ written_of c.args.separator m))) c.record.ensures c.write_record.ensures.front in
+    then-front old between new _ _ _ (before g c) c.write_record.result behind
 
 pub returns-then-record-before-clause-written : goal.returns-then-record-before-clause-written
 returns-then-record-before-clause-written g c =
@@ -53,7 +52,7 @@ returns-clause-front g c =
     let old = g.W.Write.contents c.args.writer.now in
     let new = g.W.Write.contents c.write_buffered-2.new.writer in
     let front = subst (λ t. OnErr c.write_buffered-2.result (AppendsFront old new (c.args.buffer.now.items ++ t))) c.bytes_of-2.ensures c.write_buffered-2.ensures.front in
-    longer-front old new (with_piece c.args.buffer.now.items c.args.outline.now.bytes c.args.piece.now) (written_of c.args.separator (mark_at c.args.outline.now.marks c.args.entry)) c.write_buffered-2.result front
+    longer-front old new _ (written_of c.args.separator (mark_at c.args.outline.now.marks c.args.entry)) c.write_buffered-2.result front
 
 pub returns-clause-written : goal.returns-clause-written
 returns-clause-written g c =
