@@ -1,5 +1,5 @@
 -- What lies below a path, byte by byte, and the ways in which a spec fits.
-use Rattle.std.proofs.Common.{◌≡◌, ◌≢◌, ℕ, ◌+◌, ◌<◌, ◌≤◌, Bool, true, false, ◌&&◌, inl, inr, refl, sym, ◌∙◌, ap, List, [], ◌∷◌, length, take, get_or, arith, ◌==◌, if◌then◌else◌, Some, None, Option, is_some}
+use Rattle.std.proofs.Common.{◌≡◌, ◌≢◌, ℕ, ◌+◌, ◌<◌, ◌≤◌, Bool, true, false, ◌&&◌, inl, inr, refl, sym, ◌∙◌, ap, List, [], ◌∷◌, length, take, get_or, arith, ◌==◌, Some, None, Option, is_some}
 use Rattle.std.proofs.lemmas.Bool.{ne_eqb, cases_lt, lt-ltb, le-ltb}
 use Rattle.std.proofs.lemmas.List.{length-map, take-map, get_or-map}
 use Rattle.std.proofs.Math.Bool.{and-false, and-true}
@@ -11,11 +11,11 @@ use Rattle.pathspec_pattern.specs.declared.SearchMode.{SearchMode}
 use Rattle.pathspec_pattern.specs.declared.SearchMode.TheVariants.{ShellGlob, Literal, PathAwareGlob}
 use Rattle.pathspec_glob.specs.Globs.{GlobSource}
 use Rattle.gix_pathspec.specs.declared.search.MatchKind.{MatchKind}
-use Rattle.gix_pathspec.specs.declared.search.MatchKind.TheVariants.{Always, Prefix, WildcardMatch, Verbatim}
+use Rattle.gix_pathspec.specs.declared.search.MatchKind.TheVariants.{Always, WildcardMatch}
 use Rattle.gix_pathspec.specs.Specs.{Spec, always_matches, has_wildcard}
 use Rattle.gix_pathspec.specs.Room.{glob_of}
 use Rattle.gix_pathspec.specs.SelectionLaws.{FittedMatches}
-use Rattle.gix_pathspec.specs.Matching.{fit, match_way, spec_matches, has_attributes, is_in_prefix_directory, is_glob_match, is_verbatim_match, is_prefix_match}
+use Rattle.gix_pathspec.specs.Matching.{fit, match_way, text_way, spec_matches, has_attributes, is_in_prefix_directory, is_glob_match}
 use Rattle.pathspec_parts.specs.Paths.{is_below}
 
 -- ---- below a path
@@ -117,16 +117,13 @@ module _ (s : Spec) (path : List ℕ) (is_dir : Bool) (kept : is_in_prefix_direc
   pub fit-globbed : (g : GlobSource) → glob_of s ≡ Some g → is_glob_match s path is_dir ≡ true → Some WildcardMatch ≡ fit s path is_dir
   fit-globbed g h m = sym (fit-kept ∙ (rw (glob-asks s g h, m) refl))
 
-  fit-text : always_matches s ≡ false → is_glob_match s path is_dir ≡ false
-      → (if is_verbatim_match s path is_dir then Some Verbatim else if is_prefix_match s path then Some Prefix else None) ≡ fit s path is_dir
+  fit-text : always_matches s ≡ false → is_glob_match s path is_dir ≡ false → text_way s path is_dir ≡ fit s path is_dir
   fit-text a m = sym (fit-kept ∙ (rw (a, m) refl))
 
-  pub fit-text_beside : (g : GlobSource) → glob_of s ≡ Some g → is_glob_match s path is_dir ≡ false
-      → (if is_verbatim_match s path is_dir then Some Verbatim else if is_prefix_match s path then Some Prefix else None) ≡ fit s path is_dir
+  pub fit-text_beside : (g : GlobSource) → glob_of s ≡ Some g → is_glob_match s path is_dir ≡ false → text_way s path is_dir ≡ fit s path is_dir
   fit-text_beside g h = fit-text (glob-asks s g h)
 
-  pub fit-text_alone : glob_of s ≡ None → always_matches s ≡ false
-      → (if is_verbatim_match s path is_dir then Some Verbatim else if is_prefix_match s path then Some Prefix else None) ≡ fit s path is_dir
+  pub fit-text_alone : glob_of s ≡ None → always_matches s ≡ false → text_way s path is_dir ≡ fit s path is_dir
   fit-text_alone h a = fit-text a (glob-lacks s path is_dir h)
 
 -- a spec that lists no attributes means what it fits

@@ -49,14 +49,16 @@ is_verbatim_match s path is_dir = bytes_eq (fold_case (ignores_case s) path) (fo
 abbrev pub is_prefix_match : Spec → List ℕ → Bool
 is_prefix_match s path = is_below (fold_case (ignores_case s) path) (fold_case (ignores_case s) s.path)
 
+-- the way to match by the spec's path as a text
+abbrev pub text_way : Spec → List ℕ → Bool → Option MatchKind
+text_way s path is_dir = if is_verbatim_match s path is_dir then Some Verbatim else if is_prefix_match s path then Some Prefix else None
+
 -- the first of the ways to match that holds
 abbrev pub match_way : Spec → List ℕ → Bool → Option MatchKind
 match_way s path is_dir =
     if always_matches s then Some Always
     else if is_glob_match s path is_dir then Some WildcardMatch
-    else if is_verbatim_match s path is_dir then Some Verbatim
-    else if is_prefix_match s path then Some Prefix
-    else None
+    else text_way s path is_dir
 
 -- How a spec fits a path: the prefix directory is kept, and the path matches in this way.
 unfoldable pub fit : Spec → List ℕ → Bool → Option MatchKind

@@ -267,7 +267,8 @@ impl SpecsByHead {
     fn is_unasked(&self, path: &[u8]) -> bool
         ensures { result ≡ is_unasked self.now path.now }
     {
-        path.is_empty() || !begins_with(path, &self.common_prefix, false)
+        let common = self.common_prefix.as_slice();
+        path.is_empty() || !common.is_empty() && !begins_with(path, common, false)
     }
 }
 

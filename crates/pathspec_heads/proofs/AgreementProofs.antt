@@ -1,16 +1,10 @@
 -- How far texts agree, step by step, and what stands between two texts that agree.
-use Rattle.std.proofs.Common.{◌≡◌, ◌≢◌, ℕ, suc, zero, ◌+◌, ◌*◌, ◌/◌, ◌%◌, ◌^◌, ◌<◌, ◌≤◌, w32, w64, Bool, true, false, ltb, inl, inr, refl, sym, ◌∙◌, ap, List, [], ◌∷◌, ◌++◌, length, get_or, arith, nat_eq, take, drop}
+use Rattle.std.proofs.Common.{◌≡◌, ◌≢◌, ℕ, suc, zero, ◌+◌, ◌<◌, ◌≤◌, Bool, true, false, ltb, inl, inr, refl, sym, ◌∙◌, ap, List, [], ◌∷◌, ◌++◌, length, get_or, arith, nat_eq, take}
 use Rattle.std.proofs.lemmas.Bool.{cases_Bool, cases_lt, false≢true}
 use Rattle.std.proofs.lemmas.List.Sums.{common_prefix_len-le}
 use Rattle.std.proofs.lemmas.Bool.Decides.{nat_tests}
-use Rattle.std.proofs.lemmas.Nat.{pow_pos, from_le_bytes-to_le_bytes_4}
-use Rattle.std.proofs.lemmas.Nat.Bits.{bit_at-lt, bit_at-zero, bit_at_xor, bit_at_cat_low, bit_at-trailing_zeros, same_from_bits, same_from_bits_below}
-use Rattle.std.proofs.Math.Nat.{mul_comm, div-add-mod, mod-lt}
-use Rattle.std.specs.Int.{bit_at, from_le_bytes, to_le_bytes, trailing_zeros}
-use Rattle.std.specs.Int.Bits.{bit_xor}
 use Rattle.pathspec_glob.specs.Bytes.{begins_with}
 use Rattle.pathspec_heads.specs.Agreement.{agreement, is_behind}
-use Rattle.pathspec_heads.proofs.PieceProofs.{piece-at, same_pieces}
 
 pub agreement-more : (x y : List ℕ) (n : ℕ) → n ≤ agreement x y → n < length x → n < length y → get_or x n 0 ≡ get_or y n 0 → n + 1 ≤ agreement x y
 agreement-more [] y n h i j e = absurd (omega (arith, i))
@@ -185,75 +179,3 @@ same_fronts h x t p q =
     let in_h : length h ≤ agreement h h = agreement-self h in
     let shorter : length h ≤ n = squeezed (length h) h x t t (agreement-front h t e) (omega (arith, agreement-front h t e, agreement-self t, common_prefix_len-le nat_eq h t)) p q in
     begins-take h x n in_x shorter)
-
--- ---- bytes of two words
-
-same-bit : (a b i : ℕ) → bit_at (bit_xor a b) i ≡ 0 → bit_at a i ≡ bit_at b i
-same-bit a b i h = omega (arith, h, bit_at_xor a b i, bit_at-lt a i, bit_at-lt b i)
-
-low-bit : (n k i : ℕ) → i < k → bit_at n i ≡ bit_at (n % 2 ^ k) i
-low-bit n k i l =
-    let whole : n / 2 ^ k * 2 ^ k + n % 2 ^ k ≡ n = ap (λ m. m + n % 2 ^ k) (mul_comm (n / 2 ^ k) (2 ^ k)) ∙ div-add-mod n (2 ^ k) in
-    ap (λ m. bit_at m i) (sym whole) ∙ bit_at_cat_low (n / 2 ^ k) k (n % 2 ^ k) i l
-
-low-same : (a b k : ℕ) → ((i : ℕ) → i < k → bit_at (bit_xor a b) i ≡ 0) → a % 2 ^ k ≡ b % 2 ^ k
-low-same a b k h = same_from_bits_below k (a % 2 ^ k) (b % 2 ^ k) (mod-lt a (pow_pos k)) (mod-lt b (pow_pos k)) (λ i l. sym (low-bit a k i l) ∙ (same-bit a b i (h i l) ∙ low-bit b k i l))
-
--- a byte of two words is the same where the words agree in all bits up to it
-same-byte : (a b i : ℕ) → i < 8 → a % 2 ^ (8 * (i + 1)) ≡ b % 2 ^ (8 * (i + 1)) → get_or (to_le_bytes w64 a) i 0 ≡ get_or (to_le_bytes w64 b) i 0
-same-byte a b zero l h = omega (arith, h)
-same-byte a b (suc zero) l h = omega (arith, h)
-same-byte a b (suc (suc zero)) l h = omega (arith, h)
-same-byte a b (suc (suc (suc zero))) l h = omega (arith, h)
-same-byte a b (suc (suc (suc (suc zero)))) l h = omega (arith, h)
-same-byte a b (suc (suc (suc (suc (suc zero))))) l h = omega (arith, h)
-same-byte a b (suc (suc (suc (suc (suc (suc zero)))))) l h = omega (arith, h)
-same-byte a b (suc (suc (suc (suc (suc (suc (suc zero))))))) l h = omega (arith, h)
-same-byte a b (suc (suc (suc (suc (suc (suc (suc (suc i)))))))) l h = absurd (omega (arith, l))
-
--- two words agree in the bytes before the lowest bit in which they are apart
-words-agree : (a b i : ℕ) → 0 < bit_xor a b → bit_xor a b < 2 ^ 64 → i < trailing_zeros w64 (bit_xor a b) / 8 → get_or (to_le_bytes w64 a) i 0 ≡ get_or (to_le_bytes w64 b) i 0
-words-agree a b i some fits l =
-    let low = bit_at-trailing_zeros w64 (bit_xor a b) some fits in
-    same-byte a b i (omega (arith, l, low.0)) (low-same a b (8 * (i + 1)) (λ j s. low.2 j (omega (arith, s, l))))
-
--- some more bytes
-agreement-some : (x y : List ℕ) (n k : ℕ) → n ≤ agreement x y → n + k ≤ length x → n + k ≤ length y → ((i : ℕ) → i < k → get_or x (n + i) 0 ≡ get_or y (n + i) 0) → n + k ≤ agreement x y
-agreement-some x y n zero h i j e = omega (arith, h)
-agreement-some x y n (suc k) h i j e =
-    let before = agreement-some x y n k h (omega (arith, i)) (omega (arith, j)) (λ m s. e m (omega (arith, s))) in
-    omega (arith, agreement-more x y (n + k) before (omega (arith, i)) (omega (arith, j)) (e k (omega arith)))
-
--- up to eight
-agreement-bytes : (x y : List ℕ) (n k : ℕ) → n ≤ agreement x y → n + 8 ≤ length x → n + 8 ≤ length y → k ≤ 8 → ((i : ℕ) → i < k → get_or (take 8 (drop n x)) i 0 ≡ get_or (take 8 (drop n y)) i 0) → n + k ≤ agreement x y
-agreement-bytes x y n k h i j l e =
-    agreement-some x y n k h (omega (arith, i, l)) (omega (arith, j, l)) (λ m s. sym (piece-at 8 x n m (omega (arith, l, s))) ∙ (e m s ∙ piece-at 8 y n m (omega (arith, l, s))))
-
--- and four
-pub agreement-fours : (x y : List ℕ) (n : ℕ) → n ≤ agreement x y → n + 4 ≤ length x → n + 4 ≤ length y → take 4 (drop n x) ≡ take 4 (drop n y) → n + 4 ≤ agreement x y
-agreement-fours x y n h i j e =
-    agreement-some x y n 4 h i j (λ m s. sym (piece-at 4 x n m s) ∙ (ap (λ bs. get_or bs m 0) e ∙ piece-at 4 y n m s))
-
--- texts agree in each byte before the first in which they don't
-agreement-each : (x y : List ℕ) (i : ℕ) → i < agreement x y → get_or x i 0 ≡ get_or y i 0
-agreement-each [] y i l = absurd (omega (arith, l))
-agreement-each (b ∷ x) [] i l = absurd (omega (arith, l))
-agreement-each (b ∷ x) (c ∷ y) zero l = grind (arith, nat_tests)
-agreement-each (b ∷ x) (c ∷ y) (suc i) l = grind (arith, nat_tests, agreement-each x y i)
-
--- words of four bytes in which two texts agree are the same
-pub agreement-same_fours : (x y : List ℕ) (n a b : ℕ) → n + 4 ≤ agreement x y → n + 4 ≤ length x → n + 4 ≤ length y → a < 2 ^ 32 → b < 2 ^ 32 → to_le_bytes w32 a ≡ take 4 (drop n x) → to_le_bytes w32 b ≡ take 4 (drop n y) → a ≡ b
-agreement-same_fours x y n a b h i j fits_a fits_b here there =
-    sym (from_le_bytes-to_le_bytes_4 a fits_a) ∙ (ap (from_le_bytes w32) (here ∙ (same_pieces 4 x y n i j (λ m l. agreement-each x y (n + m) (omega (arith, l, h))) ∙ sym there)) ∙ from_le_bytes-to_le_bytes_4 b fits_b)
-
--- two words of texts: what agrees before the lowest bit in which they are apart, or all eight bytes
-module _ (x y : List ℕ) (n a b : ℕ) (h : n ≤ agreement x y) (i : n + 8 ≤ length x) (j : n + 8 ≤ length y) (here : to_le_bytes w64 a ≡ take 8 (drop n x)) (there : to_le_bytes w64 b ≡ take 8 (drop n y)) where
-  pub agreement-apart_words : 0 < bit_xor a b → bit_xor a b < 2 ^ 64 → n + trailing_zeros w64 (bit_xor a b) / 8 ≤ agreement x y
-  agreement-apart_words some fits =
-      let low = bit_at-trailing_zeros w64 (bit_xor a b) some fits in
-      agreement-bytes x y n (trailing_zeros w64 (bit_xor a b) / 8) h i j (omega (arith, low.0)) (λ m l. ap (λ bs. get_or bs m 0) (sym here) ∙ (words-agree a b m some fits l ∙ ap (λ bs. get_or bs m 0) there))
-
-  pub agreement-same_words : bit_xor a b ≡ 0 → n + 8 ≤ agreement x y
-  agreement-same_words none =
-      let same : a ≡ b = same_from_bits a b (λ m. same-bit a b m (ap (λ d. bit_at d m) none ∙ bit_at-zero m)) in
-      agreement-bytes x y n 8 h i j (omega arith) (λ m l. ap (λ bs. get_or bs m 0) (sym here ∙ (ap (to_le_bytes w64) same ∙ there)))

@@ -1,8 +1,8 @@
 pub mod AgreementProofs
 pub mod HeadProofs
+mod LaneProofs
 pub mod SpanProofs
 pub mod SearchProofs
-pub mod PieceProofs
 pub mod PlacedProofs
 pub mod GroupProofs
 pub mod NextProofs

@@ -1,6 +1,5 @@
 //! Different heads in byte order, which are compared with a text by one question that counts, in a scratch.
-ghost use Rattle.std.specs.Prelude.{◌≡◌, ◌↔◌, ◌+◌, ◌<◌, ◌≤◌, drop, length, map, slice_index, take, IfOk, IsTrue};
-ghost use Rattle.std.specs.Int.{w32, w64, to_le_bytes};
+ghost use Rattle.std.specs.Prelude.{◌≡◌, ◌+◌, ◌<◌, ◌≤◌, drop, length, map, min, slice_index, IfOk};
 ghost use Rattle.pathspec_glob.specs.Counts.{Counts};
 ghost use Rattle.pathspec_heads.specs.Agreement.{agreement, is_behind};
 ghost use Rattle.pathspec_heads.specs.Heads.{head_at};
@@ -10,6 +9,7 @@ use crate::places::PlacesByHead;
 use std::alloc::{AllocError, Global};
 use std::fmt;
 use std::marker::Model;
+use std::simd::prelude::*;
 
 /// How a head compares with a text.
 #[derive(Clone, Copy)]
@@ -196,7 +196,7 @@ impl Heads {
         &self.texts
     }
 
-    /// How a head compares with a text. It looks at each byte in which they agree once.
+    /// How a head compares with a text. It looks at each byte of the shorter one at most twice.
     pub fn compare(&self, index: usize, text: &[u8], scratch: &mut Scratch) -> Comparison
         requires { index < length self.now }
         ensures agreed { result.agreed ≡ agreement (head_at self.now index) text.now }
@@ -297,94 +297,84 @@ fn compared_with_slash(stem: &[u8], path: &[u8], ignore_case: bool) -> Compariso
     }
 }
 
-/// The eight bytes from a position on.
-fn eight_bytes_at(text: &[u8], at: usize) -> u64
-    requires { at + 8 ≤ length text.now }
-    ensures { to_le_bytes w64 result ≡ take 8 (drop at text.now) }
-{
-    u64::from_le_bytes([
-        text[at],
-        text[at + 1],
-        text[at + 2],
-        text[at + 3],
-        text[at + 4],
-        text[at + 5],
-        text[at + 6],
-        text[at + 7],
-    ])
-}
-
-/// The four bytes from a position on.
-fn four_bytes_at(text: &[u8], at: usize) -> u32
-    requires { at + 4 ≤ length text.now }
-    ensures { to_le_bytes w32 result ≡ take 4 (drop at text.now) }
-{
-    u32::from_le_bytes([text[at], text[at + 1], text[at + 2], text[at + 3]])
-}
-
-/// Bytes in which two texts agree, found by words: all of them where the shorter text has eight or more, all or none where it
-/// has four to seven, and else none.
+/// How many of the next `LANES` bytes two texts agree in, from a position on.
 #[inline(always)]
-fn agreed_by_words(head: &[u8], text: &[u8]) -> usize
-    ensures { result ≤ agreement head.now text.now }
+fn agreed_lanes<const LANES: usize>(left: &[u8], right: &[u8], at: usize) -> usize
+    requires few { LANES ≤ 64 }
+    requires left { at + LANES ≤ length left.now }
+    requires right { at + LANES ≤ length right.now }
+    ensures { result ≡ min LANES (agreement (drop at left.now) (drop at right.now)) }
 {
-    let shorter = head.len().min(text.len());
-    if shorter >= 8 {
-        agreed_by_eights(head, text, shorter)
-    } else if shorter >= 4 && agree_by_fours(head, text, shorter) {
-        shorter
+    let left: Simd<u8, LANES> = Simd::from_slice(&left[at..]);
+    let right: Simd<u8, LANES> = Simd::from_slice(&right[at..]);
+    let apart = left.simd_ne(right).to_bitmask();
+    if apart == 0 {
+        LANES
     } else {
-        0
+        apart.trailing_zeros() as usize
     }
 }
 
-/// Whether two texts agree in this many first bytes, four to eight. It looks at the first four and at the last four.
-fn agree_by_fours(head: &[u8], text: &[u8], len: usize) -> bool
-    requires least { 4 ≤ len }
-    requires most { len ≤ 8 }
-    requires head { len ≤ length head.now }
-    requires text { len ≤ length text.now }
-    ensures { IsTrue result ↔ len ≤ agreement head.now text.now }
+/// How many bytes two texts agree in, of which the shorter has `LANES` or more. It looks at so many at a time, and in the end at
+/// the last ones, some of which it may look at twice.
+#[inline(always)]
+fn agreed_by<const LANES: usize>(left: &[u8], right: &[u8], shorter: usize) -> usize
+    requires some { 0 < LANES }
+    requires few { LANES ≤ 64 }
+    requires least { LANES ≤ shorter }
+    requires shorter { shorter ≡ min (length left.now) (length right.now) }
+    ensures { result ≡ agreement left.now right.now }
 {
-    let last = len - 4;
-    four_bytes_at(head, 0) == four_bytes_at(text, 0)
-        && four_bytes_at(head, last) == four_bytes_at(text, last)
-}
-
-// A function of its own, so that the comparison of short heads, which stands in line, stays short.
-/// Bytes in which two texts agree, up to this many, eight or more. It looks at eight at a time, and in the end at the last
-/// eight.
-#[inline(never)]
-fn agreed_by_eights(head: &[u8], text: &[u8], shorter: usize) -> usize
-    requires least { 8 ≤ shorter }
-    requires head { shorter ≤ length head.now }
-    requires text { shorter ≤ length text.now }
-    ensures { result ≤ agreement head.now text.now }
-{
-    let last = shorter - 8;
+    let last = shorter - LANES;
     let mut at = 0;
     while at < last {
-        let apart = eight_bytes_at(head, at) ^ eight_bytes_at(text, at);
-        if apart != 0 {
-            return at + apart.trailing_zeros() as usize / 8;
+        let agreed = agreed_lanes::<LANES>(left, right, at);
+        if agreed < LANES {
+            return at + agreed;
         }
-        at += 8;
+        at += LANES;
     }
-    let apart = eight_bytes_at(head, last) ^ eight_bytes_at(text, last);
-    if apart != 0 {
-        return last + apart.trailing_zeros() as usize / 8;
+    last + agreed_lanes::<LANES>(left, right, last)
+}
+
+/// The same of any texts, byte by byte.
+fn agreed_one_by_one(left: &[u8], right: &[u8], shorter: usize) -> usize
+    requires { shorter ≡ min (length left.now) (length right.now) }
+    ensures { result ≡ agreement left.now right.now }
+{
+    for at in 0..shorter {
+        if left[at] != right[at] {
+            return at;
+        }
     }
     shorter
 }
 
-/// Bytes in which a stem agrees with a path and a slash, found by words: none where case does not count.
+/// How many bytes two texts agree in. It looks at sixteen, eight or four at a time, as the shorter one allows.
+#[inline(always)]
+fn agreement(left: &[u8], right: &[u8]) -> usize
+    ensures { result ≡ agreement left.now right.now }
+{
+    let shorter = left.len().min(right.len());
+    if shorter >= 16 {
+        agreed_by::<16>(left, right, shorter)
+    } else if shorter >= 8 {
+        agreed_by::<8>(left, right, shorter)
+    } else if shorter >= 4 {
+        agreed_by::<4>(left, right, shorter)
+    } else {
+        agreed_one_by_one(left, right, shorter)
+    }
+}
+
+/// So many bytes, or more, a stem agrees in with a path and a slash: none where case doesn't count.
 fn agreed_with_slash(stem: &[u8], path: &[u8], ignore_case: bool) -> usize
     ensures { result ≤ agreement stem.now (with_slash ignore_case path.now) }
 {
     if ignore_case {
         0
     } else {
-        agreed_by_words(stem, path)
+        agreement(stem, path)
     }
 }
 
@@ -399,22 +389,9 @@ fn compared(head: &[u8], text: &[u8]) -> Comparison
             is_behind: false,
         };
     }
-    for at in agreed_by_words(head, text)..head.len() {
-        if at == text.len() {
-            return Comparison {
-                agreed: at,
-                is_behind: true,
-            };
-        }
-        if head[at] != text[at] {
-            return Comparison {
-                agreed: at,
-                is_behind: head[at] > text[at],
-            };
-        }
-    }
+    let agreed = agreement(head, text);
     Comparison {
-        agreed: head.len(),
-        is_behind: false,
+        agreed,
+        is_behind: agreed < head.len() && (agreed == text.len() || head[agreed] > text[agreed]),
     }
 }

@@ -1,11 +1,10 @@
 //! Whether a spec matches a path, and how (gitglossary, "pathspec").
-ghost use Rattle.std.specs.Prelude.{◌≡◌, ◌≤◌, length, map, Some, None, if◌then◌else◌};
+ghost use Rattle.std.specs.Prelude.{◌≡◌, ◌≤◌, length, map, Some};
 ghost use Rattle.bstr.specs.BStr.{bstr_bytes};
 ghost use Rattle.pathspec_parts.specs.AttributeStates.{state_ref_view, assignment_view};
 ghost use Rattle.pathspec_parts.specs.Outcomes.{names_of, states_of};
 ghost use Rattle.gix_pathspec.specs.Specs.{ignores_case};
-ghost use Rattle.gix_pathspec.specs.declared.search.MatchKind.TheVariants.{Verbatim, Prefix};
-ghost use Rattle.gix_pathspec.specs.Matching.{fit, is_in_prefix_directory, is_glob_match, is_verbatim_match, is_prefix_match, takes_kind, case_of, same_state, have_states};
+ghost use Rattle.gix_pathspec.specs.Matching.{fit, is_in_prefix_directory, is_glob_match, is_verbatim_match, is_prefix_match, text_way, takes_kind, case_of, same_state, have_states};
 ghost use Rattle.gix_pathspec.specs.Patterns.{pattern_spec};
 ghost use Rattle.gix_pathspec.specs.Room.{glob_of, tokens_of};
 
@@ -57,9 +56,7 @@ fn match_kind(
 /// How the path is the pattern's or lies below it, if it does. Only one that is as long can be the pattern's.
 #[inline(always)]
 fn text_kind(pattern: &Pattern, path: BStr<'_>, is_dir: bool) -> Option<MatchKind>
-    ensures { let spec = pattern_spec pattern.now in let text = bstr_bytes path.entry in
-        result ≡ (if is_verbatim_match spec text is_dir then Some Verbatim
-        else if is_prefix_match spec text then Some Prefix else None) }
+    ensures { result ≡ text_way (pattern_spec pattern.now) (bstr_bytes path.entry) is_dir }
 {
     if path.as_bytes().len() == pattern.path().as_bytes().len() {
         is_verbatim_match(pattern, path, is_dir).then_some(MatchKind::Verbatim)

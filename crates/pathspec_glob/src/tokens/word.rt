@@ -68,10 +68,10 @@ impl Word {
         }))
     }
 
-    // Out of line, so that the loops of words have the registers to themselves.
+    // In line: a call takes more than what the loops of words lose in registers.
     /// Whether the tokens match the whole text, and the tests for that: of each byte that is read, which of the tokens
     /// take it.
-    #[inline(never)]
+    #[inline(always)]
     pub fn run(&self, text: &[u8], case: Case) -> Answer
         ensures answer { (parts : TokenList) → IsWordOf parts self.now
             → result.accepted ≡ matches parts.mode case parts.tokens text.now }
