@@ -130,7 +130,8 @@ void ps_search_free(ps_search *search);
  * Whether the search selects a path: PS_YES or PS_NO, and `found` tells what settles it; or PS_EMPTY. PS_MEMORY
  * comes only where ps_search_assign gave attributes; else no memory is taken. The empty path is no entry: any search
  * selects it. It looks at each byte of the path a fixed number of times for each spec that it asks, beside the steps
- * of globs; it asks only specs whose head begins the path, in search order up to the first that matches.
+ * of globs; it asks only specs whose head begins the path and that its last byte doesn't rule out, in search order up
+ * to the first that matches.
  */
 uint32_t ps_search_match(ps_search *search, const uint8_t *path, size_t path_length, bool is_dir, ps_match *found);
 

@@ -27,7 +27,7 @@ unmatched-headless table s path is_dir h = both_false (fit s path is_dir) (has_a
 
 -- ---- the spec at a place
 
-at_place : (ns : List Numbered) (i : ℕ) → i < length ns → (n : Numbered) × (slice_get ns i ≡ Some n) × (n ≡ get_or ns i n)
+pub at_place : (ns : List Numbered) (i : ℕ) → i < length ns → (n : Numbered) × (slice_get ns i ≡ Some n) × (n ≡ get_or ns i n)
 at_place [] i l = absurd (omega (arith, l))
 at_place (n ∷ ns) zero l = (n, refl, refl)
 at_place (n ∷ ns) (suc i) l = let r = at_place ns i (omega (arith, l)) in (r.0, r.1, r.2)

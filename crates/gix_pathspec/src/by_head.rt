@@ -3,26 +3,27 @@
 //! A match sees two questions about a path that isn't empty and begins with the common prefix: how the spec at a place
 //! matches it, and which heads begin it. Both count, in the scratch that the match borrows. What reads a spec, and what
 //! makes a scratch, is private to the module `search`.
-ghost use Rattle.std.specs.Prelude.{◌≡◌, ◌<◌, ◌≤◌, length, IsSome, IsTrue, IfOk, OnOk, OnErr};
+ghost use Rattle.std.specs.Prelude.{◌≡◌, ◌<◌, ◌≤◌, length, IsSome, IsTrue, IfOk, None, OnOk, OnErr};
 ghost use Rattle.std.specs.Box.{box_value};
 ghost use Rattle.bstr.specs.BStr.{bstr_bytes};
 ghost use Rattle.pathspec_parts.specs.Attributes.{next_count};
 ghost use Rattle.pathspec_glob.specs.Counts.{Counts};
-ghost use Rattle.pathspec_heads.specs.Groups.{IsInChain, IsLeastFrom};
-ghost use Rattle.pathspec_heads.specs.Heads.{IsChainOf};
+ghost use Rattle.pathspec_heads.specs.Groups.{IsLeastFrom};
 ghost use Rattle.gix_pathspec.specs.Found.{IsFirstFound};
 ghost use Rattle.gix_pathspec.specs.Prefixes.{common_prefix};
 ghost use Rattle.gix_pathspec.specs.Search.{specs_of, BeginsCounts, IsFresh};
 ghost use Rattle.gix_pathspec.specs.Room.{HasRoom, Fits};
 ghost use Rattle.gix_pathspec.specs.Effort.{ArePlacesOf, candidate_count, IsCounted, IsLittleCompared, is_unasked};
+ghost use Rattle.gix_pathspec.specs.LastBytes.{AreAsked, AreLastBytes, IsAsked};
 
 pub(crate) mod takers;
 
 use crate::search::MatchKind;
 use crate::search::counted::{CountedHeads, CountedSpecs, SpecScratch};
+use crate::search::last_bytes::LastBytes;
 use crate::search::texts::begins_with;
 use bstr::BStr;
-use pathspec_heads::places::{self, Deepest};
+use pathspec_heads::places::{self, Deepest, next_bit};
 use pathspec_heads::tables::StemHints;
 use pathspec_parts::attributes::LookUp;
 use std::fmt;
@@ -114,9 +115,10 @@ impl Scratch {
         self.effort = NO_EFFORT;
     }
 
-    /// How many specs the last match asked whether they match the path; a spec at which the look-up failed is one. It is 0
-    /// before the first match, and where the path was empty or lacked the common prefix. After
-    /// [`Search::may_skip`](crate::search::Search::may_skip) it is how many excludes that call asked one by one.
+    /// How many specs the last match asked whether they match the path; a spec at which the look-up failed is one. It asks none
+    /// that the path's last byte rules out: of `*.rs`, `a` it asks one about `a`. It is 0 before the first match, and where the
+    /// path was empty or lacked the common prefix. After [`Search::may_skip`](crate::search::Search::may_skip) it is how many
+    /// excludes that call asked one by one.
     pub fn last_tested(&self) -> usize
         ensures { result ≡ self.now.counts.last_tested }
     {
@@ -153,6 +155,7 @@ pub(crate) struct SpecsByHead {
     /// The places of the specs in search order, by their heads.
     heads: Box<CountedHeads>,
     common_prefix: Vec<u8>,
+    last_bytes: LastBytes,
 }
 
 impl Model for SpecsByHead {
@@ -165,7 +168,8 @@ impl Model for SpecsByHead {
 
     ghost view = { λ s. s.specs };
 
-    ghost invariant = { λ s. IsByHead s.specs (box_value s.heads) s.common_prefix.items };
+    ghost invariant = { λ s. IsByHead s.specs (box_value s.heads) s.common_prefix.items
+        s.last_bytes };
 }
 
 impl SpecsByHead {
@@ -173,16 +177,23 @@ impl SpecsByHead {
     ghost use Rattle.gix_pathspec.specs.Found.{is_directory, answer_found};
     ghost use Rattle.gix_pathspec.specs.Search.{answer};
 
-    /// Specs with their places and their common prefix.
-    pub(crate) fn new(specs: CountedSpecs, heads: Box<CountedHeads>, common: Vec<u8>) -> SpecsByHead
+    /// Specs with their places, their common prefix, and what last bytes tell of them.
+    pub(crate) fn new(
+        specs: CountedSpecs,
+        heads: Box<CountedHeads>,
+        common: Vec<u8>,
+        last_bytes: LastBytes,
+    ) -> SpecsByHead
         requires places { ArePlacesOf specs (box_value heads) }
         requires common { common.items ≡ common_prefix (specs_of specs) }
+        requires last_bytes { AreLastBytes specs last_bytes }
         ensures { result ≡ specs }
     {
         SpecsByHead {
             specs,
             heads,
             common_prefix: common,
+            last_bytes,
         }
     }
 
@@ -260,7 +271,13 @@ impl SpecsByHead {
             return Ok(None);
         }
         let is_dir = is_dir.unwrap_or(false);
-        first_match(&self.specs, &self.heads, scratch, path, is_dir, look_up)
+        let SpecsByHead {
+            specs,
+            heads,
+            last_bytes,
+            common_prefix: _,
+        } = self;
+        first_match(specs, heads, last_bytes, scratch, path, is_dir, look_up)
     }
 
     /// Whether the answer for a path needs no look at the specs: it is empty, or lacks the common prefix.
@@ -272,16 +289,19 @@ impl SpecsByHead {
     }
 }
 
-/// The place of the first spec that matches a path, and how it does. It asks only specs whose head begins the path.
+/// The place of the first spec that matches a path, and how it does. It asks only specs whose head begins the path, and of
+/// those only the ones that its last byte leaves.
 fn first_match<L: LookUp>(
     specs: &CountedSpecs,
     heads: &CountedHeads,
+    last_bytes: &LastBytes,
     scratch: &mut Scratch,
     path: BStr<'_>,
     is_dir: bool,
     look_up: &mut L,
 ) -> Result<Option<(usize, MatchKind)>, L::Fault>
     requires grouped { ArePlacesOf specs.now heads.now }
+    requires last_bytes { AreLastBytes specs.now last_bytes.now }
     requires fits { Fits specs.now scratch.old }
     ensures room { scratch.new.room ≡ scratch.old.room }
     ensures first { IfOk result (λ found.
@@ -301,36 +321,57 @@ fn first_match<L: LookUp>(
         scratch.effort = Effort { tested, compared };
         return Ok(None);
     };
-    let found = first_candidate(
-        specs,
-        heads,
-        head,
-        &mut scratch.specs,
-        &mut tested,
-        path,
-        is_dir,
-        look_up,
-    );
+    let found = match heads.bits(head) {
+        Some(places) => {
+            let left = Some(last_bytes.left(places, path.as_bytes(), heads.head_len(head)));
+            ask(
+                specs,
+                heads,
+                head,
+                left,
+                &mut scratch.specs,
+                &mut tested,
+                path,
+                is_dir,
+                look_up,
+            )
+        }
+        None => {
+            ask(
+                specs,
+                heads,
+                head,
+                None,
+                &mut scratch.specs,
+                &mut tested,
+                path,
+                is_dir,
+                look_up,
+            )
+        }
+    };
     scratch.effort = Effort { tested, compared };
     found
 }
 
-/// The place of the first spec that matches a path, and how it does, of those whose head begins the one with a number.
-/// It counts each spec that it asks.
-fn first_candidate<L: LookUp>(
+// In line, so that each of its two calls has a loop of its own kind.
+/// The place of the first spec that matches a path, and how it does, of those at these bits, or where there are none, of those
+/// whose head begins the one with a number. It counts each spec that it asks.
+#[inline(always)]
+fn ask<L: LookUp>(
     specs: &CountedSpecs,
     heads: &CountedHeads,
     head: usize,
+    bits: Option<u64>,
     scratch: &mut SpecScratch,
     tested: &mut usize,
     path: BStr<'_>,
     is_dir: bool,
     look_up: &mut L,
 ) -> Result<Option<(usize, MatchKind)>, L::Fault>
-    requires grouped { ArePlacesOf specs.now heads.now }
     requires room { HasRoom specs.now scratch.old.room }
     requires head { head < length heads.now.heads }
-    requires chain { IsChainOf heads.now.heads (bstr_bytes path) head }
+    requires asked { AreAsked specs.now (bstr_bytes path) is_dir (IsAsked bits heads.now head) }
     requires none { tested.old ≡ 0 }
     ensures room { scratch.new.room ≡ scratch.old.room }
     ensures first { IfOk result (λ found.
@@ -343,13 +384,10 @@ fn first_candidate<L: LookUp>(
     ensures few { tested.new ≤ candidate_count specs.now (bstr_bytes path.entry) }
     ensures asked { IfOk result (λ found. IsSome found → 1 ≤ tested.new) }
 {
+    // The loop ends since no place is behind the last: nothing else needs their number, and the compiled loop hasn't it.
     let count = specs.len();
     let mut from = 0;
-    while from < count {
-        let place = match next_candidate(specs, heads, head, from) {
-            Some(place) => place,
-            None => return Ok(None),
-        };
+    while let Some(place) = next_asked(heads, head, bits, from) {
         *tested += 1;
         if let Some(kind) = specs.matches(place, path, is_dir, scratch, look_up)? {
             return Ok(Some((place, kind)));
@@ -359,24 +397,14 @@ fn first_candidate<L: LookUp>(
     Ok(None)
 }
 
-// In line, since a match asks for it at each path.
-/// The least place from one on whose head begins the head with a number. Of one spec it is the spec's own, without a search.
+/// The least place from one on of these bits, or where there are none, of those whose head begins the head with a number.
 #[inline(always)]
-fn next_candidate(
-    specs: &CountedSpecs,
-    heads: &CountedHeads,
-    head: usize,
-    from: usize,
-) -> Option<usize>
-    requires grouped { ArePlacesOf specs.now heads.now }
-    requires head { head < length heads.now.heads }
-    requires from { from < length specs.now }
-    ensures { IsLeastFrom (IsInChain heads.now.heads heads.now.starts heads.now.order head)
-        from result }
+fn next_asked(heads: &CountedHeads, head: usize, bits: Option<u64>, from: usize) -> Option<usize>
+    requires { head < length heads.now.heads }
+    ensures { IsLeastFrom (IsAsked bits heads.now head) from result }
 {
-    if specs.len() == 1 {
-        Some(0)
-    } else {
-        heads.next_place(head, from)
+    match bits {
+        Some(word) => next_bit(word, from),
+        None => heads.next_place(head, from),
     }
 }

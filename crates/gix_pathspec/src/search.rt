@@ -3,6 +3,7 @@ pub(crate) mod counted;
 mod directories;
 mod found;
 mod init;
+pub(crate) mod last_bytes;
 mod lines;
 mod matching;
 mod patterns;

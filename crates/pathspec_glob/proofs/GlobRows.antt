@@ -1,12 +1,13 @@
 -- Rows on globs.
-use Rattle.std.proofs.Common.{◌≡◌, true, false, refl, [], ◌∷◌, replicate}
-use Rattle.std.specs.Prelude.{codes, ◌++◌}
+use Rattle.std.proofs.Common.{◌≡◌, ℕ, true, false, refl, [], ◌∷◌, replicate}
+use Rattle.std.specs.Prelude.{codes, ◌++◌, Some, None}
 use Rattle.pathspec_glob.specs.declared.Mode.TheVariants.{Shell, PathAware}
 use Rattle.pathspec_glob.specs.declared.Case.TheVariants.{Sensitive, Fold}
 use Rattle.pathspec_glob.specs.Tokens.{tokens_from, tokens}
 use Rattle.pathspec_glob.specs.Tokens.Item.{Literal, Range, Class}
 use Rattle.pathspec_glob.specs.Tokens.OneByte.{Byte, Quoted, Bracket, Dead}
 use Rattle.pathspec_glob.specs.Tokens.Token.{One, Star, Deep}
+use Rattle.pathspec_glob.specs.LastBytes.{ends_with_byte, last_of}
 use Rattle.pathspec_glob.proofs.Asking.{globbed}
 
 -- `:(glob)*.c` on `x.c`
@@ -446,3 +447,32 @@ escaped_range_end = refl
 range_end_escape_at_end : tokens Shell (codes "[a-\\") ≡ (One Dead ∷ [])
 unfolding tokens_from
 range_end_escape_at_end = refl
+
+-- the last byte of a text: `s` is 115, and `a` is 97
+ends_with_s : ends_with_byte Sensitive (codes "src/a.rs") 115 ≡ true
+ends_with_s = refl
+
+ends_with_no_r : ends_with_byte Sensitive (codes "src/a.rs") 114 ≡ false
+ends_with_no_r = refl
+
+ends_with_a_without_case : ends_with_byte Fold (codes "A") 97 ≡ true
+ends_with_a_without_case = refl
+
+ends_with_no_a : ends_with_byte Sensitive (codes "A") 97 ≡ false
+ends_with_no_a = refl
+
+empty_ends_with_none : (byte : ℕ) → ends_with_byte Fold [] byte ≡ false
+empty_ends_with_none byte = refl
+
+-- `.rs` wants `s` at its end, and `.[s]` and no tokens want no byte of their own
+last_wants_s : last_of (tokens Shell (codes ".rs")) ≡ Some (One (Byte 115))
+unfolding tokens_from
+last_wants_s = refl
+
+last_is_bracket : last_of (tokens Shell (codes ".[s]")) ≡ Some (One (Bracket false (Literal 115 ∷ [])))
+unfolding tokens_from
+last_is_bracket = refl
+
+no_last : last_of (tokens Shell []) ≡ None
+unfolding tokens_from
+no_last = refl

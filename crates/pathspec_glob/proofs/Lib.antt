@@ -9,6 +9,7 @@ pub mod StemProofs
 pub mod HeadProofs
 pub mod PartProofs
 pub mod EndProofs
+pub mod LastProofs
 pub mod FormProofs
 pub mod PlaceProofs
 pub mod AcceptProofs

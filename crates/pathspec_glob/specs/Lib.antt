@@ -12,6 +12,7 @@ pub mod BitVecs
 pub mod GlobPlaces
 pub mod GlobWays
 pub mod Globs
+pub mod LastBytes
 pub mod DirectoryGlobs
 pub mod Counts
 pub mod ByteSets

@@ -1,10 +1,11 @@
-//! What a text is tested with, and the count of tests. Nothing else compares a byte of a text with what a glob wants.
+//! What a text is tested with, and the count of tests. Nothing else in this crate compares a byte of a text with what a glob wants.
 ghost use Rattle.std.specs.Prelude.{◌≡◌, ◌+◌, ◌*◌, ◌<◌, ◌^◌, bytes_eq, length, get_or, vec_len};
 ghost use Rattle.pathspec_glob.specs.Bytes.{fold_case};
 ghost use Rattle.pathspec_glob.specs.GlobForms.{form_view, tokens_view};
 ghost use Rattle.pathspec_glob.specs.declared.Case.{Case};
 ghost use Rattle.pathspec_glob.specs.Globs.{folds};
 ghost use Rattle.pathspec_glob.specs.GlobSteps.{token_takes};
+ghost use Rattle.pathspec_glob.specs.LastBytes.{last_of};
 
 use crate::scratch::Key;
 use crate::tokens::{FirstForm, Token};
@@ -155,6 +156,13 @@ impl CountedBytes {
         ensures { result ≡ length self.now.all.items }
     {
         self.all.len()
+    }
+
+    /// The last of the bytes. No text is tested with it.
+    pub fn last(&self) -> Option<u8>
+        ensures { result ≡ last_of self.now.all.items }
+    {
+        self.all.last().copied()
     }
 
     /// Whether each byte of a text is the one at its place, up to case where it doesn't count.

@@ -6,6 +6,7 @@ ghost use Rattle.pathspec_glob.specs.ByteSets.{listed_tokens};
 ghost use Rattle.pathspec_glob.specs.GlobParts.{behind_head, head_of, plain_tokens};
 ghost use Rattle.pathspec_glob.specs.GlobWays.{IsFormOf};
 ghost use Rattle.pathspec_glob.specs.Globs.{glob_tokens, is_tail_pattern, AnswersGlob, AnswersTail, GlobIsRelation};
+ghost use Rattle.pathspec_glob.specs.LastBytes.{EndsMatches};
 ghost use Rattle.pathspec_glob.specs.Counts.{Counts};
 
 use crate::counted::CountedFirst;
@@ -85,6 +86,17 @@ impl Glob {
     {
         let parts = &*self.parts;
         parts.head.len() + parts.middle.len() + parts.tail.len()
+    }
+
+    /// The byte that every text ends with that the glob matches, up to case where it doesn't count: `s` for `src/*.rs`. None
+    /// where the bytes behind the last star aren't all the pattern's own, as for `*.[ch]` and `*.\c`, and where there is no
+    /// star or nothing behind it.
+    ///
+    /// No token is tested. So a caller who knows a text's last byte can leave out a glob that wants another, without a step.
+    pub fn last_byte(&self) -> Option<u8>
+        ensures { IfSome result (λ byte. EndsMatches self.now byte) }
+    {
+        self.parts.tail.last_byte()
     }
 
     /// Whether the scratch was made for at least as many tokens.

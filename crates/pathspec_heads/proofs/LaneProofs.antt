@@ -18,6 +18,13 @@ agreement-take (suc n) [] y = grind arith
 agreement-take (suc n) (b ∷ x) [] = grind arith
 agreement-take (suc n) (b ∷ x) (c ∷ y) = grind (arith, nat_tests, agreement-take n x y)
 
+-- of the first n bytes of a text so many agree as of the text, or all n
+pub agreement-cut : (n : ℕ) (x y : List ℕ) → agreement (take n x) y ≡ min n (agreement x y)
+agreement-cut zero x y = grind arith
+agreement-cut (suc n) [] y = grind arith
+agreement-cut (suc n) (b ∷ x) [] = grind arith
+agreement-cut (suc n) (b ∷ x) (c ∷ y) = grind (arith, nat_tests, agreement-cut n x y)
+
 -- as many lanes agree as come before the first that differs
 agreement-lanes : (x y : List ℕ) → prefix_len (λ b. not b) (zip2 differ x y) ≡ agreement x y
 agreement-lanes [] y = refl
@@ -25,19 +32,19 @@ agreement-lanes (b ∷ x) [] = refl
 agreement-lanes (b ∷ x) (c ∷ y) = grind (arith, nat_tests, agreement-lanes x y)
 
 -- the lowest bit of the mask of the lanes that differ says how many agree
-pub agreed_in_lanes : (x y : List ℕ) (i n r : ℕ) (z : List Bool) → i + n ≤ length x → i + n ≤ length y → n ≤ 64
+pub agreed_in_lanes : (x y : List ℕ) (n r : ℕ) (z : List Bool) → n ≤ length x → n ≤ length y → n ≤ 64
     → r ≡ (if mask_l z % 2 ^ 64 == 0 then n else trailing_zeros w64 (mask_l z % 2 ^ 64))
-    → z ≡ zip2 differ (chunk i n x) (chunk i n y) → r ≡ min n (agreement (drop i x) (drop i y))
-agreed_in_lanes x y i n r z h j few found is =
-    let long = length-chunk i n x h in
-    let all : length (zip2 differ (chunk i n x) (chunk i n y)) ≡ n = length-zip2 differ (chunk i n x) (chunk i n y) (long ∙ sym (length-chunk i n y j)) ∙ long in
-    let same = map-id (zip2 differ (chunk i n x) (chunk i n y)) in
-    let mask : mask_l z % 2 ^ 64 ≡ mask_l (map (λ b. b) (zip2 differ (chunk i n x) (chunk i n y))) =
+    → z ≡ zip2 differ (chunk 0 n x) (chunk 0 n y) → r ≡ min n (agreement x y)
+agreed_in_lanes x y n r z h j few found is =
+    let long = length-chunk 0 n x (omega (arith, h)) in
+    let all : length (zip2 differ (chunk 0 n x) (chunk 0 n y)) ≡ n = length-zip2 differ (chunk 0 n x) (chunk 0 n y) (long ∙ sym (length-chunk 0 n y (omega (arith, j)))) ∙ long in
+    let same = map-id (zip2 differ (chunk 0 n x) (chunk 0 n y)) in
+    let mask : mask_l z % 2 ^ 64 ≡ mask_l (map (λ b. b) (zip2 differ (chunk 0 n x) (chunk 0 n y))) =
     ap (λ l. mask_l l % 2 ^ 64) is ∙ (mask_l-mod _ 64 (omega (arith, all, few)) ∙ ap mask_l (sym same)) in
     found ∙ ap (λ m. if m == 0 then n else trailing_zeros w64 m) mask
-    ∙ first_set_mask_l (λ b. b) (zip2 differ (chunk i n x) (chunk i n y)) n all few
-    ∙ agreement-lanes (chunk i n x) (chunk i n y)
-    ∙ agreement-take n (drop i x) (drop i y)
+    ∙ first_set_mask_l (λ b. b) (zip2 differ (chunk 0 n x) (chunk 0 n y)) n all few
+    ∙ agreement-lanes (chunk 0 n x) (chunk 0 n y)
+    ∙ agreement-take n x y
 
 -- behind what two texts agree in
 pub agreement-drop : (n : ℕ) (x y : List ℕ) → n ≤ agreement x y → agreement x y ≡ n + agreement (drop n x) (drop n y)

@@ -1,13 +1,15 @@
 -- Texts in one buffer, put there one behind the other.
-use Rattle.std.proofs.Common.{◌≡◌, ℕ, suc, ◌+◌, ◌-◌, ◌<◌, ◌≤◌, refl, sym, ◌∙◌, ap, subst, inl, inr, List, [], ◌∷◌, ◌++◌, length, get_or, arith, take, drop, map, length-append, length-drop}
+use Rattle.std.proofs.Common.{◌≡◌, ℕ, suc, ◌+◌, ◌-◌, ◌<◌, ◌≤◌, refl, sym, ◌∙◌, ap, subst, inl, inr, List, [], ◌∷◌, ◌++◌, length, get_or, arith, min, take, drop, map, length-append, length-drop}
 use Rattle.std.specs.List.{All}
-use Rattle.std.proofs.lemmas.List.{get_or-map, length-map, map-append, drop-append-le, take-append-le, take_more, get_or_append_left}
+use Rattle.std.proofs.lemmas.List.{get_or-map, length-map, map-append, drop-append-le, take-append-le, take_all, take_more, get_or_append_left}
 use Rattle.std.proofs.lemmas.List.Elements.{All-push}
 use Rattle.std.proofs.Math.Seq.{drop-append_seam, take-length, get_or-append_seam}
 use Rattle.pathspec_heads.specs.Agreement.{agreement}
-use Rattle.pathspec_heads.specs.Heads.{head_at, span_text, span_texts}
+use Rattle.pathspec_heads.specs.Heads.{head_at, span_text, span_texts, AreShared, AreSpans}
 use Rattle.pathspec_heads.specs.declared.heads.Span.{Span}
+use Rattle.pathspec_heads.specs.declared.heads.TheConstants.{ROOM}
 use Rattle.pathspec_heads.proofs.HeadProofs.{le_split}
+use Rattle.pathspec_heads.proofs.LaneProofs.{agreement-cut}
 
 -- the span lies in the bytes
 abbrev pub IsWithin : List ℕ → Span → Type 0
@@ -32,6 +34,15 @@ new-text : (bytes text : List ℕ) (shared : ℕ) → span_text (bytes ++ text) 
 new-text bytes text shared =
     ap (λ n. take n (drop (length bytes) (bytes ++ text))) (omega arith)
     ∙ (ap (take (length text)) (drop-append_seam bytes text) ∙ take-length text)
+
+-- the bytes from a span's start on agree with a text as the span's text does, up to its end
+pub agreed_in_span : (bytes : List ℕ) (spans : List Span) (i : ℕ) (span : Span) (text : List ℕ) (n : ℕ) → i < length spans → span ≡ get_or spans i span → span.len ≤ n
+    → min (min n (agreement (drop span.start bytes) text)) span.len ≡ agreement (head_at (span_texts bytes spans) i) text
+agreed_in_span bytes spans i span text n inside is few =
+    let cut = agreement-cut (span.start + span.len - span.start) (drop span.start bytes) text in
+    let here : span_text bytes span ≡ head_at (span_texts bytes spans) i = ap (span_text bytes) is ∙ sym (get_or-map (span_text bytes) spans i span [] inside) in
+    let so_far : min (min n (agreement (drop span.start bytes) text)) span.len ≡ agreement (span_text bytes span) text = omega (arith, cut, few) in
+    so_far ∙ ap (λ x. agreement x text) here
 
 -- the texts of the first so many heads
 pub record AreSpansTo (heads : List (List ℕ)) (bytes : List ℕ) (spans : List Span) (count : ℕ) : Type 0 where
@@ -84,3 +95,22 @@ spans-next view all d bytes spans n start shared so_far inside starts agrees =
     let text = view (get_or all n d) in
     subst (λ m. AreSpansTo (map view all) (bytes ++ text) (spans ++ record { start = m; len = length text; shared = shared } ∷ []) (n + 1)) (sym starts)
     (spans-more (map view all) bytes spans n so_far text shared (omega (arith, inside, length-map all view)) (get_or-map view all n d [] inside) (λ l. agrees (omega (arith, l, length-map all view))))
+
+-- ---- all texts of a list, and bytes behind the last
+
+module _ {X : Type 0} (view : X → List ℕ) (texts : List X) (bytes more : List ℕ) (spans : List Span) (n : ℕ) (all : AreSpansTo (map view texts) bytes spans n) (whole : length texts ≤ n) where
+  pub span_texts-whole : span_texts (bytes ++ more) spans ≡ map view texts
+  span_texts-whole = span_texts-stay bytes more spans all.within ∙ (all.texts ∙ take_all n (map view texts) (omega (arith, whole, length-map texts view)))
+
+  shared-whole : AreShared (map view texts) (map (λ span. span.shared) spans)
+  shared-whole = record {
+    all = omega (arith, ap length span_texts-whole, length-map spans (span_text (bytes ++ more)), length-map spans (λ (span : Span). span.shared));
+    agree = λ i l. all.agree i (omega (arith, l, whole, length-map texts view)) l;
+  }
+
+  pub spans-whole : ROOM ≤ length more → AreSpans (bytes ++ more) spans
+  spans-whole enough = record {
+    within = λ k d l. omega (arith, all.within k d l, length-append bytes more);
+    room = λ k d l. omega (arith, all.within k d l, enough, length-append bytes more);
+    shared = subst (λ heads. AreShared heads (map (λ span. span.shared) spans)) (sym span_texts-whole) shared-whole;
+  }

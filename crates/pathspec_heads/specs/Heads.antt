@@ -7,6 +7,7 @@ use Rattle.std.specs.Cmp.Lexicographic.{slice_cmp}
 use Rattle.pathspec_glob.specs.Bytes.{begins_with}
 use Rattle.pathspec_heads.specs.Agreement.{agreement, is_behind}
 use Rattle.pathspec_heads.specs.declared.heads.Span.{Span}
+use Rattle.pathspec_heads.specs.declared.heads.TheConstants.{ROOM}
 
 -- the head at a place
 abbrev pub head_at : List (List ℕ) → ℕ → List ℕ
@@ -35,9 +36,11 @@ span_text bytes span = slice_range bytes span.start (span.start + span.len)
 abbrev pub span_texts : List ℕ → List Span → List (List ℕ)
 span_texts bytes spans = map (span_text bytes) spans
 
--- each span lies in the bytes, and tells how many bytes its text agrees in with the next
+-- each span lies in the bytes, with room behind its start for one look, and tells how many bytes its
+-- text agrees in with the next
 pub record AreSpans (bytes : List ℕ) (spans : List Span) : Type 0 where
   pub within : All (λ span. span.start + span.len ≤ length bytes) spans
+  pub room : All (λ span. span.start + ROOM ≤ length bytes) spans
   pub shared : AreShared (span_texts bytes spans) (map (λ span. span.shared) spans)
 
 -- the heads that begin the text are those that begin the head at a place

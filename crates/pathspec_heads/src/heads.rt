@@ -1,5 +1,5 @@
 //! Different heads in byte order, which are compared with a text by one question that counts, in a scratch.
-ghost use Rattle.std.specs.Prelude.{◌≡◌, ◌+◌, ◌<◌, ◌≤◌, drop, length, map, min, slice_index, IfOk};
+ghost use Rattle.std.specs.Prelude.{◌≡◌, ◌+◌, ◌<◌, ◌≤◌, length, map, min, slice_index, IfOk};
 ghost use Rattle.pathspec_glob.specs.Counts.{Counts};
 ghost use Rattle.pathspec_heads.specs.Agreement.{agreement, is_behind};
 ghost use Rattle.pathspec_heads.specs.Heads.{head_at};
@@ -10,6 +10,9 @@ use std::alloc::{AllocError, Global};
 use std::fmt;
 use std::marker::Model;
 use std::simd::prelude::*;
+
+/// So many bytes can be read from each text's start, also where the text has fewer.
+const ROOM: usize = 16;
 
 /// How a head compares with a text.
 #[derive(Clone, Copy)]
@@ -29,11 +32,12 @@ struct Span {
     shared: usize,
 }
 
-/// Texts of which only lengths are told: their own, and that of what one of them shares with the next. No question here
-/// compares one of them with a text of the caller's, and nothing prints them.
+/// Texts of which only lengths are told: their own, and that of what one of them shares with the
+/// next. No public question here compares one of them with a text of the caller's, and nothing
+/// prints them.
 #[derive(Drop)]
 pub struct Texts {
-    // The texts, one behind the other.
+    // The texts, one behind the other, and `ROOM` zeros behind the last.
     bytes: Vec<u8>,
     spans: Vec<Span>,
 }
@@ -66,7 +70,7 @@ fn shared_len(texts: &[&[u8]], index: usize) -> usize
         (head_at (map (λ text. text.now) texts.now) (index + 1)) }
 {
     let next = (index + 1).min(texts.len() - 1);
-    compared(texts[index], texts[next]).agreed
+    agreement(texts[index], texts[next])
 }
 
 impl Texts {
@@ -77,7 +81,7 @@ impl Texts {
     pub fn new(alloc: Global, all: &[&[u8]]) -> Result<Texts, AllocError>
         ensures { IfOk result (λ texts. texts ≡ map (λ text. text.now) all.now) }
     {
-        let mut bytes = Vec::with_capacity(alloc, total_len(all))?;
+        let mut bytes = Vec::with_capacity(alloc, total_len(all).saturating_add(ROOM))?;
         let mut spans = Vec::with_capacity(alloc, all.len())?;
         for index in 0..all.len() {
             let text = all[index];
@@ -89,6 +93,7 @@ impl Texts {
                 shared: shared_len(all, index),
             })?;
         }
+        bytes.extend_from_slice(&[0; ROOM])?;
         Ok(Texts { bytes, spans })
     }
 
@@ -110,6 +115,47 @@ impl Texts {
             shared: _,
         } = self.spans[index];
         &self.bytes[start..start + len]
+    }
+
+    /// How many bytes one of them agrees in with a text. A short one it looks at once, as far as
+    /// there is room, where the text is long enough.
+    #[inline(always)]
+    fn agreement(&self, index: usize, text: &[u8]) -> usize
+        requires { index < length self.now }
+        ensures { result ≡ agreement (head_at self.now index) text.now }
+    {
+        let Span {
+            start,
+            len,
+            shared: _,
+        } = self.spans[index];
+        if len <= ROOM && text.len() >= ROOM {
+            agreed_lanes::<ROOM>(&self.bytes[start..], text).min(len)
+        } else {
+            agreement(self.text(index), text)
+        }
+    }
+
+    /// How one of them compares with a text.
+    #[inline(always)]
+    fn compare(&self, index: usize, text: &[u8]) -> Comparison
+        requires { index < length self.now }
+        ensures agreed { result.agreed ≡ agreement (head_at self.now index) text.now }
+        ensures behind { result.is_behind ≡ is_behind (head_at self.now index) text.now }
+    {
+        let len = self.text_len(index);
+        if len == 0 {
+            return Comparison {
+                agreed: 0,
+                is_behind: false,
+            };
+        }
+        let agreed = self.agreement(index, text);
+        Comparison {
+            agreed,
+            is_behind: agreed < len
+                && (agreed == text.len() || self.text(index)[agreed] > text[agreed]),
+        }
     }
 
     /// How many bytes one of them has.
@@ -196,7 +242,8 @@ impl Heads {
         &self.texts
     }
 
-    /// How a head compares with a text. It looks at each byte of the shorter one at most twice.
+    /// How a head compares with a text. It looks at each byte of the shorter one at most twice, or at sixteen bytes at once.
+    #[inline(always)]
     pub fn compare(&self, index: usize, text: &[u8], scratch: &mut Scratch) -> Comparison
         requires { index < length self.now }
         ensures agreed { result.agreed ≡ agreement (head_at self.now index) text.now }
@@ -205,7 +252,7 @@ impl Heads {
     {
         scratch.compared = scratch.compared.wrapping_add(1);
         scratch.last = index;
-        compared(self.texts.text(index), text)
+        self.texts.compare(index, text)
     }
 }
 
@@ -275,38 +322,44 @@ fn compared_with_slash(stem: &[u8], path: &[u8], ignore_case: bool) -> Compariso
     ensures agreed { result.agreed ≡ agreement stem.now (with_slash ignore_case path.now) }
     ensures behind { result.is_behind ≡ is_behind stem.now (with_slash ignore_case path.now) }
 {
-    for at in agreed_with_slash(stem, path, ignore_case)..stem.len() {
-        let is_behind = at > path.len();
-        if is_behind {
-            return Comparison {
-                agreed: at,
-                is_behind,
-            };
-        }
-        let byte = byte_with_slash(path, ignore_case, at);
-        if stem[at] != byte {
-            return Comparison {
-                agreed: at,
-                is_behind: stem[at] > byte,
-            };
-        }
-    }
+    let agreed = agreed_with_slash(stem, path, ignore_case);
     Comparison {
-        agreed: stem.len(),
-        is_behind: false,
+        agreed,
+        is_behind: agreed < stem.len()
+            && (agreed > path.len() || stem[agreed] > byte_with_slash(path, ignore_case, agreed)),
     }
 }
 
-/// How many of the next `LANES` bytes two texts agree in, from a position on.
+/// How many bytes a stem agrees in with a path and a slash, in lower case where case doesn't count.
+/// Where it counts, the loop sees whether the stem goes on with the slash, and no more.
 #[inline(always)]
-fn agreed_lanes<const LANES: usize>(left: &[u8], right: &[u8], at: usize) -> usize
-    requires few { LANES ≤ 64 }
-    requires left { at + LANES ≤ length left.now }
-    requires right { at + LANES ≤ length right.now }
-    ensures { result ≡ min LANES (agreement (drop at left.now) (drop at right.now)) }
+fn agreed_with_slash(stem: &[u8], path: &[u8], ignore_case: bool) -> usize
+    ensures { result ≡ agreement stem.now (with_slash ignore_case path.now) }
 {
-    let left: Simd<u8, LANES> = Simd::from_slice(&left[at..]);
-    let right: Simd<u8, LANES> = Simd::from_slice(&right[at..]);
+    let from = if ignore_case {
+        0
+    } else {
+        agreement(stem, path)
+    };
+    let shorter = stem.len().min(path.len() + 1);
+    for at in from..shorter {
+        if stem[at] != byte_with_slash(path, ignore_case, at) {
+            return at;
+        }
+    }
+    shorter
+}
+
+/// How many of their first `LANES` bytes two texts agree in.
+#[inline(always)]
+fn agreed_lanes<const LANES: usize>(left: &[u8], right: &[u8]) -> usize
+    requires few { LANES ≤ 64 }
+    requires left { LANES ≤ length left.now }
+    requires right { LANES ≤ length right.now }
+    ensures { result ≡ min LANES (agreement left.now right.now) }
+{
+    let left: Simd<u8, LANES> = Simd::from_slice(left);
+    let right: Simd<u8, LANES> = Simd::from_slice(right);
     let apart = left.simd_ne(right).to_bitmask();
     if apart == 0 {
         LANES
@@ -328,13 +381,13 @@ fn agreed_by<const LANES: usize>(left: &[u8], right: &[u8], shorter: usize) -> u
     let last = shorter - LANES;
     let mut at = 0;
     while at < last {
-        let agreed = agreed_lanes::<LANES>(left, right, at);
+        let agreed = agreed_lanes::<LANES>(&left[at..], &right[at..]);
         if agreed < LANES {
             return at + agreed;
         }
         at += LANES;
     }
-    last + agreed_lanes::<LANES>(left, right, last)
+    last + agreed_lanes::<LANES>(&left[last..], &right[last..])
 }
 
 /// The same of any texts, byte by byte.
@@ -364,34 +417,5 @@ fn agreement(left: &[u8], right: &[u8]) -> usize
         agreed_by::<4>(left, right, shorter)
     } else {
         agreed_one_by_one(left, right, shorter)
-    }
-}
-
-/// So many bytes, or more, a stem agrees in with a path and a slash: none where case doesn't count.
-fn agreed_with_slash(stem: &[u8], path: &[u8], ignore_case: bool) -> usize
-    ensures { result ≤ agreement stem.now (with_slash ignore_case path.now) }
-{
-    if ignore_case {
-        0
-    } else {
-        agreement(stem, path)
-    }
-}
-
-/// How a head compares with a text.
-fn compared(head: &[u8], text: &[u8]) -> Comparison
-    ensures agreed { result.agreed ≡ agreement head.now text.now }
-    ensures behind { result.is_behind ≡ is_behind head.now text.now }
-{
-    if head.is_empty() {
-        return Comparison {
-            agreed: 0,
-            is_behind: false,
-        };
-    }
-    let agreed = agreement(head, text);
-    Comparison {
-        agreed,
-        is_behind: agreed < head.len() && (agreed == text.len() || head[agreed] > text[agreed]),
     }
 }

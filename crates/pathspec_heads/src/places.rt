@@ -3,7 +3,7 @@ ghost use Rattle.std.specs.Prelude.{◌≡◌, ℕ, ◌+◌, ◌^◌, ◌<◌, �
 ghost use Rattle.std.specs.List.Sorted.{IsNonDecreasing};
 ghost use Rattle.pathspec_glob.specs.Counts.{Counts};
 ghost use Rattle.pathspec_glob.specs.GlobCells.{has};
-ghost use Rattle.pathspec_heads.specs.Heads.{IsLastFront, IsChainOf};
+ghost use Rattle.pathspec_heads.specs.Heads.{head_at, IsLastFront, IsChainOf};
 ghost use Rattle.pathspec_heads.specs.Groups.{GroupedPlaces, IsGrouped, IsInGroup, IsInChain, IsLeastFrom, AreWords, HasBitsOf, earlier, end_of};
 
 use crate::chains::Chains;
@@ -129,7 +129,7 @@ fn earlier(left: Option<usize>, right: Option<usize>) -> Option<usize>
 
 /// The least bit of a word from one on.
 #[inline(always)]
-fn next_bit(word: u64, from: usize) -> Option<usize>
+pub fn next_bit(word: u64, from: usize) -> Option<usize>
     ensures { IsLeastFrom (λ p. has word p ≡ true) from result }
 {
     if from >= 64 {
@@ -295,6 +295,26 @@ impl PlacesByHead {
         self.groups.chains.deepest(text, scratch)
     }
 
+    /// How many bytes a head has.
+    #[inline(always)]
+    pub fn head_len(&self, head: usize) -> usize
+        requires { head < length self.now.heads }
+        ensures { result ≡ length (head_at self.now.heads head) }
+    {
+        self.groups.chains.head_len(head)
+    }
+
+    /// The places whose heads begin this one, as bits of a word; None where one of them is 64 or more, and for some heads
+    /// besides. Whoever goes through all such places needs the groups no more: the next is [`next_bit`].
+    #[inline(always)]
+    pub fn bits(&self, head: usize) -> Option<u64>
+        requires { head < length self.now.heads }
+        ensures { IfSome result (λ word. HasBitsOf word
+            (IsInChain self.now.heads self.now.starts self.now.order head)) }
+    {
+        self.words.get(head).copied()
+    }
+
     /// The least place from one on whose head begins this one.
     ///
     /// Where all such places are below 64 this takes constant time. Else, for each head that begins it, it looks at as many
@@ -305,8 +325,8 @@ impl PlacesByHead {
         ensures { IsLeastFrom (IsInChain self.now.heads self.now.starts self.now.order head)
             from result }
     {
-        match self.words.get(head) {
-            Some(word) => next_bit(*word, from),
+        match self.bits(head) {
+            Some(word) => next_bit(word, from),
             None => self.groups.next_place(head, from),
         }
     }

@@ -69,7 +69,7 @@ fn only_specs_whose_head_begins_the_path_are_asked(rt: HostRuntime) -> Result<()
         Asks("a/x a/y b :!a/x/z", "", "", Some((0, ALWAYS)), 0, 0),
         Asks("a/x a/y", "", "b", None, 0, 0),
         Asks("[x]/y z", "", "z", Some((1, VERBATIM)), 1, 2),
-        Asks("*.c *.c *.h a", "", "a", Some((3, VERBATIM)), 1, 4),
+        Asks("*.c *.c *.h a", "", "a", Some((3, VERBATIM)), 1, 1),
         Asks("a a/b a/b/c :!a/b/c/d *", "", "a/b/c/d", Some((3, VERBATIM)), 1, 1),
         Asks(":!a/b/x :!a/b a", "", "a/b/c", Some((1, PREFIX)), 1, 1),
         Asks("a/b a", "", "a/b/c", Some((0, PREFIX)), 1, 1),
@@ -80,7 +80,7 @@ fn only_specs_whose_head_begins_the_path_are_asked(rt: HostRuntime) -> Result<()
         Asks(":!a :!a/b :!b", "", "b", Some((2, VERBATIM)), 1, 1),
         Asks(":!a :!a/b :!b", "", "c", Some((3, ALWAYS)), 0, 0),
         Asks(":!a :!a/b :!b", "", "ab", Some((3, ALWAYS)), 1, 1),
-        Asks(":!*.c :!b", "", "b", Some((1, VERBATIM)), 1, 2),
+        Asks(":!*.c :!b", "", "b", Some((1, VERBATIM)), 1, 1),
         Asks(":!a", "d", "a", Some((1, ALWAYS)), 0, 0),
         Asks(":!a", "d", "d/a", Some((0, VERBATIM)), 1, 1),
         // Specs without case stand at their prefix directory.
@@ -92,6 +92,90 @@ fn only_specs_whose_head_begins_the_path_are_asked(rt: HostRuntime) -> Result<()
         Asks(":(icase)A :(icase)B", "d", "b", None, 0, 0),
         Asks(":(icase)A :(top)d", "d", "d/a", Some((0, VERBATIM)), 1, 2),
         Asks(":(icase)A :(top)d", "d", "d/b", Some((1, PREFIX)), 1, 2),
+    ];
+    assert_each(rt.alloc(), ROWS)
+}
+
+#[test]
+#[rattlefmt::skip]
+fn globs_that_end_otherwise_are_not_asked(rt: HostRuntime) -> Result<(), Fail> {
+    const ROWS: &[Asks] = &[
+        Asks("*.rs *.md", "", "a.c", None, 0, 0),
+        Asks("*.rs *.md", "", "a.rs", Some((0, WILDCARD)), 1, 1),
+        Asks("*.rs *.md", "", "a.md", Some((1, WILDCARD)), 1, 1),
+        Asks("*.rs *.md", "", "s", None, 1, 1),
+        Asks("*.rs *.md", "d", "d/a.md", Some((1, WILDCARD)), 1, 1),
+        Asks("*.rs *.md", "d", "d/a.c", None, 0, 0),
+        Asks("src/*.rs src/*.md", "", "src/a/b.md", Some((1, WILDCARD)), 1, 1),
+        Asks("src/*.rs src/*.md", "", "src/a.c", None, 0, 0),
+        Asks(":(glob)**/*.rs :(glob)*.md", "", "a/b.c", None, 0, 0),
+        Asks(":(glob)**/*.rs :(glob)*.md", "", "a/b.md", None, 1, 1),
+        // Specs without a glob are asked, and excludes are asked first as others are.
+        Asks("*.rs src", "", "src/a.c", Some((1, PREFIX)), 1, 1),
+        Asks("*.rs src", "", "src/a.rs", Some((0, WILDCARD)), 1, 1),
+        Asks("*.rs src :!*.h", "", "src/a.c", Some((1, PREFIX)), 1, 1),
+        Asks("*.rs src :!*.h", "", "src/a.h", Some((2, WILDCARD)), 1, 1),
+        Asks("*.rs src :!*.h", "", "src/h", Some((1, PREFIX)), 2, 2),
+        Asks(":!*.h", "", "a.c", Some((1, ALWAYS)), 0, 0),
+        Asks(":!*.h", "", "a.h", Some((0, WILDCARD)), 1, 1),
+        // A head and a tail that take no byte twice, and a path that is the head alone.
+        Asks("src*.c src*.h", "", "src.c", Some((0, WILDCARD)), 1, 1),
+        Asks("src*.c src*.h", "", "src", None, 1, 1),
+        Asks("a*a", "", "a", None, 1, 1),
+        Asks("a*a", "", "aa", Some((0, WILDCARD)), 1, 1),
+        // Globs that tell no last byte are asked.
+        Asks("*.[ch] *.rs", "", "a.md", None, 1, 1),
+        Asks("*.\\c *.rs", "", "a.md", None, 1, 1),
+        Asks("a* *.rs", "", "a.md", Some((0, WILDCARD)), 1, 1),
+        // Where case doesn't count, no last byte tells; where it counts, another case is another byte.
+        Asks(":(icase)*.RS *.md", "", "a.c", None, 1, 1),
+        Asks(":(icase)*.RS *.md", "", "a.rs", Some((0, WILDCARD)), 1, 1),
+        Asks(":(icase)*.RS *.md", "", "a.md", Some((1, WILDCARD)), 2, 2),
+        Asks("*.rs", "", "a.RS", None, 0, 0),
+    ];
+    assert_each(rt.alloc(), ROWS)
+}
+
+// What is selected is what `git ls-files` lists of an index with the path alone; there the prefix of the last row has 5 bytes.
+#[test]
+#[rattlefmt::skip]
+fn the_text_of_a_glob_is_found_whatever_its_end(rt: HostRuntime) -> Result<(), Fail> {
+    const ROWS: &[Asks] = &[
+        Asks("*.rs", "", "*.rs", Some((0, WILDCARD)), 1, 1),
+        Asks("*.rs", "", "*.rs/a.c", Some((0, PREFIX)), 1, 1),
+        Asks("*.rs", "", "*.rsx", None, 1, 1),
+        Asks("*.rs", "", "a.rs", Some((0, WILDCARD)), 1, 1),
+        Asks("*.rs", "", "a.rs/b.c", None, 0, 0),
+        Asks("*.rs/", "", "*.rs/a.c", Some((0, PREFIX)), 1, 1),
+        Asks("*.rs/", "", "a.rs", None, 1, 1),
+        Asks("src/*.rs", "", "src/*.rs", Some((0, WILDCARD)), 1, 1),
+        Asks("src/*.rs", "", "src/*.rs/x", Some((0, PREFIX)), 1, 1),
+        Asks("src/*.rs", "", "src/a.rs/x", None, 0, 0),
+        Asks(":(glob)src/**/*.rs", "", "src/**/*.rs/x", Some((0, PREFIX)), 1, 1),
+        Asks("a[b]c.d", "", "a[b]c.d/e", Some((0, PREFIX)), 1, 1),
+        Asks("a[b]*.d", "", "a[b]*.d/e", Some((0, PREFIX)), 1, 1),
+        Asks("a[b]*.d", "", "ab.d/e", None, 0, 0),
+        Asks("a?*.d", "", "a?*.d/e", Some((0, PREFIX)), 1, 1),
+        Asks("a\\b*.d", "", "a\\b*.d/e", Some((0, PREFIX)), 1, 1),
+        // Excludes stand in front, and other heads may begin the path further.
+        Asks("src :!src/*.rs", "", "src/*.rs/a.c", Some((1, PREFIX)), 1, 1),
+        Asks("src :!src/*.rs", "", "src/a.c", Some((0, PREFIX)), 1, 1),
+        Asks("*.rs :!src/*.c", "", "src/*.c/a.rs", Some((1, PREFIX)), 1, 1),
+        Asks("*.rs src :!*.c", "", "src/*.c/a.rs", Some((0, WILDCARD)), 1, 1),
+        // The head of a literal spec, too, ends before its first wildcard.
+        Asks("*.rs :(literal)*.rs/a", "", "*.rs/a/b.c", Some((0, PREFIX)), 1, 1),
+        Asks(":!*.rs :(literal)*.rs/a", "", "*.rs/a/b.c", Some((0, PREFIX)), 1, 1),
+        Asks("*.rs :(literal)a*b", "", "a*b/c", Some((1, PREFIX)), 2, 2),
+        Asks("*.rs :(literal)a*b", "", "a.c", None, 1, 1),
+        // The directory that specs are given in may have a wildcard, and so the head of a spec without case.
+        Asks("*.rs", "a*b", "a*b/*.rs/x", Some((0, PREFIX)), 1, 1),
+        Asks("*.rs *.md", "a*b", "a*b/x.md", Some((1, WILDCARD)), 2, 2),
+        Asks("*.rs *.md", "a*b", "a*b/x.c", None, 2, 2),
+        Asks(":(icase)C *.rs", "a*b", "a*b/c", Some((0, WILDCARD)), 1, 1),
+        Asks(":(icase)C *.rs", "a*b", "a*b/*.rs/x", Some((1, PREFIX)), 2, 2),
+        Asks(":(icase)C :(top)*.rs", "*.rs", "*.rs/x.c", Some((1, PREFIX)), 2, 2),
+        Asks(":(icase)C :(top,exclude)*.rs", "*.rs", "*.rs/c", Some((1, PREFIX)), 1, 1),
+        Asks(":(icase,prefix:4)*.rs/C *.rs", "", "*.rs/x.c", Some((1, PREFIX)), 2, 2),
     ];
     assert_each(rt.alloc(), ROWS)
 }
@@ -189,4 +273,29 @@ fn heads_of_globs_may_begin_one_another_a_thousand_times(rt: HostRuntime) -> Res
         (1001, "b.c", (Some((0, WILDCARD)), 1), None),
     ];
     assert_each(rt.alloc(), &[Tells(1000, Texts::Nested(999, "*.c"), ROWS)])
+}
+
+#[test]
+fn specs_behind_the_64th_are_always_asked(rt: HostRuntime) -> Result<(), Fail> {
+    const NUMBERED: &[Telling] = &[
+        (0, "d10005/a.rs", (Some((5, WILDCARD)), 1), None),
+        (0, "d10005/a.c", (None, 0), None),
+        (0, "d10063/a.c", (None, 0), None),
+        (0, "d10064/a.c", (None, 1), None),
+        (0, "d10069/a.c", (None, 1), None),
+        (0, "d10069/a.rs", (Some((69, WILDCARD)), 1), None),
+        (0, "d10063/*.rs/a.c", (Some((63, PREFIX)), 1), None),
+    ];
+    const IN_A_WORD: &[Telling] = &[
+        (0, "a.c", (None, 0), None),
+        (0, "a.s", (None, 64), None),
+        (0, "*.rs/a.c", (Some((0, PREFIX)), 1), None),
+    ];
+    const MORE: &[Telling] = &[(0, "a.c", (None, 65), None)];
+    const ROWS: &[Tells] = &[
+        Tells(70, Texts::Between("d", "/*.rs"), NUMBERED),
+        Tells(64, Texts::Same("*.rs"), IN_A_WORD),
+        Tells(65, Texts::Same("*.rs"), MORE),
+    ];
+    assert_each(rt.alloc(), ROWS)
 }

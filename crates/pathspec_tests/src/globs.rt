@@ -433,6 +433,57 @@ fn tokens_are_counted(rt: HostRuntime) -> Result<(), Fail> {
     assert_each(rt.alloc(), ROWS)
 }
 
+/// A pattern, its mode, and the byte that every text ends with that it matches, where the bytes behind its last star are all its
+/// own.
+struct Last(&'static str, Mode, Option<u8>);
+
+impl Row for Last {
+    fn holds(&self, alloc: Global) -> Result<bool, Fail> {
+        Ok(Glob::compile(alloc, self.0.as_bytes(), self.1)?.last_byte() == self.2)
+    }
+}
+
+#[test]
+#[rattlefmt::skip]
+fn the_last_byte_stands_behind_the_last_star(rt: HostRuntime) -> Result<(), Fail> {
+    const ROWS: &[Last] = &[
+        Last("src/*.rs", Shell, Some(b's')),
+        Last("src/*.rs", PathAware, Some(b's')),
+        Last("a*b", Shell, Some(b'b')),
+        Last("a*b*c", Shell, Some(b'c')),
+        Last("*.R", Shell, Some(b'R')),
+        Last("*/", PathAware, Some(b'/')),
+        Last("*\u{e4}", Shell, Some(0xa4)),
+        // What stands before the last star may be any tokens.
+        Last("[ab]*yz", Shell, Some(b'z')),
+        Last("?[!c]*[d]*yz", PathAware, Some(b'z')),
+        Last("\\**.rs", Shell, Some(b's')),
+        Last("\\**.rs", PathAware, Some(b's')),
+        // Double stars are stars, with a slash behind them and without.
+        Last("src/**/*.c", PathAware, Some(b'c')),
+        Last("**/x", PathAware, Some(b'x')),
+        Last("**/x", Shell, Some(b'x')),
+        Last("**/", Shell, Some(b'/')),
+        // Behind the star stand tokens that aren't bytes of the pattern.
+        Last("*.[ch]", Shell, None),
+        Last("*.[c]", Shell, None),
+        Last("*?c", Shell, None),
+        Last("*.\\c", Shell, None),
+        Last("*\\", Shell, None),
+        Last("*[c", Shell, None),
+        // There is no star, or nothing behind it.
+        Last("", Shell, None),
+        Last("abc", Shell, None),
+        Last("a?c", Shell, None),
+        Last("\\*c", Shell, None),
+        Last("*", Shell, None),
+        Last("a**", PathAware, None),
+        Last("src/**", PathAware, None),
+        Last("src/**/", PathAware, None),
+    ];
+    assert_each(rt.alloc(), ROWS)
+}
+
 /// For how many tokens a scratch is made, and whether a glob of three fits it.
 struct Fits(usize, bool);
 

@@ -19,8 +19,8 @@ use std::test::Fail;
 const TEXT: &str = ":(top,icase,attr:a=x\\,y)p/";
 
 /// Specs, the second of which leaves the directory `a/b` in which all are given. A walk asks the third by itself which
-/// directories it takes.
-const TEXTS: &[&str] = &[TEXT, "../c", ":(exclude,glob)d/**"];
+/// directories it takes, and the last byte of a path tells of the fourth.
+const TEXTS: &[&str] = &[TEXT, "../c", ":(exclude,glob)d/**", "*.c"];
 
 /// A call that makes a pattern.
 enum PatternCall {
@@ -413,6 +413,7 @@ fn a_search_that_is_built_takes_no_memory(rt: HostRuntime) -> Result<(), Fail> {
         Asked(TEXTS, "a/c"),
         Asked(TEXTS, "a"),
         Asked(TEXTS, "a/b/d"),
+        Asked(TEXTS, "a/b/x.c"),
         Asked(&["*[!b-d]?x*", ":!**/x", ":(glob)**/*[a-z]/q"], "a/b/cxd"),
         Asked(&[], "a/b/c"),
     ];

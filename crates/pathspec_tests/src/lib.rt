@@ -36,6 +36,8 @@ mod paths;
 #[cfg(test)]
 mod patterns;
 #[cfg(test)]
+mod places;
+#[cfg(test)]
 mod prefix_lengths;
 #[cfg(test)]
 mod reading;

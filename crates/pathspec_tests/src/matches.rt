@@ -270,10 +270,11 @@ fn attributes_are_asked_where_the_spec_fits(rt: HostRuntime) -> Result<(), Fail>
 fn no_attributes_are_asked_where_the_spec_does_not_fit(rt: HostRuntime) -> Result<(), Fail> {
     const ROWS: &[Asked] = &[
         Asked(&[":(attr:gen)x"], "xa", None, 0, 1),
-        Asked(&[":(attr:gen)x*y"], "xa", None, 0, 1),
+        Asked(&[":(attr:gen)x*y"], "xa", None, 0, 0),
+        Asked(&[":(attr:gen)x*y"], "xay", None, 1, 1),
         Asked(&[":(attr:gen)x/"], "x", None, 0, 1),
         Asked(&[":(attr:gen)x/", "x"], "x", Some(1), 0, 2),
-        Asked(&[":(exclude,attr:gen)*y", "x"], "x", Some(1), 0, 2),
+        Asked(&[":(exclude,attr:gen)*y", "x"], "x", Some(1), 0, 1),
     ];
     assert_each(rt.alloc(), ROWS)
 }

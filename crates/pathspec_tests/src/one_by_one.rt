@@ -2,37 +2,39 @@
 use bstr::BStr;
 use gix_pathspec::Search;
 use gix_pathspec::search::MatchKind;
+use pathspec_glob::first_wildcard;
 use pathspec_test_support::searches::{Settled, search_of_bytes, settled};
 use std::alloc::Global;
 use std::test::Fail;
 
-/// A spec as it is given, and as the include that fits the same paths.
-struct Given(&'static [u8], &'static [u8]);
+/// A spec as it is given, as the include that fits the same paths, and the byte that its glob wants at their end, if it is the
+/// pattern's own, stands behind a star, and case counts.
+struct Given(&'static [u8], &'static [u8], Option<u8>);
 
 /// Specs whose heads begin one another, with wildcards at every place, without case, with bytes that are no text, and
 /// the nil spec.
 const SPECS: &[Given] = &[
-    Given(b"a", b"a"),
-    Given(b"a/a", b"a/a"),
-    Given(b"a/a/ab", b"a/a/ab"),
-    Given(b":!a/a", b"a/a"),
-    Given(b":!a/", b"a/"),
-    Given(b":!ab", b"ab"),
-    Given(b"a/*.c", b"a/*.c"),
-    Given(b"*.c", b"*.c"),
-    Given(b":(exclude)*b", b"*b"),
-    Given(b"[a]/a", b"[a]/a"),
-    Given(b":(exclude)?", b"?"),
-    Given(b":", b":"),
-    Given(b":(icase)A/A", b":(icase)A/A"),
-    Given(b":(icase,exclude)a/B", b":(icase)a/B"),
-    Given(b":(icase)B", b":(icase)B"),
-    Given(b":(literal)a*", b":(literal)a*"),
-    Given(b"a\xff", b"a\xff"),
-    Given(b":(exclude)\xff\x80", b"\xff\x80"),
-    Given(b":(attr:gen)x", b":(attr:gen)x"),
-    Given(b":(exclude,glob)**/x", b":(glob)**/x"),
-    Given(b":(top)b", b":(top)b"),
+    Given(b"a", b"a", None),
+    Given(b"a/a", b"a/a", None),
+    Given(b"a/a/ab", b"a/a/ab", None),
+    Given(b":!a/a", b"a/a", None),
+    Given(b":!a/", b"a/", None),
+    Given(b":!ab", b"ab", None),
+    Given(b"a/*.c", b"a/*.c", Some(b'c')),
+    Given(b"*.c", b"*.c", Some(b'c')),
+    Given(b":(exclude)*b", b"*b", Some(b'b')),
+    Given(b"[a]/a", b"[a]/a", None),
+    Given(b":(exclude)?", b"?", None),
+    Given(b":", b":", None),
+    Given(b":(icase)A/A", b":(icase)A/A", None),
+    Given(b":(icase,exclude)a/B", b":(icase)a/B", None),
+    Given(b":(icase)B", b":(icase)B", None),
+    Given(b":(literal)a*", b":(literal)a*", None),
+    Given(b"a\xff", b"a\xff", None),
+    Given(b":(exclude)\xff\x80", b"\xff\x80", None),
+    Given(b":(attr:gen)x", b":(attr:gen)x", None),
+    Given(b":(exclude,glob)**/x", b":(glob)**/x", Some(b'x')),
+    Given(b":(top)b", b":(top)b", None),
 ];
 
 /// Paths of any bytes, shorter and longer than all heads.
@@ -63,6 +65,8 @@ const PATHS: &[&[u8]] = &[
     b"c.c",
     b"a/c.c",
     b"[a]/a",
+    b"a/*.c/x",
+    b"*b/c",
     b"zz",
 ];
 
@@ -85,6 +89,8 @@ struct Answer {
 struct Alone {
     given: Vec<u8>,
     is_exclude: bool,
+    /// The byte that its glob wants at the end of a path.
+    last: Option<u8>,
     search: Box<Search>,
     /// Its answers to each of the paths.
     answers: Vec<Answer>,
@@ -97,6 +103,17 @@ impl Alone {
             Some(answer) => answer.kind,
             None => None,
         }
+    }
+
+    /// What each path begins with that it matches.
+    fn head(&self) -> &[u8] {
+        self.search.common_prefix().as_bytes()
+    }
+
+    /// Whether it is asked about a path: its head begins it, and where last bytes tell, it may end so.
+    fn is_asked(&self, path: &[u8], last_tells: bool) -> bool {
+        let ends = !last_tells || self.last.is_none() || self.last == path.last().copied();
+        ends && path.starts_with(self.head())
     }
 
     /// Whether it lets something at or below the path with a number match.
@@ -138,6 +155,7 @@ fn ask_alone(alloc: Global, spec: &Given, asked: Asked) -> Result<Alone, Fail> {
     Ok(Alone {
         given: Vec::from_slice(alloc, spec.0)?,
         is_exclude: spec.0 != spec.1,
+        last: spec.2,
         search,
         answers,
     })
@@ -152,7 +170,19 @@ fn each_alone(alloc: Global, asked: Asked) -> Result<Vec<Alone>, Fail> {
     Ok(specs)
 }
 
-/// What is found for a path, and how many specs were asked whose head begins it.
+/// Whether the last byte of a path tells of globs that don't match it: no wildcard byte stands behind the last head that begins
+/// it. Else the path may be a glob's own text, or lie below it. No head of these specs has such a byte.
+fn last_tells(specs: &[&Alone], path: &[u8]) -> bool {
+    let mut longest = 0;
+    for spec in specs {
+        if path.starts_with(spec.head()) {
+            longest = longest.max(spec.head().len());
+        }
+    }
+    first_wildcard(path) != Some(longest)
+}
+
+/// What is found for a path, and how many specs were asked.
 #[derive(Clone, Copy)]
 struct Wanted {
     settled: Settled,
@@ -168,9 +198,10 @@ fn go_on(
     tested: usize,
 ) -> Wanted {
     let mut tested = tested;
+    let last_tells = last_tells(specs, path);
     for (place, spec) in specs.iter().enumerate() {
         if spec.is_exclude == are_excludes {
-            if path.starts_with(spec.search.common_prefix().as_bytes()) {
+            if spec.is_asked(path, last_tells) {
                 tested = tested.saturating_add(1);
             }
             if let Some(kind) = spec.kind(number) {

@@ -550,8 +550,9 @@ fn a_walk_visits_each_entry_once(rt: HostRuntime) -> Result<(), Fail> {
         Visits(":!node_modules", "node_modules", false, (false, false), 1),
         Visits(":!node_modules", "src", true, (true, true), 0),
         Visits(":!node_modules", "src", false, (true, false), 0),
-        // An include in a glob that nothing prunes.
-        Visits("*.md :!crates", "docs", true, (false, true), 1),
+        // An include in a glob that nothing prunes, which is asked where the path ends as it does.
+        Visits("*.md :!crates", "docs", true, (false, true), 0),
+        Visits("*.md :!crates", "cmd", true, (false, true), 1),
         Visits("*.md :!crates", "crates", true, (false, false), 0),
         // The match of a glob tells nothing of what lies below, so the exclude is asked a second time where it may take it.
         Visits(":(exclude,glob)*.d", "x.d", true, (false, true), 1),

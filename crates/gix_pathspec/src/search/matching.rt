@@ -27,6 +27,7 @@ use pathspec_parts::glob::{Glob, Scratch};
 ///
 /// Beside the steps of the glob, it looks at each byte of the pattern's path a fixed number of times. It takes no
 /// memory.
+#[inline(always)]
 fn match_kind(
     pattern: &Pattern,
     glob: &Option<Glob>,
@@ -194,6 +195,7 @@ impl CompiledSpec {
     ///
     /// # Errors
     /// The look-up's fault.
+    #[inline(always)]
     pub(super) fn matches<L: LookUp>(
         &self,
         path: BStr<'_>,

@@ -48,10 +48,11 @@ impl Model for CompiledSpec {
 }
 
 impl CompiledSpec {
-    ghost use Rattle.std.specs.Prelude.{◌&&◌, List};
+    ghost use Rattle.std.specs.Prelude.{◌&&◌, List, IfSome};
     ghost use Rattle.gix_pathspec.specs.Patterns.{pattern_spec};
     ghost use Rattle.gix_pathspec.specs.Specs.{Spec, is_include, ignores_case, wants_directory, always_matches, has_wildcard};
     ghost use Rattle.gix_pathspec.specs.Prefixes.{stem, head};
+    ghost use Rattle.gix_pathspec.specs.LastBytes.{EndsPaths, Refuses};
     ghost use Rattle.gix_pathspec.specs.PathTables.{IsPathTableOf};
     ghost use Rattle.gix_pathspec.specs.Plain.{has_one_case};
     ghost use Rattle.gix_pathspec.specs.Pruning.{stem_of, is_total_exclude};
@@ -269,6 +270,27 @@ impl CompiledSpec {
         ensures { result ≡ always_matches self.now.spec }
     {
         self.pattern.always_matches()
+    }
+
+    /// The byte that a path ends with that the spec's glob matches: `s` of `src/*.rs`. None where that may be any of several,
+    /// where there is no glob, and where case doesn't count.
+    pub(super) fn last_byte(&self) -> Option<u8>
+        ensures { IfSome result (EndsPaths self.now.spec) }
+    {
+        match &self.glob {
+            Some(glob) if !self.ignores_case() => glob.last_byte(),
+            _ => None,
+        }
+    }
+
+    /// Whether the spec is known to match no path that ends with this byte, but for those that its own text begins.
+    pub(super) fn refuses(&self, byte: u8) -> bool
+        ensures { IsTrue result → Refuses self.now.spec byte }
+    {
+        match self.last_byte() {
+            Some(last) => byte != last,
+            None => false,
+        }
     }
 
     /// How many tokens the spec's glob has, 0 where it has none.

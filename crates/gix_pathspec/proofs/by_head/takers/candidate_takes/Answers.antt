@@ -7,20 +7,20 @@ use Rattle.pathspec_heads.proofs.SearchProofs.{counts-more}
 use Rattle.gix_pathspec.specs.Bytes.{begins_with}
 use Rattle.gix_pathspec.specs.Specs.{Spec}
 use Rattle.gix_pathspec.specs.Takers.{AreTakerPlaces, taker_takes, taker_head}
-use Rattle.gix_pathspec.proofs.HeadSearchProofs.{next-candidate, none-left, few-more}
+use Rattle.gix_pathspec.proofs.HeadSearchProofs.{next-candidate, no-candidate, few-more}
 use Rattle.gix_pathspec.proofs.TakerProofs.{headless, element-at, passes-at, fails-at, none-passes, none-left-passes}
 use Rattle.gix_pathspec.proofs.by_head.takers.candidate_takes.Goals as goal
 
 module _ (takers : List Spec) (places : GroupedPlaces) (grouped : AreTakerPlaces takers places) (d : List ℕ) (head from : ℕ) (chain : IsChainOf places.heads d head) (next : Option ℕ) (least : IsLeastFrom (IsInChain places.heads places.starts places.order head) from next) where
   -- the next exclude whose head begins the directory
   at : (place : ℕ) → next ≡ Some place → (from ≤ place) × (place < length takers) × (begins_with d (head_at (map taker_head takers) place) ≡ true) × (find (λ s. taker_takes s d) (drop from takers) ≡ find (λ s. taker_takes s d) (drop place takers))
-  at place is = next-candidate taker_head (λ s. taker_takes s d) d (headless d) takers places grouped head from chain next least place is
+  at place is = next-candidate taker_head (λ s. taker_takes s d) d (headless d) takers places grouped head chain from next least place is
 
 pub returns-in-None-clause-answer : goal.returns-in-None-clause-answer
 returns-in-None-clause-answer c =
     let i = c.loop-from.invariant in
     let d = bstr_bytes c.args.directory in
-    none-passes (λ s. taker_takes s d) c.args.takers.now (sym i.rest ∙ none-left taker_head (λ s. taker_takes s d) d (headless d) c.args.takers.now c.args.heads.now c.requires.grouped c.args.head c.loop-from.from c.requires.chain c.next_place.result c.next_place.ensures c.in-None.is i.within)
+    none-passes (λ s. taker_takes s d) c.args.takers.now (sym i.rest ∙ no-candidate taker_head (λ s. taker_takes s d) d (headless d) c.args.takers.now c.args.heads.now c.requires.grouped c.args.head c.requires.chain c.loop-from.from c.next_place.result c.next_place.ensures c.in-None.is i.within)
 
 pub takes-requires-clause-place : goal.takes-requires-clause-place
 takes-requires-clause-place c = (at c.args.takers.now c.args.heads.now c.requires.grouped (bstr_bytes c.args.directory) c.args.head c.loop-from.from c.requires.chain c.next_place.result c.next_place.ensures c.in-Some.place c.in-Some.is).1

@@ -4,10 +4,10 @@ use Rattle.bstr.specs.BStr.{bstr_bytes}
 use Rattle.pathspec_glob.specs.Counts.{Counts}
 use Rattle.gix_pathspec.specs.Found.{first_match}
 use Rattle.gix_pathspec.specs.Effort.{candidate_count}
-use Rattle.gix_pathspec.proofs.by_head.first_candidate.Given as goal
+use Rattle.gix_pathspec.proofs.by_head.ask.Given as goal
 
-abbrev pub invariant-loop-from : goal.invariant-loop-from
-invariant-loop-from g l =
+abbrev pub invariant-loop-place : goal.invariant-loop-place
+invariant-loop-place g l =
     record {
       room : l.scratch.room ≡ l.fn.scratch.room;
       within : l.from ≤ length l.specs;
@@ -19,5 +19,5 @@ invariant-loop-from g l =
       steps : l.tested ≤ l.from;
     }
 
-abbrev pub decreases-loop-from : goal.decreases-loop-from
-decreases-loop-from g l = l.count - l.from
+abbrev pub decreases-loop-place : goal.decreases-loop-place
+decreases-loop-place g l = l.count - l.from
