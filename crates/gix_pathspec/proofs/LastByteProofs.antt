@@ -5,6 +5,7 @@ use Rattle.std.proofs.lemmas.Bool.Decides.{nat_tests}
 use Rattle.std.proofs.lemmas.Nat.Bits.{bit_at_above, bit_at_set_other}
 use Rattle.std.proofs.lemmas.List.{append_assoc, append-nil, get_or-map, get_or_append_left, length-map}
 use Rattle.std.proofs.lemmas.Slice.Eq.{bytes_eq-Decides}
+use Rattle.std.proofs.Math.Bool.{and-false}
 use Rattle.std.proofs.Math.Numerals.{one-add}
 use Rattle.std.proofs.Math.Seq.{get_or-append_seam}
 use Rattle.std.specs.Prelude.{bytes_eq}
@@ -14,8 +15,8 @@ use Rattle.pathspec_glob.specs.declared.Case.{Case}
 use Rattle.pathspec_glob.specs.declared.Case.TheVariants.{Sensitive, Fold}
 use Rattle.pathspec_glob.specs.GlobCells.{has}
 use Rattle.pathspec_glob.specs.Globs.{GlobSource}
-use Rattle.pathspec_glob.specs.LastBytes.{ends_with_byte, EndsMatches}
-use Rattle.pathspec_glob.proofs.BitProofs.{has-and, has-not, has-zero}
+use Rattle.pathspec_glob.specs.LastBytes.{ends_with_byte, last_byte, EndsMatches}
+use Rattle.pathspec_glob.proofs.BitProofs.{has-and, has-not}
 use Rattle.pathspec_heads.specs.Heads.{head_at, IsChainOf}
 use Rattle.pathspec_heads.specs.Groups.{GroupedPlaces, HasBitsOf, IsInChain}
 use Rattle.pathspec_heads.proofs.HeadProofs.{begins-itself}
@@ -29,7 +30,7 @@ use Rattle.gix_pathspec.specs.Prefixes.{head}
 use Rattle.gix_pathspec.specs.Room.{glob_in_mode, glob_of}
 use Rattle.gix_pathspec.specs.Search.{Numbered}
 use Rattle.gix_pathspec.specs.Effort.{ArePlacesOf, heads_in_order}
-use Rattle.gix_pathspec.specs.LastBytes.{has_wildcard_at, last_byte, EndsPaths, Refuses, AreRefusing, AreRefusingWords, AreLastBytes, IsLeftOut, IsAsked, AreAsked}
+use Rattle.gix_pathspec.specs.LastBytes.{has_wildcard_at, EndsPaths, Refuses, AreRefusing, AreRefusingWords, AreLastBytes, IsLeftOut, IsAsked, AreAsked}
 use Rattle.gix_pathspec.proofs.HeadProofs.{head_sensitive, stem-at_false, sensitive, fits-ways, first_two}
 use Rattle.gix_pathspec.proofs.BeginsProofs.{IsBelow-from_is_below}
 use Rattle.gix_pathspec.proofs.EffortProofs.{at_place, unmatched-headless}
@@ -169,10 +170,6 @@ refusing-more ns byte word place low so_far refuses p h n is = elim (cases_eq p 
   | inr d ↦ so_far p (sym (ap (λ x. x == 1) (bit_at_set_other w64 word place low p d)) ∙ h) n is
 ]
 
--- no bit, no spec
-pub refusing-none : (ns : List Numbered) (byte : ℕ) → AreRefusing ns byte 0
-refusing-none ns byte p h n is = let none : has 0 p ≡ false = has-zero p in absurd (both_ways (has 0 p) none h)
-
 -- one more word
 pub words-more : (ns : List Numbered) (words : List ℕ) (byte word : ℕ) → length words ≡ byte → AreRefusingWords ns words → AreRefusing ns byte word → AreRefusingWords ns (words ++ word ∷ [])
 words-more ns words byte word all so_far new b l = elim (cases_eq b byte) [
@@ -181,13 +178,6 @@ words-more ns words byte word all so_far new b l = elim (cases_eq b byte) [
       let low : b < length words = omega (arith, l, d, all, length-append words (word ∷ [])) in
       subst (λ w. AreRefusing ns b w) (sym (get_or_append_left words (word ∷ []) 0 b low)) (so_far b low)
 ]
-
--- no words
-pub words-none : (ns : List Numbered) → AreLastBytes ns []
-words-none ns = record {
-  refusing = λ byte l. absurd (omega (arith, l));
-  plain = λ some p low n is. absurd (omega (arith, some));
-}
 
 -- a place is low
 pub low-place : (places p : ℕ) → places < 2 ^ 64 → has places p ≡ true → p < 64
@@ -210,6 +200,12 @@ refused-else places others p fits fits' h out =
     rest-not : (b : Bool) → not b ≡ false → b ≡ true
     rest-not true e = refl
     rest-not false e = cc
+
+-- and no place of the others is left
+pub none-left-over : (places others p : ℕ) → others < 2 ^ 64 → has others p ≡ true → has (bit_and places (18446744073709551615 - others)) p ≡ false
+none-left-over places others p fits h =
+    let off : has (18446744073709551615 - others) p ≡ false = has-not others p fits (low-place others p fits h) ∙ ap not h in
+    has-and places (18446744073709551615 - others) p ∙ (ap (λ b. has places p && b) off ∙ and-false (has places p))
 
 -- ---- the places that are asked
 

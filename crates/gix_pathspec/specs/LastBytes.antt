@@ -1,7 +1,8 @@
 -- What the last byte of a path tells of the specs that may match it.
-use Rattle.std.specs.Prelude.{◌≡◌, ◌≢◌, ℕ, ◌-◌, ◌<◌, Bool, true, false, ◌⊎◌, List, length, get_or, slice_get, Option, Some, None, IsFalse}
+use Rattle.std.specs.Prelude.{◌≡◌, ◌≢◌, ℕ, ◌<◌, Bool, true, false, ◌⊎◌, List, length, get_or, slice_get, Option, Some, None, IsFalse}
 use Rattle.std.specs.List.{list_any}
 use Rattle.pathspec_glob.specs.GlobCells.{has}
+use Rattle.pathspec_glob.specs.LastBytes.{last_byte}
 use Rattle.pathspec_heads.specs.Groups.{GroupedPlaces, IsInChain}
 use Rattle.gix_pathspec.specs.Bytes.{begins_with, is_wildcard}
 use Rattle.gix_pathspec.specs.Attributes.{Table}
@@ -9,10 +10,6 @@ use Rattle.gix_pathspec.specs.Specs.{Spec}
 use Rattle.gix_pathspec.specs.Matching.{spec_matches}
 use Rattle.gix_pathspec.specs.Prefixes.{head}
 use Rattle.gix_pathspec.specs.Search.{Numbered}
-
--- the last byte of a path that isn't empty
-abbrev pub last_byte : List ℕ → ℕ
-last_byte path = get_or path (length path - 1) 0
 
 -- a wildcard byte stands in the path at a place
 abbrev pub has_wildcard_at : List ℕ → ℕ → Bool

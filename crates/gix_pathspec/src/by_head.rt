@@ -321,34 +321,14 @@ fn first_match<L: LookUp>(
         scratch.effort = Effort { tested, compared };
         return Ok(None);
     };
+    let room = &mut scratch.specs;
+    let count = &mut tested;
     let found = match heads.bits(head) {
         Some(places) => {
             let left = Some(last_bytes.left(places, path.as_bytes(), heads.head_len(head)));
-            ask(
-                specs,
-                heads,
-                head,
-                left,
-                &mut scratch.specs,
-                &mut tested,
-                path,
-                is_dir,
-                look_up,
-            )
+            ask(specs, heads, head, left, room, count, path, is_dir, look_up)
         }
-        None => {
-            ask(
-                specs,
-                heads,
-                head,
-                None,
-                &mut scratch.specs,
-                &mut tested,
-                path,
-                is_dir,
-                look_up,
-            )
-        }
+        None => ask(specs, heads, head, None, room, count, path, is_dir, look_up),
     };
     scratch.effort = Effort { tested, compared };
     found

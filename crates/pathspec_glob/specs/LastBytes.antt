@@ -16,9 +16,13 @@ last_of xs = slice_get xs (length xs - 1)
 abbrev pub LastWants : List Token → ℕ → Type 0
 LastWants tokens byte = last_of tokens ≡ Some (One (Byte byte))
 
+-- the last byte of a text that isn't empty
+abbrev pub last_byte : List ℕ → ℕ
+last_byte text = get_or text (length text - 1) 0
+
 -- the text ends with this byte, up to case where it does not count
 abbrev pub ends_with_byte : Case → List ℕ → ℕ → Bool
-ends_with_byte case text byte = not (is_empty text) && is_same_byte case byte (get_or text (length text - 1) 0)
+ends_with_byte case text byte = not (is_empty text) && is_same_byte case byte (last_byte text)
 
 -- Every text that the glob matches ends with this byte.
 abbrev pub EndsMatches : GlobSource → ℕ → Type 0

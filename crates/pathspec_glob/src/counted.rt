@@ -1,14 +1,14 @@
 //! What a text is tested with, and the count of tests. Nothing else in this crate compares a byte of a text with what a glob wants.
-ghost use Rattle.std.specs.Prelude.{◌≡◌, ◌+◌, ◌*◌, ◌<◌, ◌^◌, bytes_eq, length, get_or, vec_len};
+ghost use Rattle.std.specs.Prelude.{◌≡◌, ◌+◌, ◌*◌, ◌<◌, ◌^◌, bytes_eq, length, get_or, vec_len, IfSome};
 ghost use Rattle.pathspec_glob.specs.Bytes.{fold_case};
 ghost use Rattle.pathspec_glob.specs.GlobForms.{form_view, tokens_view};
 ghost use Rattle.pathspec_glob.specs.declared.Case.{Case};
 ghost use Rattle.pathspec_glob.specs.Globs.{folds};
 ghost use Rattle.pathspec_glob.specs.GlobSteps.{token_takes};
-ghost use Rattle.pathspec_glob.specs.LastBytes.{last_of};
+ghost use Rattle.pathspec_glob.specs.LastBytes.{LastWants, last_of};
 
 use crate::scratch::Key;
-use crate::tokens::{FirstForm, Token};
+use crate::tokens::{FirstForm, OneByte, Token};
 use crate::{Case, Mode};
 use std::marker::Model;
 
@@ -86,6 +86,16 @@ impl CountedTokens {
         ensures { result ≡ length self.now.tokens }
     {
         self.all.len()
+    }
+
+    /// The byte that the last token wants, where it wants one of its own. No text is tested with it.
+    pub fn last_byte(&self) -> Option<u8>
+        ensures { IfSome result (λ byte. LastWants self.now.tokens byte) }
+    {
+        match self.all.last() {
+            Some(Token::One(OneByte::Byte(byte))) => Some(*byte),
+            _ => None,
+        }
     }
 
     /// Whether the token at a place takes a byte, alone or with others.

@@ -97,13 +97,13 @@ impl End {
         }
     }
 
-    /// The byte that the last token wants, where each wants a byte of its own.
+    /// The byte that the last token wants, where it wants one of its own.
     pub fn last_byte(&self) -> Option<u8>
         ensures { IfSome result (λ byte. LastWants self.now.tokens byte) }
     {
         match &self.tokens {
             EndTokens::Bytes(bytes, _) => bytes.last(),
-            EndTokens::Any(_) => None,
+            EndTokens::Any(tokens) => tokens.last_byte(),
         }
     }
 

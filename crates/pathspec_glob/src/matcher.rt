@@ -88,9 +88,9 @@ impl Glob {
         parts.head.len() + parts.middle.len() + parts.tail.len()
     }
 
-    /// The byte that every text ends with that the glob matches, up to case where it doesn't count: `s` for `src/*.rs`. None
-    /// where the bytes behind the last star aren't all the pattern's own, as for `*.[ch]` and `*.\c`, and where there is no
-    /// star or nothing behind it.
+    /// The byte that every text ends with that the glob matches, up to case where it doesn't count: `s` for `src/*.rs`, `d` for
+    /// `*[xq].md`. None where the last token wants no byte of its own, as of `*.[ch]` and `*.\c`, and where there is no star or
+    /// nothing behind it.
     ///
     /// No token is tested. So a caller who knows a text's last byte can leave out a glob that wants another, without a step.
     pub fn last_byte(&self) -> Option<u8>

@@ -76,7 +76,7 @@ fn first_set(mask: u64, none: usize) -> usize
     }
 }
 
-/// Whether the byte is one of `*`, `?`, `[` and `\`.
+/// Whether the byte is one of `*`, `?`, `[` and `\`, with which a wildcard begins in a glob.
 pub fn is_wildcard(byte: u8) -> bool
     ensures { result ≡ is_wildcard byte }
 {

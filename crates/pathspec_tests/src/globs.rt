@@ -1,7 +1,7 @@
 //! Globs by tables: their answers, their steps and the scratches that fit them.
 use pathspec_glob::Case::{self, Fold, Sensitive};
 use pathspec_glob::Mode::{self, PathAware, Shell};
-use pathspec_glob::{Glob, Scratch, first_wildcard};
+use pathspec_glob::{Glob, Scratch, first_wildcard, is_wildcard};
 use pathspec_test_support::support::{Row, assert_each, boxed_room};
 use std::alloc::{AllocError, Global};
 use std::test::Fail;
@@ -433,8 +433,8 @@ fn tokens_are_counted(rt: HostRuntime) -> Result<(), Fail> {
     assert_each(rt.alloc(), ROWS)
 }
 
-/// A pattern, its mode, and the byte that every text ends with that it matches, where the bytes behind its last star are all its
-/// own.
+/// A pattern, its mode, and the byte that every text ends with that it matches, where its last token is a byte of its own behind a
+/// star.
 struct Last(&'static str, Mode, Option<u8>);
 
 impl Row for Last {
@@ -464,10 +464,13 @@ fn the_last_byte_stands_behind_the_last_star(rt: HostRuntime) -> Result<(), Fail
         Last("**/x", PathAware, Some(b'x')),
         Last("**/x", Shell, Some(b'x')),
         Last("**/", Shell, Some(b'/')),
-        // Behind the star stand tokens that aren't bytes of the pattern.
+        // What stands between the last star and the last byte may be, too.
+        Last("*[xq].md", Shell, Some(b'd')),
+        Last("**/?.[ch]c", PathAware, Some(b'c')),
+        Last("*?c", Shell, Some(b'c')),
+        // The last token is no byte of the pattern.
         Last("*.[ch]", Shell, None),
         Last("*.[c]", Shell, None),
-        Last("*?c", Shell, None),
         Last("*.\\c", Shell, None),
         Last("*\\", Shell, None),
         Last("*[c", Shell, None),
@@ -518,6 +521,31 @@ fn the_first_wildcard_is_found(rt: HostRuntime) -> Result<(), Fail> {
         Wildcard("?", Some(0)),
         Wildcard("ab[", Some(2)),
         Wildcard("a\\b", Some(1)),
+    ];
+    assert_each(rt.alloc(), ROWS)
+}
+
+/// A byte, and whether a wildcard begins with it.
+struct Begins(u8, bool);
+
+impl Row for Begins {
+    fn holds(&self, _alloc: Global) -> Result<bool, Fail> {
+        Ok(is_wildcard(self.0) == self.1)
+    }
+}
+
+#[test]
+fn four_bytes_begin_wildcards(rt: HostRuntime) -> Result<(), Fail> {
+    const ROWS: &[Begins] = &[
+        Begins(b'*', true),
+        Begins(b'?', true),
+        Begins(b'[', true),
+        Begins(b'\\', true),
+        Begins(b']', false),
+        Begins(b'/', false),
+        Begins(b'a', false),
+        Begins(0, false),
+        Begins(b'*' | 0x80, false),
     ];
     assert_each(rt.alloc(), ROWS)
 }

@@ -1,5 +1,5 @@
 //! What the last byte of a path tells of specs with globs, like `*.rs`, before a match asks them.
-ghost use Rattle.std.specs.Prelude.{◌≡◌, ◌<◌, ℕ, Some, false, true, slice_get, IfOk, IsFalse, IsTrue};
+ghost use Rattle.std.specs.Prelude.{◌≡◌, ◌<◌, ℕ, length, Some, false, true, slice_get, IfOk, IsFalse, IsTrue};
 ghost use Rattle.std.specs.List.{list_any};
 ghost use Rattle.pathspec_glob.specs.GlobCells.{has};
 ghost use Rattle.gix_pathspec.specs.Bytes.{is_wildcard};
@@ -8,7 +8,7 @@ ghost use Rattle.gix_pathspec.specs.Prefixes.{head};
 ghost use Rattle.gix_pathspec.specs.Search.{Numbered};
 
 use crate::search::spec::CompiledSpec;
-use pathspec_parts::glob::first_wildcard;
+use pathspec_parts::glob::{first_wildcard, is_wildcard};
 use std::alloc::{AllocError, Global};
 use std::marker::Model;
 
@@ -75,6 +75,7 @@ impl LastBytes {
 fn without(places: u64, others: u64) -> u64
     ensures only { (p : ℕ) → has result p ≡ true → has places p ≡ true }
     ensures others { (p : ℕ) → has places p ≡ true → has result p ≡ false → has others p ≡ true }
+    ensures none { (p : ℕ) → has others p ≡ true → has result p ≡ false }
 {
     places & !others
 }
@@ -85,7 +86,7 @@ fn has_wildcard_at(path: &[u8], at: usize) -> bool
     ensures { result ≡ has_wildcard_at path.now at }
 {
     match path.get(at) {
-        Some(byte) => matches!(*byte, b'*' | b'?' | b'[' | b'\\'),
+        Some(byte) => is_wildcard(*byte),
         None => false,
     }
 }
@@ -117,7 +118,8 @@ fn have_plain_heads(specs: &[CompiledSpec]) -> bool
 /// # Errors
 /// Memory runs out.
 fn words(alloc: Global, specs: &[CompiledSpec]) -> Result<Vec<u64>, AllocError>
-    ensures { IfOk result (λ words. AreRefusingWords specs.now words.items) }
+    ensures all { IfOk result (λ words. length words.items ≡ 256) }
+    ensures refusing { IfOk result (λ words. AreRefusingWords specs.now words.items) }
 {
     let mut words = Vec::with_capacity(alloc, 256)?;
     for byte in 0..=u8::MAX {

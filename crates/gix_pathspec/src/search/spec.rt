@@ -273,7 +273,7 @@ impl CompiledSpec {
     }
 
     /// The byte that a path ends with that the spec's glob matches: `s` of `src/*.rs`. None where that may be any of several,
-    /// where there is no glob, and where case doesn't count.
+    /// where there is no glob or no star, and where case doesn't count.
     pub(super) fn last_byte(&self) -> Option<u8>
         ensures { IfSome result (EndsPaths self.now.spec) }
     {

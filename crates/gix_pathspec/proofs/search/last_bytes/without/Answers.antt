@@ -2,7 +2,7 @@ use Rattle.std.proofs.Common.{◌-◌, ◌∙◌, sym}
 use Rattle.std.proofs.lemmas.Bool.{and_parts}
 use Rattle.pathspec_glob.specs.GlobCells.{has}
 use Rattle.pathspec_glob.proofs.BitProofs.{has-and}
-use Rattle.gix_pathspec.proofs.LastByteProofs.{refused-else}
+use Rattle.gix_pathspec.proofs.LastByteProofs.{none-left-over, refused-else}
 use Rattle.gix_pathspec.proofs.search.last_bytes.without.Goals as goal
 
 pub returns-clause-only : goal.returns-clause-only
@@ -12,3 +12,6 @@ returns-clause-only c = λ p h.
 
 pub returns-clause-others : goal.returns-clause-others
 returns-clause-others c = λ p h out. refused-else c.args.places c.args.others p c.ranges.places.fits c.ranges.others.fits h out
+
+pub returns-clause-none : goal.returns-clause-none
+returns-clause-none c = λ p h. none-left-over c.args.places c.args.others p c.ranges.others.fits h

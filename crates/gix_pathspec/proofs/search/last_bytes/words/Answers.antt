@@ -9,8 +9,8 @@ loop-byte-preserved c = rw c.in_ok-push.ensures.items (record {
   refusing = words-more c.args.specs.now c.loop-byte.words.items c.loop-byte.byte c.refusing.result c.loop-byte.invariant.all c.loop-byte.invariant.refusing c.refusing.ensures;
 })
 
-pub returns : goal.returns
-returns c = elim c.loop-byte-test.branch [
+pub returns-clause-refusing : goal.returns-clause-refusing
+returns-clause-refusing c = elim c.loop-byte-test.branch [
   | else-loop-byte-test w ↦ rw w.words-is c.loop-byte.invariant.refusing
   | then-loop-byte-test+in_ok-push+else-byte-lt255 w ↦
       rw (w.words-is, w.in_ok-push.ensures.items) (words-more c.args.specs.now c.loop-byte.words.items c.loop-byte.byte w.refusing.result c.loop-byte.invariant.all c.loop-byte.invariant.refusing w.refusing.ensures)
