@@ -92,7 +92,7 @@ pub not_nil : (s : Spec) → always_matches s ≡ false → s.nil ≡ false
 not_nil s a = let p = or_parts s.nil (is_empty s.path) a in p.0
 
 -- a path that is the spec's, case aside where it doesn't count
-verbatim_is : (s : Spec) (path : List ℕ) (is_dir : Bool) → is_verbatim_match s path is_dir ≡ true → fold_case (ignores_case s) path ≡ fold_case (ignores_case s) s.path
+pub verbatim_is : (s : Spec) (path : List ℕ) (is_dir : Bool) → is_verbatim_match s path is_dir ≡ true → fold_case (ignores_case s) path ≡ fold_case (ignores_case s) s.path
 verbatim_is s path is_dir h =
     let f = ignores_case s in
     let p = and_parts (bytes_eq (fold_case f path) (fold_case f s.path)) (takes_kind s is_dir) h in (bytes_eq-Decides (fold_case f path) (fold_case f s.path)).0 p.0

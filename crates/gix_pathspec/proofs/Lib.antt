@@ -35,5 +35,5 @@ mod DirectoryRows
 mod DirectoryPremiseRows
 pub mod EffortProofs
 pub mod HeadSearchProofs
-pub mod LastByteProofs
+pub mod EndByteProofs
 pub mod ReachProofs

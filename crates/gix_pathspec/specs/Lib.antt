@@ -33,7 +33,7 @@ pub mod DirectoryLaws
 pub mod Room
 pub mod Compiled
 pub mod Found
-pub mod LastBytes
+pub mod EndBytes
 pub mod Effort
 pub mod Building
 pub mod Reach

@@ -14,13 +14,13 @@ ghost use Rattle.gix_pathspec.specs.Prefixes.{common_prefix};
 ghost use Rattle.gix_pathspec.specs.Search.{specs_of, BeginsCounts, IsFresh};
 ghost use Rattle.gix_pathspec.specs.Room.{HasRoom, Fits};
 ghost use Rattle.gix_pathspec.specs.Effort.{ArePlacesOf, candidate_count, IsCounted, IsLittleCompared, is_unasked};
-ghost use Rattle.gix_pathspec.specs.LastBytes.{AreAsked, AreLastBytes, IsAsked};
+ghost use Rattle.gix_pathspec.specs.EndBytes.{AreAsked, AreEndBytes, IsAsked};
 
 pub(crate) mod takers;
 
 use crate::search::MatchKind;
 use crate::search::counted::{CountedHeads, CountedSpecs, SpecScratch};
-use crate::search::last_bytes::LastBytes;
+use crate::search::end_bytes::EndBytes;
 use crate::search::texts::begins_with;
 use bstr::BStr;
 use pathspec_heads::places::{self, Deepest, next_bit};
@@ -33,7 +33,7 @@ use std::marker::Model;
 #[derive(Clone, Copy)]
 struct Effort {
     tested: usize,
-    compared: u128,
+    compared: usize,
 }
 
 /// No spec asked, and no head compared.
@@ -116,7 +116,7 @@ impl Scratch {
     }
 
     /// How many specs the last match asked whether they match the path; a spec at which the look-up failed is one. It asks none
-    /// that the path's last byte rules out: of `*.rs`, `a` it asks one about `a`. It is 0 before the first match, and where the
+    /// that the path's first or last byte rules out: of `*.rs`, `a` it asks one about `a`. It is 0 before the first match, and where the
     /// path was empty or lacked the common prefix. After [`Search::may_skip`](crate::search::Search::may_skip) it is how many
     /// excludes that call asked one by one.
     pub fn last_tested(&self) -> usize
@@ -130,7 +130,7 @@ impl Scratch {
     pub fn last_compared(&self) -> u128
         ensures { result ≡ self.now.counts.last_compared }
     {
-        self.effort.compared
+        self.effort.compared as u128
     }
 
     /// How many specs all matches and questions about directories in this scratch asked, modulo 2^128.
@@ -155,7 +155,7 @@ pub(crate) struct SpecsByHead {
     /// The places of the specs in search order, by their heads.
     heads: Box<CountedHeads>,
     common_prefix: Vec<u8>,
-    last_bytes: LastBytes,
+    end_bytes: EndBytes,
 }
 
 impl Model for SpecsByHead {
@@ -169,7 +169,7 @@ impl Model for SpecsByHead {
     ghost view = { λ s. s.specs };
 
     ghost invariant = { λ s. IsByHead s.specs (box_value s.heads) s.common_prefix.items
-        s.last_bytes };
+        s.end_bytes };
 }
 
 impl SpecsByHead {
@@ -177,23 +177,23 @@ impl SpecsByHead {
     ghost use Rattle.gix_pathspec.specs.Found.{is_directory, answer_found};
     ghost use Rattle.gix_pathspec.specs.Search.{answer};
 
-    /// Specs with their places, their common prefix, and what last bytes tell of them.
+    /// Specs with their places, their common prefix, and what first and last bytes tell of them.
     pub(crate) fn new(
         specs: CountedSpecs,
         heads: Box<CountedHeads>,
         common: Vec<u8>,
-        last_bytes: LastBytes,
+        end_bytes: EndBytes,
     ) -> SpecsByHead
         requires places { ArePlacesOf specs (box_value heads) }
         requires common { common.items ≡ common_prefix (specs_of specs) }
-        requires last_bytes { AreLastBytes specs last_bytes }
+        requires end_bytes { AreEndBytes specs end_bytes }
         ensures { result ≡ specs }
     {
         SpecsByHead {
             specs,
             heads,
             common_prefix: common,
-            last_bytes,
+            end_bytes,
         }
     }
 
@@ -274,10 +274,10 @@ impl SpecsByHead {
         let SpecsByHead {
             specs,
             heads,
-            last_bytes,
+            end_bytes,
             common_prefix: _,
         } = self;
-        first_match(specs, heads, last_bytes, scratch, path, is_dir, look_up)
+        first_match(specs, heads, end_bytes, scratch, path, is_dir, look_up)
     }
 
     /// Whether the answer for a path needs no look at the specs: it is empty, or lacks the common prefix.
@@ -290,18 +290,18 @@ impl SpecsByHead {
 }
 
 /// The place of the first spec that matches a path, and how it does. It asks only specs whose head begins the path, and of
-/// those only the ones that its last byte leaves.
+/// those only the ones that its first and its last byte leave.
 fn first_match<L: LookUp>(
     specs: &CountedSpecs,
     heads: &CountedHeads,
-    last_bytes: &LastBytes,
+    end_bytes: &EndBytes,
     scratch: &mut Scratch,
     path: BStr<'_>,
     is_dir: bool,
     look_up: &mut L,
 ) -> Result<Option<(usize, MatchKind)>, L::Fault>
     requires grouped { ArePlacesOf specs.now heads.now }
-    requires last_bytes { AreLastBytes specs.now last_bytes.now }
+    requires end_bytes { AreEndBytes specs.now end_bytes.now }
     requires fits { Fits specs.now scratch.old }
     ensures room { scratch.new.room ≡ scratch.old.room }
     ensures first { IfOk result (λ found.
@@ -325,7 +325,7 @@ fn first_match<L: LookUp>(
     let count = &mut tested;
     let found = match heads.bits(head) {
         Some(places) => {
-            let left = Some(last_bytes.left(places, path.as_bytes(), heads.head_len(head)));
+            let left = Some(end_bytes.left(places, path.as_bytes(), heads.head_len(head)));
             ask(specs, heads, head, left, room, count, path, is_dir, look_up)
         }
         None => ask(specs, heads, head, None, room, count, path, is_dir, look_up),

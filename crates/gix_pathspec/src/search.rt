@@ -1,9 +1,9 @@
 //! Searches: specs that match paths together (gitglossary, "pathspec").
 pub(crate) mod counted;
 mod directories;
+pub(crate) mod end_bytes;
 mod found;
 mod init;
-pub(crate) mod last_bytes;
 mod lines;
 mod matching;
 mod patterns;

@@ -24,6 +24,7 @@ mod wildcards;
 pub use directory_glob::DirectoryGlob;
 pub use matcher::Glob;
 pub use scratch::Scratch;
+pub use tokens::is_same_byte;
 pub use wildcards::is_wildcard;
 
 /// What the wildcards of a glob may take.

@@ -359,7 +359,7 @@ impl OneByte {
     }
 }
 
-/// Whether the bytes are one, up to case where it doesn't count.
+/// Whether two bytes are one, up to ASCII case where it doesn't count.
 pub fn is_same_byte(case: Case, own: u8, byte: u8) -> bool
     ensures { result ≡ is_same_byte case own byte }
 {

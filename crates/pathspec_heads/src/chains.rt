@@ -33,7 +33,7 @@ pub struct Deepest {
     /// The last head that begins the text, if one does.
     pub head: Option<usize>,
     /// How many heads were compared with the text.
-    pub compared: u128,
+    pub compared: usize,
 }
 
 /// The heads below `low` aren't behind a text, those from `high` on are, and the last one below `low` agrees with the
@@ -328,7 +328,7 @@ impl Chains {
         }
         Deepest {
             head: last_front(self.heads.texts(), &self.links, between.low, between.agreed),
-            compared: compared as u128,
+            compared,
         }
     }
 

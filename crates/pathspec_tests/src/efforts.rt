@@ -84,8 +84,8 @@ fn only_specs_whose_head_begins_the_path_are_asked(rt: HostRuntime) -> Result<()
         Asks(":!a", "d", "a", Some((1, ALWAYS)), 0, 0),
         Asks(":!a", "d", "d/a", Some((0, VERBATIM)), 1, 1),
         // Specs without case stand at their prefix directory.
-        Asks(":(icase)A :(icase)B", "", "b", Some((1, VERBATIM)), 1, 2),
-        Asks(":(icase)A :(icase)B", "", "c", None, 0, 2),
+        Asks(":(icase)A :(icase)B", "", "b", Some((1, VERBATIM)), 1, 1),
+        Asks(":(icase)A :(icase)B", "", "c", None, 0, 0),
         Asks(":(icase)A :(icase)B", "d", "d/b", Some((1, VERBATIM)), 1, 2),
         Asks(":(icase)A :(icase)B", "d", "d/c", None, 0, 2),
         Asks(":(icase)A :(icase)B", "d", "D/b", None, 0, 0),
@@ -127,11 +127,49 @@ fn globs_that_end_otherwise_are_not_asked(rt: HostRuntime) -> Result<(), Fail> {
         Asks("*.[ch] *.rs", "", "a.md", None, 1, 1),
         Asks("*.\\c *.rs", "", "a.md", None, 1, 1),
         Asks("a* *.rs", "", "a.md", Some((0, WILDCARD)), 1, 1),
-        // Where case doesn't count, no last byte tells; where it counts, another case is another byte.
-        Asks(":(icase)*.RS *.md", "", "a.c", None, 1, 1),
-        Asks(":(icase)*.RS *.md", "", "a.rs", Some((0, WILDCARD)), 1, 1),
-        Asks(":(icase)*.RS *.md", "", "a.md", Some((1, WILDCARD)), 2, 2),
+        // Where case counts, a byte in another case is another byte; where it doesn't, it is the same.
         Asks("*.rs", "", "a.RS", None, 0, 0),
+        Asks(":(icase)*.RS *.md", "", "a.c", None, 0, 0),
+        Asks(":(icase)*.RS *.md", "", "a.rs", Some((0, WILDCARD)), 1, 1),
+        Asks(":(icase)*.RS *.md", "", "a.rS", Some((0, WILDCARD)), 1, 1),
+        Asks(":(icase)*.RS *.md", "", "a.md", Some((1, WILDCARD)), 1, 1),
+        Asks(":(icase)*.RS *.md", "", "*.rs/a", Some((0, PREFIX)), 1, 2),
+        Asks(":(icase,glob)**/T*.c", "", "a/t.h", None, 0, 0),
+        Asks(":(icase,glob)**/T*.c", "", "a/t.C", Some((0, WILDCARD)), 1, 1),
+        // Without case, a last byte tells only of a glob that begins with a wildcard, and not in a prefix directory.
+        Asks(":(icase)src/*.c", "", "src/a.h", None, 1, 1),
+        Asks(":(icase)*.c", "d", "d/a.h", None, 1, 1),
+    ];
+    assert_each(rt.alloc(), ROWS)
+}
+
+#[test]
+#[rattlefmt::skip]
+fn specs_without_case_that_begin_otherwise_are_not_asked(rt: HostRuntime) -> Result<(), Fail> {
+    const ROWS: &[Asks] = &[
+        Asks(":(icase)src :(icase)docs", "", "a.c", None, 0, 0),
+        Asks(":(icase)src :(icase)docs", "", "SRC/a", Some((0, PREFIX)), 1, 1),
+        Asks(":(icase)src :(icase)docs", "", "Docs", Some((1, VERBATIM)), 1, 1),
+        Asks(":(icase)src :(icase)docs", "", "sxx", None, 1, 1),
+        Asks(":(icase)lib/N*.c *.rs", "", "LIB/n.c", Some((0, WILDCARD)), 1, 1),
+        Asks(":(icase)lib/N*.c *.rs", "", "lib/n.h", None, 1, 1),
+        Asks(":(icase)lib/N*.c *.rs", "", "a.rs", Some((1, WILDCARD)), 1, 1),
+        Asks(":(icase)lib/N*.c *.rs", "", "LIB/N*.C/x", Some((0, PREFIX)), 1, 1),
+        // Excludes, too, and beside specs with case.
+        Asks("a :(icase,exclude)B", "", "a/x", Some((0, PREFIX)), 1, 1),
+        Asks("a :(icase,exclude)A/X", "", "a/x", Some((1, VERBATIM)), 1, 1),
+        Asks(":(icase,exclude)B", "", "a", Some((1, ALWAYS)), 0, 0),
+        // A wildcard, a nil spec and an empty path say nothing of the first byte.
+        Asks(":(icase)?rc", "", "a", None, 1, 1),
+        Asks(":(icase)b :", "", "a", Some((1, ALWAYS)), 1, 1),
+        Asks(":(icase)b", "", "", Some((0, ALWAYS)), 0, 0),
+        // Only letters have another case.
+        Asks(":(icase)@a", "", "`a", None, 0, 0),
+        Asks(":(icase)@a", "", "@A", Some((0, VERBATIM)), 1, 1),
+        Asks(":(icase){a", "", "[a", None, 0, 0),
+        // In a prefix directory the head tells as much.
+        Asks(":(icase)A :(icase)B", "d", "d/c", None, 2, 2),
+        Asks(":(icase)A *.rs", "d", "d/a", Some((0, VERBATIM)), 1, 1),
     ];
     assert_each(rt.alloc(), ROWS)
 }

@@ -19,7 +19,7 @@ use std::test::Fail;
 const TEXT: &str = ":(top,icase,attr:a=x\\,y)p/";
 
 /// Specs, the second of which leaves the directory `a/b` in which all are given. A walk asks the third by itself which
-/// directories it takes, and the last byte of a path tells of the fourth.
+/// directories it takes, the first byte of a path tells of the first, and the last of the fourth.
 const TEXTS: &[&str] = &[TEXT, "../c", ":(exclude,glob)d/**", "*.c"];
 
 /// A call that makes a pattern.

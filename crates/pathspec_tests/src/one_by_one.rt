@@ -7,34 +7,36 @@ use pathspec_test_support::searches::{Settled, search_of_bytes, settled};
 use std::alloc::Global;
 use std::test::Fail;
 
-/// A spec as it is given, as the include that fits the same paths, and the byte that its glob wants at their end, if it is the
-/// pattern's own, stands behind a star, and case counts.
-struct Given(&'static [u8], &'static [u8], Option<u8>);
+/// A spec as it is given, as the include that fits the same paths, and the bytes that it wants at their ends: of a spec without
+/// case the first of its text, if it is no wildcard; and the last of its glob, if it is the pattern's own and stands behind a
+/// star.
+struct Given(&'static [u8], &'static [u8], Option<u8>, Option<u8>);
 
 /// Specs whose heads begin one another, with wildcards at every place, without case, with bytes that are no text, and
 /// the nil spec.
 const SPECS: &[Given] = &[
-    Given(b"a", b"a", None),
-    Given(b"a/a", b"a/a", None),
-    Given(b"a/a/ab", b"a/a/ab", None),
-    Given(b":!a/a", b"a/a", None),
-    Given(b":!a/", b"a/", None),
-    Given(b":!ab", b"ab", None),
-    Given(b"a/*.c", b"a/*.c", Some(b'c')),
-    Given(b"*.c", b"*.c", Some(b'c')),
-    Given(b":(exclude)*b", b"*b", Some(b'b')),
-    Given(b"[a]/a", b"[a]/a", None),
-    Given(b":(exclude)?", b"?", None),
-    Given(b":", b":", None),
-    Given(b":(icase)A/A", b":(icase)A/A", None),
-    Given(b":(icase,exclude)a/B", b":(icase)a/B", None),
-    Given(b":(icase)B", b":(icase)B", None),
-    Given(b":(literal)a*", b":(literal)a*", None),
-    Given(b"a\xff", b"a\xff", None),
-    Given(b":(exclude)\xff\x80", b"\xff\x80", None),
-    Given(b":(attr:gen)x", b":(attr:gen)x", None),
-    Given(b":(exclude,glob)**/x", b":(glob)**/x", Some(b'x')),
-    Given(b":(top)b", b":(top)b", None),
+    Given(b"a", b"a", None, None),
+    Given(b"a/a", b"a/a", None, None),
+    Given(b"a/a/ab", b"a/a/ab", None, None),
+    Given(b":!a/a", b"a/a", None, None),
+    Given(b":!a/", b"a/", None, None),
+    Given(b":!ab", b"ab", None, None),
+    Given(b"a/*.c", b"a/*.c", None, Some(b'c')),
+    Given(b"*.c", b"*.c", None, Some(b'c')),
+    Given(b":(exclude)*b", b"*b", None, Some(b'b')),
+    Given(b"[a]/a", b"[a]/a", None, None),
+    Given(b":(exclude)?", b"?", None, None),
+    Given(b":", b":", None, None),
+    Given(b":(icase)A/A", b":(icase)A/A", Some(b'A'), None),
+    Given(b":(icase,exclude)a/B", b":(icase)a/B", Some(b'a'), None),
+    Given(b":(icase)B", b":(icase)B", Some(b'B'), None),
+    Given(b":(icase)*.C", b":(icase)*.C", None, Some(b'c')),
+    Given(b":(literal)a*", b":(literal)a*", None, None),
+    Given(b"a\xff", b"a\xff", None, None),
+    Given(b":(exclude)\xff\x80", b"\xff\x80", None, None),
+    Given(b":(attr:gen)x", b":(attr:gen)x", None, None),
+    Given(b":(exclude,glob)**/x", b":(glob)**/x", None, Some(b'x')),
+    Given(b":(top)b", b":(top)b", None, None),
 ];
 
 /// Paths of any bytes, shorter and longer than all heads.
@@ -64,6 +66,7 @@ const PATHS: &[&[u8]] = &[
     b"x",
     b"c.c",
     b"a/c.c",
+    b"a/D.C",
     b"[a]/a",
     b"a/*.c/x",
     b"*b/c",
@@ -89,7 +92,9 @@ struct Answer {
 struct Alone {
     given: Vec<u8>,
     is_exclude: bool,
-    /// The byte that its glob wants at the end of a path.
+    ignores_case: bool,
+    /// The bytes that it wants at the ends of a path.
+    first: Option<u8>,
     last: Option<u8>,
     search: Box<Search>,
     /// Its answers to each of the paths.
@@ -110,10 +115,22 @@ impl Alone {
         self.search.common_prefix().as_bytes()
     }
 
-    /// Whether it is asked about a path: its head begins it, and where last bytes tell, it may end so.
+    /// Whether a byte is the one that it wants, or it wants none.
+    fn takes(&self, wanted: Option<u8>, byte: Option<&u8>) -> bool {
+        match (wanted, byte) {
+            (Some(wanted), Some(byte)) if self.ignores_case => wanted.eq_ignore_ascii_case(byte),
+            (Some(wanted), Some(byte)) => wanted == *byte,
+            _ => true,
+        }
+    }
+
+    /// Whether it is asked about a path: its head begins it, it may begin so, and where last bytes tell, it may end so. Without
+    /// case, the bytes tell nothing in a prefix directory.
     fn is_asked(&self, path: &[u8], last_tells: bool) -> bool {
-        let ends = !last_tells || self.last.is_none() || self.last == path.last().copied();
-        ends && path.starts_with(self.head())
+        let tells = !self.ignores_case || self.head().is_empty();
+        let begins = !tells || self.takes(self.first, path.first());
+        let ends = !tells || !last_tells || self.takes(self.last, path.last());
+        begins && ends && path.starts_with(self.head())
     }
 
     /// Whether it lets something at or below the path with a number match.
@@ -155,7 +172,9 @@ fn ask_alone(alloc: Global, spec: &Given, asked: Asked) -> Result<Alone, Fail> {
     Ok(Alone {
         given: Vec::from_slice(alloc, spec.0)?,
         is_exclude: spec.0 != spec.1,
-        last: spec.2,
+        ignores_case: spec.0.starts_with(b":(icase"),
+        first: spec.2,
+        last: spec.3,
         search,
         answers,
     })

@@ -21,7 +21,7 @@ ghost use Rattle.gix_pathspec.specs.SelectionLaws.{NoNilPrefix, SpecPathsAreByte
 use crate::by_head::SpecsByHead;
 use crate::by_head::takers::TakersByHead;
 use crate::search::counted::{CountedHeads, CountedSpecs, CountedTakers};
-use crate::search::last_bytes::LastBytes;
+use crate::search::end_bytes::EndBytes;
 use crate::search::reach::Reach;
 use crate::search::scratch::boxed_scratch;
 use crate::search::spec::CompiledSpec;
@@ -349,8 +349,8 @@ fn by_head(alloc: Global, specs: Vec<CompiledSpec>) -> Result<SpecsByHead, Alloc
 {
     let common = common_prefix(alloc, specs.as_slice())?;
     let heads = places_by_head(alloc, specs.as_slice())?;
-    let last_bytes = LastBytes::of_specs(alloc, specs.as_slice())?;
-    Ok(SpecsByHead::new(CountedSpecs::new(specs), heads, common, last_bytes))
+    let end_bytes = EndBytes::of_specs(alloc, specs.as_slice())?;
+    Ok(SpecsByHead::new(CountedSpecs::new(specs), heads, common, end_bytes))
 }
 
 /// The takers among these specs, by their heads.

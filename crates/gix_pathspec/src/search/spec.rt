@@ -7,13 +7,14 @@ ghost use Rattle.gix_pathspec.specs.Patterns.{pattern_spec};
 ghost use Rattle.gix_pathspec.specs.Room.{glob_of};
 ghost use Rattle.gix_pathspec.specs.Specs.{has_wildcard};
 
+use crate::search::end_bytes::PathEnd;
 use crate::search::matching;
 use crate::{Error, MagicSignature, Pattern, SearchMode};
 use bitflags::Flags;
 use pathspec_heads::paths::{PathTable, SpecPath};
 use pathspec_heads::tables::SpecStem;
 use pathspec_parts::attributes::Outcome;
-use pathspec_parts::glob::{Glob, Mode, Scratch, first_wildcard};
+use pathspec_parts::glob::{Glob, Mode, Scratch, first_wildcard, is_same_byte};
 use std::alloc::{AllocError, Global};
 use std::fmt;
 use std::marker::Model;
@@ -52,7 +53,7 @@ impl CompiledSpec {
     ghost use Rattle.gix_pathspec.specs.Patterns.{pattern_spec};
     ghost use Rattle.gix_pathspec.specs.Specs.{Spec, is_include, ignores_case, wants_directory, always_matches, has_wildcard};
     ghost use Rattle.gix_pathspec.specs.Prefixes.{stem, head};
-    ghost use Rattle.gix_pathspec.specs.LastBytes.{EndsPaths, Refuses};
+    ghost use Rattle.gix_pathspec.specs.EndBytes.{BeginsPaths, EndsPaths, Refuses, Wants};
     ghost use Rattle.gix_pathspec.specs.PathTables.{IsPathTableOf};
     ghost use Rattle.gix_pathspec.specs.Plain.{has_one_case};
     ghost use Rattle.gix_pathspec.specs.Pruning.{stem_of, is_total_exclude};
@@ -272,23 +273,46 @@ impl CompiledSpec {
         self.pattern.always_matches()
     }
 
-    /// The byte that a path ends with that the spec's glob matches: `s` of `src/*.rs`. None where that may be any of several,
-    /// where there is no glob or no star, and where case doesn't count.
+    /// The byte that each path begins with that the spec matches, up to case where it doesn't count: the first of its stem. None
+    /// where the stem is empty, and for a nil spec.
+    pub(super) fn first_byte(&self) -> Option<u8>
+        ensures { IfSome result (BeginsPaths self.now.spec) }
+    {
+        if self.pattern.is_nil() {
+            return None;
+        }
+        self.stem().first().copied()
+    }
+
+    /// The byte that a path ends with that the spec's glob matches, up to case where it doesn't count: `s` of `src/*.rs`. None
+    /// where that may be any of several, where there is no glob or no star, and where the glob's first wildcard doesn't stand
+    /// right behind the head, as in `:(icase)src/*.rs`.
     pub(super) fn last_byte(&self) -> Option<u8>
         ensures { IfSome result (EndsPaths self.now.spec) }
     {
         match &self.glob {
-            Some(glob) if !self.ignores_case() => glob.last_byte(),
+            Some(glob) if self.head().len() == self.stem => glob.last_byte(),
             _ => None,
         }
     }
 
-    /// Whether the spec is known to match no path that ends with this byte, but for those that its own text begins.
-    pub(super) fn refuses(&self, byte: u8) -> bool
-        ensures { IsTrue result → Refuses self.now.spec byte }
+    /// The byte that the spec wants at an end of a path, where it is known.
+    fn wanted(&self, end: PathEnd) -> Option<u8>
+        ensures { IfSome result (Wants end self.now.spec) }
     {
-        match self.last_byte() {
-            Some(last) => byte != last,
+        match end {
+            PathEnd::First => self.first_byte(),
+            PathEnd::Last => self.last_byte(),
+        }
+    }
+
+    /// Whether the spec is known to match no path that has this byte at this end, but for a last byte of those that its own text
+    /// begins.
+    pub(super) fn refuses(&self, end: PathEnd, byte: u8) -> bool
+        ensures { IsTrue result → Refuses end self.now.spec byte }
+    {
+        match self.wanted(end) {
+            Some(wanted) => !is_same_byte(matching::case_of(&self.pattern), wanted, byte),
             None => false,
         }
     }

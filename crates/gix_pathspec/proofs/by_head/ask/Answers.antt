@@ -11,7 +11,7 @@ use Rattle.gix_pathspec.specs.Prefixes.{head}
 use Rattle.gix_pathspec.specs.Room.{HasRoom}
 use Rattle.gix_pathspec.specs.Search.{Numbered}
 use Rattle.gix_pathspec.specs.Effort.{heads_in_order}
-use Rattle.gix_pathspec.specs.LastBytes.{AreAsked, IsAsked}
+use Rattle.gix_pathspec.specs.EndBytes.{AreAsked, IsAsked}
 use Rattle.gix_pathspec.proofs.EffortProofs.{match-here, match-later, same-table}
 use Rattle.gix_pathspec.proofs.HeadSearchProofs.{next-asked, none-left, few-more}
 use Rattle.gix_pathspec.proofs.by_head.ask.Goals as goal

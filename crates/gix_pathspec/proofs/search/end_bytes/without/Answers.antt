@@ -2,8 +2,8 @@ use Rattle.std.proofs.Common.{◌-◌, ◌∙◌, sym}
 use Rattle.std.proofs.lemmas.Bool.{and_parts}
 use Rattle.pathspec_glob.specs.GlobCells.{has}
 use Rattle.pathspec_glob.proofs.BitProofs.{has-and}
-use Rattle.gix_pathspec.proofs.LastByteProofs.{none-left-over, refused-else}
-use Rattle.gix_pathspec.proofs.search.last_bytes.without.Goals as goal
+use Rattle.gix_pathspec.proofs.EndByteProofs.{none-left-over, refused-else}
+use Rattle.gix_pathspec.proofs.search.end_bytes.without.Goals as goal
 
 pub returns-clause-only : goal.returns-clause-only
 returns-clause-only c = λ p h.

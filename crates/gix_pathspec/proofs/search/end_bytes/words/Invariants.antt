@@ -1,10 +1,10 @@
 use Rattle.std.proofs.Common.{◌≡◌, length}
-use Rattle.gix_pathspec.specs.LastBytes.{AreRefusingWords}
-use Rattle.gix_pathspec.proofs.search.last_bytes.words.Given as goal
+use Rattle.gix_pathspec.specs.EndBytes.{AreRefusingWords}
+use Rattle.gix_pathspec.proofs.search.end_bytes.words.Given as goal
 
 abbrev pub invariant-loop-byte : goal.invariant-loop-byte
 invariant-loop-byte l =
     record {
       all : length l.words.items ≡ l.byte;
-      refusing : AreRefusingWords l.specs l.words.items;
+      refusing : AreRefusingWords l.end l.specs l.words.items;
     }
