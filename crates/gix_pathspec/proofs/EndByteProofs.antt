@@ -1,5 +1,5 @@
 -- What a path that a spec matches begins and ends with, and which places are left to ask by that.
-use Rattle.std.proofs.Common.{◌≡◌, ℕ, zero, suc, ◌-◌, ◌^◌, ◌*◌, ◌%◌, ◌<◌, ◌≤◌, ◌==◌, bit_and, bit_or, w64, Bool, true, false, not, ◌&&◌, ◌||◌, inl, inr, refl, sym, ◌∙◌, ap, subst, arith, List, [], ◌∷◌, ◌++◌, map, cond, length, length-append, get_or, Option, Some, None, slice_get, IfSome}
+use Rattle.std.proofs.Common.{◌≡◌, ℕ, zero, suc, ◌-◌, ◌^◌, ◌*◌, ◌%◌, ◌<◌, ◌≤◌, ◌==◌, bit_and, w64, Bool, true, false, not, ◌&&◌, ◌||◌, inl, inr, refl, sym, ◌∙◌, ap, subst, arith, List, [], ◌∷◌, ◌++◌, map, cond, length, length-append, get_or, Option, Some, None, slice_get, IfSome}
 use Rattle.std.proofs.lemmas.Bool.{and_parts, or_parts, cases_Bool, both_ways, cases_eq, cases_lt}
 use Rattle.std.proofs.lemmas.Bool.Decides.{nat_tests}
 use Rattle.std.proofs.lemmas.Nat.Bits.{bit_at_above, bit_at_set_other}
@@ -15,7 +15,7 @@ use Rattle.pathspec_glob.specs.GlobCells.{has}
 use Rattle.pathspec_glob.specs.GlobRelation.{is_same_byte}
 use Rattle.pathspec_glob.specs.Globs.{GlobSource}
 use Rattle.pathspec_glob.specs.LastBytes.{last_byte, EndsMatches}
-use Rattle.pathspec_glob.proofs.BitProofs.{has-and, has-not}
+use Rattle.pathspec_glob.proofs.BitProofs.{has-and, has-or, has-not, has-zero}
 use Rattle.pathspec_heads.specs.Heads.{head_at, IsChainOf}
 use Rattle.pathspec_heads.specs.Groups.{GroupedPlaces, HasBitsOf, IsInChain}
 use Rattle.pathspec_heads.proofs.HeadProofs.{begins-itself}
@@ -31,7 +31,7 @@ use Rattle.gix_pathspec.specs.Prefixes.{stem, head}
 use Rattle.gix_pathspec.specs.Room.{glob_in_mode, glob_of}
 use Rattle.gix_pathspec.specs.Search.{Numbered}
 use Rattle.gix_pathspec.specs.Effort.{ArePlacesOf, heads_in_order}
-use Rattle.gix_pathspec.specs.EndBytes.{first_byte, has_wildcard_at, BeginsPaths, EndsPaths, Refuses, AreRefusing, AreRefusingWords, EndWords, AreEndBytes, IsLeftOut, IsAsked, AreAsked}
+use Rattle.gix_pathspec.specs.EndBytes.{first_byte, has_wildcard_at, BeginsPaths, EndsPaths, Refuses, LacksOnlyRefusing, LackOnlyRefusing, EndWords, AreEndBytes, IsLeftOut, IsAsked, AreAsked}
 use Rattle.gix_pathspec.proofs.HeadProofs.{stem-at_false, verbatim_is, fits-ways, first_two, fitted_begins_stem}
 use Rattle.gix_pathspec.proofs.BeginsProofs.{IsBelow-from_is_below}
 use Rattle.gix_pathspec.proofs.EffortProofs.{at_place, unmatched-headless}
@@ -212,21 +212,46 @@ plain-behind path deepest x in_path in_deepest plain behind = elim (cases_lt (le
 
 -- ---- words of places
 
+-- all places are left
+pub all-left : (p : ℕ) → p < 64 → has 18446744073709551615 p ≡ true
+all-left p low = has-not 0 p (omega arith) low ∙ ap not (has-zero p)
+
+-- of two tests that don't both hold, where the first holds
+other-off : (a b : Bool) → a ≡ true → (a && b) ≡ false → b ≡ false
+other-off true b e f = f
+other-off false b e f = cc
+
+-- a bit is at its place alone
+bit-alone : (place p : ℕ) → place < 64 → (p ≡ place → ⊥) → has (1 * 2 ^ place % 18446744073709551616) p ≡ false
+bit-alone place p low d =
+    let bit = 1 * 2 ^ place % 18446744073709551616 in
+    (or_parts (has 0 p) (has bit p) (sym (has-or 0 bit p) ∙ (ap (λ x. x == 1) (bit_at_set_other w64 0 place low p d) ∙ has-zero p))).1
+
 -- one more spec that refuses the byte
-pub refusing-more : (end : PathEnd) (ns : List Numbered) (byte word place : ℕ) → place < 64 → AreRefusing end ns byte word → ((n : Numbered) → slice_get ns place ≡ Some n → Refuses end n.spec byte)
-    → AreRefusing end ns byte (bit_or word (1 * 2 ^ place % 18446744073709551616))
-refusing-more end ns byte word place low so_far refuses p h n is = elim (cases_eq p place) [
+pub lacks-more : (end : PathEnd) (ns : List Numbered) (byte word place : ℕ) → place < 64 → LacksOnlyRefusing end ns byte word → ((n : Numbered) → slice_get ns place ≡ Some n → Refuses end n.spec byte)
+    → LacksOnlyRefusing end ns byte (bit_and word (18446744073709551615 - 1 * 2 ^ place % 18446744073709551616))
+lacks-more end ns byte word place low so_far refuses p within off n is = elim (cases_eq p place) [
   | inl e ↦ refuses n (subst (λ i. slice_get ns i ≡ Some n) e is)
-  | inr d ↦ so_far p (sym (ap (λ x. x == 1) (bit_at_set_other w64 word place low p d)) ∙ h) n is
+  | inr d ↦
+      let bit = 1 * 2 ^ place % 18446744073709551616 in
+      let rest = 18446744073709551615 - bit in
+      let on : has rest p ≡ true = has-not bit p (omega arith) within ∙ ap not (bit-alone place p low d) in
+      so_far p within (other-off (has rest p) (has word p) on (and-swap (has rest p) (has word p) ∙ (sym (has-and word rest p) ∙ off))) n is
 ]
+  where
+    and-swap : (a b : Bool) → (a && b) ≡ (b && a)
+    and-swap true true = refl
+    and-swap true false = refl
+    and-swap false true = refl
+    and-swap false false = refl
 
 -- one more word
-pub words-more : (end : PathEnd) (ns : List Numbered) (words : List ℕ) (byte word : ℕ) → length words ≡ byte → AreRefusingWords end ns words → AreRefusing end ns byte word → AreRefusingWords end ns (words ++ word ∷ [])
+pub words-more : (end : PathEnd) (ns : List Numbered) (words : List ℕ) (byte word : ℕ) → length words ≡ byte → LackOnlyRefusing end ns words → LacksOnlyRefusing end ns byte word → LackOnlyRefusing end ns (words ++ word ∷ [])
 words-more end ns words byte word all so_far new b l = elim (cases_eq b byte) [
-  | inl e ↦ subst (λ w. AreRefusing end ns b w) (sym (ap (λ i. get_or (words ++ word ∷ []) i 0) (e ∙ sym all) ∙ get_or-append_seam words word [] 0)) (subst (λ i. AreRefusing end ns i word) (sym e) new)
+  | inl e ↦ subst (λ w. LacksOnlyRefusing end ns b w) (sym (ap (λ i. get_or (words ++ word ∷ []) i 0) (e ∙ sym all) ∙ get_or-append_seam words word [] 0)) (subst (λ i. LacksOnlyRefusing end ns i word) (sym e) new)
   | inr d ↦
       let low : b < length words = omega (arith, l, d, all, length-append words (word ∷ [])) in
-      subst (λ w. AreRefusing end ns b w) (sym (get_or_append_left words (word ∷ []) 0 b low)) (so_far b low)
+      subst (λ w. LacksOnlyRefusing end ns b w) (sym (get_or_append_left words (word ∷ []) 0 b low)) (so_far b low)
 ]
 
 -- a place is low
@@ -236,26 +261,13 @@ low-place places p fits h = elim (cases_lt p 64) [
   | inr g ↦ absurd (both_ways (has places p) (ap (λ x. x == 1) (bit_at_above places 64 p fits g)) h)
 ]
 
--- a place that isn't left is one of the others
-pub refused-else : (places others p : ℕ) → places < 2 ^ 64 → others < 2 ^ 64 → has places p ≡ true → has (bit_and places (18446744073709551615 - others)) p ≡ false → has others p ≡ true
-refused-else places others p fits fits' h out =
-    let low : p < 64 = low-place places p fits h in
-    let off : has (18446744073709551615 - others) p ≡ false = rest-of (has places p) (has (18446744073709551615 - others) p) h (sym (has-and places (18446744073709551615 - others) p) ∙ out) in
-    rest-not (has others p) (sym (has-not others p fits' low) ∙ off)
-  where
-    rest-of : (a b : Bool) → a ≡ true → (a && b) ≡ false → b ≡ false
-    rest-of true b e f = f
-    rest-of false b e f = cc
+-- a place that isn't kept isn't left
+pub kept-else : (places left p : ℕ) → has places p ≡ true → has (bit_and places left) p ≡ false → has left p ≡ false
+kept-else places left p h out = other-off (has places p) (has left p) h (sym (has-and places left p) ∙ out)
 
-    rest-not : (b : Bool) → not b ≡ false → b ≡ true
-    rest-not true e = refl
-    rest-not false e = cc
-
--- and no place of the others is left
-pub none-left-over : (places others p : ℕ) → others < 2 ^ 64 → has others p ≡ true → has (bit_and places (18446744073709551615 - others)) p ≡ false
-none-left-over places others p fits h =
-    let off : has (18446744073709551615 - others) p ≡ false = has-not others p fits (low-place others p fits h) ∙ ap not h in
-    has-and places (18446744073709551615 - others) p ∙ (ap (λ b. has places p && b) off ∙ and-false (has places p))
+-- and one that isn't left isn't kept
+pub kept-none : (places left p : ℕ) → has left p ≡ false → has (bit_and places left) p ≡ false
+kept-none places left p h = has-and places left p ∙ (ap (λ b. has places p && b) h ∙ and-false (has places p))
 
 -- ---- the places that are asked
 
@@ -313,13 +325,13 @@ module _ (ns : List Numbered) (places : GroupedPlaces) (grouped : ArePlacesOf ns
 
     left-out : (p : ℕ) → has word p ≡ true → has left p ≡ false → (n : Numbered) → slice_get ns p ≡ Some n → (table : Table) → spec_matches table n.spec path is_dir ≡ false
     left-out p in_word out n is table = elim (others p in_word out) [
-      | inl o ↦ out-by-first n (end_bytes.first (first_byte path) o.0 p o.1 n is) table
+      | inl o ↦ out-by-first n (end_bytes.first (first_byte path) o.0 p (in-word p in_word) o.1 n is) table
       | inr o ↦
           let c = begin p (bits.only p in_word) in
           let same : c.0 ≡ n = cc in
           let none : has_wildcard_at path (length (head n.spec)) ≡ false =
           plain-behind path (head_at places.heads j) (head n.spec) begun (subst (λ (m : Numbered). begins_with (head_at places.heads j) (head m.spec) ≡ true) same c.3) (plain (omega (arith, o.0.0))) o.1 in
-          out-by-last n (end_bytes.last (last_byte path) o.0.0 p o.0.1 n is) none table
+          out-by-last n (end_bytes.last (last_byte path) o.0.0 p (in-word p in_word) o.0.1 n is) none table
     ]
 
     -- of the places at a word's bits those are asked that the first and the last byte leave

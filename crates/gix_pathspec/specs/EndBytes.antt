@@ -42,13 +42,13 @@ Wants Last = EndsPaths
 abbrev pub Refuses : PathEnd → Spec → ℕ → Type 0
 Refuses end s byte = (wanted : ℕ) × Wants end s wanted × (is_same_byte (case_of s) wanted byte ≡ false)
 
--- the bits of the word are places of specs that refuse the byte
-abbrev pub AreRefusing : PathEnd → List Numbered → ℕ → ℕ → Type 0
-AreRefusing end specs byte word = (p : ℕ) → has word p ≡ true → (n : Numbered) → slice_get specs p ≡ Some n → Refuses end n.spec byte
+-- of the first 64 specs those at whose places the word has no bit refuse the byte
+abbrev pub LacksOnlyRefusing : PathEnd → List Numbered → ℕ → ℕ → Type 0
+LacksOnlyRefusing end specs byte word = (p : ℕ) → p < 64 → has word p ≡ false → (n : Numbered) → slice_get specs p ≡ Some n → Refuses end n.spec byte
 
 -- each word is one of the byte that is its place
-abbrev pub AreRefusingWords : PathEnd → List Numbered → List ℕ → Type 0
-AreRefusingWords end specs words = (byte : ℕ) → byte < length words → AreRefusing end specs byte (get_or words byte 0)
+abbrev pub LackOnlyRefusing : PathEnd → List Numbered → List ℕ → Type 0
+LackOnlyRefusing end specs words = (byte : ℕ) → byte < length words → LacksOnlyRefusing end specs byte (get_or words byte 0)
 
 -- no head of one of the first 64 specs has a wildcard byte
 abbrev pub HavePlainHeads : List Numbered → Type 0
@@ -61,18 +61,18 @@ pub record EndWords : Type 0 where
 
 -- Words of bytes at each end, or none. With words of last bytes, no head has a wildcard byte.
 pub record AreEndBytes (specs : List Numbered) (words : EndWords) : Type 0 where
-  pub first : AreRefusingWords First specs words.first
-  pub last : AreRefusingWords Last specs words.last
+  pub first : LackOnlyRefusing First specs words.first
+  pub last : LackOnlyRefusing Last specs words.last
   pub plain : 0 < length words.last → HavePlainHeads specs
 
--- one of the words is that of the byte, and has a bit at a place
-abbrev pub HasBitOf : List ℕ → ℕ → ℕ → Type 0
-HasBitOf words byte p = (byte < length words) × (has (get_or words byte 0) p ≡ true)
+-- one of the words is that of the byte, and has no bit at a place
+abbrev pub LacksBitOf : List ℕ → ℕ → ℕ → Type 0
+LacksBitOf words byte p = (byte < length words) × (has (get_or words byte 0) p ≡ false)
 
 -- A place is left out for a path: by its first byte, or where no wildcard stands behind its first so many bytes, by its last.
 abbrev pub IsLeftOut : EndWords → List ℕ → ℕ → ℕ → Type 0
-IsLeftOut words path head_len p = HasBitOf words.first (first_byte path) p
-    ⊎ (HasBitOf words.last (last_byte path) p × (has_wildcard_at path head_len ≡ false))
+IsLeftOut words path head_len p = LacksBitOf words.first (first_byte path) p
+    ⊎ (LacksBitOf words.last (last_byte path) p × (has_wildcard_at path head_len ≡ false))
 
 -- a match asks the specs at these bits, or at all places whose heads begin a head
 abbrev pub IsAsked : Option ℕ → GroupedPlaces → ℕ → ℕ → Type 0

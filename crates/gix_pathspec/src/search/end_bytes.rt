@@ -3,7 +3,7 @@ ghost use Rattle.std.specs.Prelude.{◌≡◌, ◌<◌, ℕ, length, false, true
 ghost use Rattle.pathspec_glob.specs.GlobCells.{has};
 ghost use Rattle.pathspec_glob.specs.LastBytes.{last_byte};
 ghost use Rattle.gix_pathspec.specs.declared.search.end_bytes.PathEnd.TheVariants.{First, Last};
-ghost use Rattle.gix_pathspec.specs.EndBytes.{AreEndBytes, AreRefusing, AreRefusingWords, HavePlainHeads, HasBitOf, IsLeftOut, first_byte, has_wildcard_at};
+ghost use Rattle.gix_pathspec.specs.EndBytes.{AreEndBytes, LacksOnlyRefusing, LackOnlyRefusing, HavePlainHeads, LacksBitOf, IsLeftOut, first_byte, has_wildcard_at};
 
 use crate::search::spec::CompiledSpec;
 use pathspec_parts::glob::{first_wildcard, is_wildcard};
@@ -20,7 +20,7 @@ pub(crate) enum PathEnd {
     Last,
 }
 
-/// For each byte, which of the first 64 specs match no path that begins with it, and which match none that ends with it. Under
+/// For each byte, which of the first 64 specs may match a path that begins with it, and which one that ends with it. Under
 /// `*.rs` and `*.md` a match asks no spec about `a.c`, and only the first about `a.rs`. Under `:(icase)docs` it asks none about
 /// `src/a`.
 ///
@@ -69,13 +69,13 @@ impl EndBytes {
     fn left_by_first(&self, places: u64, path: &[u8]) -> u64
         ensures only { (p : ℕ) → has result p ≡ true → has places p ≡ true }
         ensures others { (p : ℕ) → has places p ≡ true → has result p ≡ false
-            → HasBitOf self.now.first (first_byte path.now) p }
+            → LacksBitOf self.now.first (first_byte path.now) p }
     {
         let Some(first) = path.first() else {
             return places;
         };
         match self.first.get(*first as usize) {
-            Some(refusing) => without(places, *refusing),
+            Some(left) => kept(places, *left),
             None => places,
         }
     }
@@ -88,27 +88,27 @@ impl EndBytes {
     fn left_by_last(&self, places: u64, path: &[u8], head_len: usize) -> u64
         ensures only { (p : ℕ) → has result p ≡ true → has places p ≡ true }
         ensures others { (p : ℕ) → has places p ≡ true → has result p ≡ false
-            → HasBitOf self.now.last (last_byte path.now) p
+            → LacksBitOf self.now.last (last_byte path.now) p
             × (has_wildcard_at path.now head_len ≡ false) }
     {
         let Some(last) = path.last() else {
             return places;
         };
         match self.last.get(*last as usize) {
-            Some(refusing) if !has_wildcard_at(path, head_len) => without(places, *refusing),
+            Some(left) if !has_wildcard_at(path, head_len) => kept(places, *left),
             _ => places,
         }
     }
 }
 
-/// The bits of a word that others doesn't have.
+/// Those of the places that are left.
 #[inline(always)]
-fn without(places: u64, others: u64) -> u64
+fn kept(places: u64, left: u64) -> u64
     ensures only { (p : ℕ) → has result p ≡ true → has places p ≡ true }
-    ensures others { (p : ℕ) → has places p ≡ true → has result p ≡ false → has others p ≡ true }
-    ensures none { (p : ℕ) → has others p ≡ true → has result p ≡ false }
+    ensures others { (p : ℕ) → has places p ≡ true → has result p ≡ false → has left p ≡ false }
+    ensures none { (p : ℕ) → has left p ≡ false → has result p ≡ false }
 {
-    places & !others
+    places & left
 }
 
 /// Whether a wildcard byte stands in a path at a place.
@@ -153,7 +153,7 @@ fn have_plain_heads(specs: &[CompiledSpec]) -> bool
 /// # Errors
 /// Memory runs out.
 fn first_words(alloc: Global, specs: &[CompiledSpec]) -> Result<Vec<u64>, AllocError>
-    ensures { IfOk result (λ words. AreRefusingWords First specs.now words.items) }
+    ensures { IfOk result (λ words. LackOnlyRefusing First specs.now words.items) }
 {
     if !has_first_byte(specs) {
         return Ok(Vec::new(alloc));
@@ -166,7 +166,7 @@ fn first_words(alloc: Global, specs: &[CompiledSpec]) -> Result<Vec<u64>, AllocE
 /// # Errors
 /// Memory runs out.
 fn last_words(alloc: Global, specs: &[CompiledSpec]) -> Result<Vec<u64>, AllocError>
-    ensures refusing { IfOk result (λ words. AreRefusingWords Last specs.now words.items) }
+    ensures refusing { IfOk result (λ words. LackOnlyRefusing Last specs.now words.items) }
     ensures plain { IfOk result (λ words. 0 < length words.items → HavePlainHeads specs.now) }
 {
     if !has_last_byte(specs) || !have_plain_heads(specs) {
@@ -175,31 +175,32 @@ fn last_words(alloc: Global, specs: &[CompiledSpec]) -> Result<Vec<u64>, AllocEr
     words(alloc, specs, PathEnd::Last)
 }
 
-/// A word for each byte at an end of a path, as [`refusing`] gives it.
+/// A word for each byte at an end of a path, as [`left_by`] gives it.
 ///
 /// # Errors
 /// Memory runs out.
 fn words(alloc: Global, specs: &[CompiledSpec], end: PathEnd) -> Result<Vec<u64>, AllocError>
     ensures all { IfOk result (λ words. length words.items ≡ 256) }
-    ensures refusing { IfOk result (λ words. AreRefusingWords end specs.now words.items) }
+    ensures refusing { IfOk result (λ words. LackOnlyRefusing end specs.now words.items) }
 {
     let mut words = Vec::with_capacity(alloc, 256)?;
     for byte in 0..=u8::MAX {
-        words.push(refusing(specs, end, byte))?;
+        words.push(left_by(specs, end, byte))?;
     }
     Ok(words)
 }
 
-/// Which of the first 64 specs match no path that has this byte at this end, as bits of a word.
-fn refusing(specs: &[CompiledSpec], end: PathEnd, byte: u8) -> u64
-    ensures { AreRefusing end specs.now byte result }
+/// Which of the first 64 places are left for a path that has this byte at this end, as bits of a word: all but those of specs
+/// that refuse it.
+fn left_by(specs: &[CompiledSpec], end: PathEnd, byte: u8) -> u64
+    ensures { LacksOnlyRefusing end specs.now byte result }
 {
-    let mut word = 0;
+    let mut word = u64::MAX;
     for place in 0..specs.len().min(BITS) {
         if !specs[place].refuses(end, byte) {
             continue;
         }
-        word |= 1 << place;
+        word &= !(1 << place);
     }
     word
 }
