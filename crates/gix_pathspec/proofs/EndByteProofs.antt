@@ -4,7 +4,7 @@ use Rattle.std.proofs.lemmas.Bool.{and_parts, or_parts, cases_Bool, both_ways, c
 use Rattle.std.proofs.lemmas.Bool.Decides.{nat_tests}
 use Rattle.std.proofs.lemmas.Nat.Bits.{bit_at_above, bit_at_set_other}
 use Rattle.std.proofs.lemmas.List.{append-nil, get_or-map, get_or_append_left, length-map}
-use Rattle.std.proofs.Math.Bool.{and-false}
+use Rattle.std.proofs.Math.Bool.{and_comm, and-false}
 use Rattle.std.proofs.Math.Numerals.{one-add}
 use Rattle.std.proofs.Math.Seq.{get_or-append_seam}
 use Rattle.std.specs.Char.{to_ascii_lowercase}
@@ -33,7 +33,7 @@ use Rattle.gix_pathspec.specs.Search.{Numbered}
 use Rattle.gix_pathspec.specs.Effort.{ArePlacesOf, heads_in_order}
 use Rattle.gix_pathspec.specs.EndBytes.{first_byte, has_wildcard_at, BeginsPaths, EndsPaths, Refuses, LacksOnlyRefusing, LackOnlyRefusing, EndWords, AreEndBytes, IsLeftOut, IsAsked, AreAsked}
 use Rattle.gix_pathspec.proofs.HeadProofs.{stem-at_false, verbatim_is, fits-ways, first_two, fitted_begins_stem}
-use Rattle.gix_pathspec.proofs.BeginsProofs.{IsBelow-from_is_below}
+use Rattle.gix_pathspec.proofs.BeginsProofs.{IsBelow-from_is_below, length-folded}
 use Rattle.gix_pathspec.proofs.EffortProofs.{at_place, unmatched-headless}
 use Rattle.gix_pathspec.proofs.HeadSearchProofs.{chain-all, chain-begin}
 
@@ -72,10 +72,6 @@ lower-at (b ∷ text) (suc n) = lower-at text n
 wild-folded : (f : Bool) (text : List ℕ) (n : ℕ) → has_wildcard_at (fold_case f text) n ≡ has_wildcard_at text n
 wild-folded false text n = refl
 wild-folded true text n = ap is_wildcard (lower-at text n) ∙ wild-lower (get_or text n 0)
-
-length-folded : (f : Bool) (text : List ℕ) → length (fold_case f text) ≡ length text
-length-folded false text = refl
-length-folded true text = length-map text to_ascii_lowercase
 
 -- A spec whose first wildcard stands right behind its head: any spec where case counts.
 module _ (s : Spec) (wild : has_wildcard s ≡ true) (level : length (head s) ≡ length (stem s)) where
@@ -236,14 +232,8 @@ lacks-more end ns byte word place low so_far refuses p within off n is = elim (c
       let bit = 1 * 2 ^ place % 18446744073709551616 in
       let rest = 18446744073709551615 - bit in
       let on : has rest p ≡ true = has-not bit p (omega arith) within ∙ ap not (bit-alone place p low d) in
-      so_far p within (other-off (has rest p) (has word p) on (and-swap (has rest p) (has word p) ∙ (sym (has-and word rest p) ∙ off))) n is
+      so_far p within (other-off (has rest p) (has word p) on (and_comm (has rest p) (has word p) ∙ (sym (has-and word rest p) ∙ off))) n is
 ]
-  where
-    and-swap : (a b : Bool) → (a && b) ≡ (b && a)
-    and-swap true true = refl
-    and-swap true false = refl
-    and-swap false true = refl
-    and-swap false false = refl
 
 -- one more word
 pub words-more : (end : PathEnd) (ns : List Numbered) (words : List ℕ) (byte word : ℕ) → length words ≡ byte → LackOnlyRefusing end ns words → LacksOnlyRefusing end ns byte word → LackOnlyRefusing end ns (words ++ word ∷ [])

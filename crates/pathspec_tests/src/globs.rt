@@ -1,7 +1,7 @@
 //! Globs by tables: their answers, their steps and the scratches that fit them.
 use pathspec_glob::Case::{self, Fold, Sensitive};
 use pathspec_glob::Mode::{self, PathAware, Shell};
-use pathspec_glob::{Glob, Scratch, first_wildcard, is_wildcard};
+use pathspec_glob::{Glob, Scratch, first_wildcard, is_same_byte, is_wildcard};
 use pathspec_test_support::support::{Row, assert_each, boxed_room};
 use std::alloc::{AllocError, Global};
 use std::test::Fail;
@@ -546,6 +546,32 @@ fn four_bytes_begin_wildcards(rt: HostRuntime) -> Result<(), Fail> {
         Begins(b'a', false),
         Begins(0, false),
         Begins(b'*' | 0x80, false),
+    ];
+    assert_each(rt.alloc(), ROWS)
+}
+
+/// Two bytes, whether they are the same where case counts, and where it does not.
+struct Same(u8, u8, bool, bool);
+
+impl Row for Same {
+    fn holds(&self, _alloc: Global) -> Result<bool, Fail> {
+        Ok(
+            is_same_byte(Sensitive, self.0, self.1) == self.2
+                && is_same_byte(Fold, self.0, self.1) == self.3,
+        )
+    }
+}
+
+#[test]
+fn only_letters_have_another_case(rt: HostRuntime) -> Result<(), Fail> {
+    const ROWS: &[Same] = &[
+        Same(b'a', b'a', true, true),
+        Same(b'a', b'A', false, true),
+        Same(b'Z', b'z', false, true),
+        Same(b'a', b'b', false, false),
+        Same(b'@', b'`', false, false),
+        Same(b'[', b'{', false, false),
+        Same(0xc4, 0xe4, false, false),
     ];
     assert_each(rt.alloc(), ROWS)
 }
