@@ -326,9 +326,13 @@ fn first_match<L: LookUp>(
     let found = match heads.bits(head) {
         Some(places) => {
             let left = Some(end_bytes.left(places, path.as_bytes(), heads.head_len(head)));
-            ask(specs, heads, head, left, room, count, path, is_dir, look_up)
+            ask(
+                specs, heads, end_bytes, head, left, room, count, path, is_dir, look_up,
+            )
         }
-        None => ask(specs, heads, head, None, room, count, path, is_dir, look_up),
+        None => ask(
+            specs, heads, end_bytes, head, None, room, count, path, is_dir, look_up,
+        ),
     };
     scratch.effort = Effort { tested, compared };
     found
@@ -336,11 +340,12 @@ fn first_match<L: LookUp>(
 
 // In line, so that each of its two calls has a loop of its own kind.
 /// The place of the first spec that matches a path, and how it does, of those at these bits, or where there are none, of those
-/// whose head begins the one with a number. It counts each spec that it asks.
+/// whose head begins the one with a number and that the path leaves. It counts each spec that it asks.
 #[inline(always)]
 fn ask<L: LookUp>(
     specs: &CountedSpecs,
     heads: &CountedHeads,
+    end_bytes: &EndBytes,
     head: usize,
     bits: Option<u64>,
     scratch: &mut SpecScratch,
@@ -351,7 +356,9 @@ fn ask<L: LookUp>(
 ) -> Result<Option<(usize, MatchKind)>, L::Fault>
     requires room { HasRoom specs.now scratch.old.room }
     requires head { head < length heads.now.heads }
-    requires asked { AreAsked specs.now (bstr_bytes path) is_dir (IsAsked bits heads.now head) }
+    requires grouped { ArePlacesOf specs.now heads.now }
+    requires asked { AreAsked specs.now (bstr_bytes path) is_dir
+        (IsAsked bits heads.now head end_bytes.now (bstr_bytes path)) }
     requires none { tested.old ≡ 0 }
     ensures room { scratch.new.room ≡ scratch.old.room }
     ensures first { IfOk result (λ found.
@@ -367,7 +374,7 @@ fn ask<L: LookUp>(
     // The loop ends since no place is behind the last: nothing else needs their number, and the compiled loop hasn't it.
     let count = specs.len();
     let mut from = 0;
-    while let Some(place) = next_asked(heads, head, bits, from) {
+    while let Some(place) = next_asked(specs, heads, end_bytes, head, bits, path, from) {
         *tested += 1;
         if let Some(kind) = specs.matches(place, path, is_dir, scratch, look_up)? {
             return Ok(Some((place, kind)));
@@ -377,14 +384,52 @@ fn ask<L: LookUp>(
     Ok(None)
 }
 
-/// The least place from one on of these bits, or where there are none, of those whose head begins the head with a number.
+/// The least place from one on of these bits, or where there are none, of those whose head begins the head with a number and that
+/// the path leaves.
 #[inline(always)]
-fn next_asked(heads: &CountedHeads, head: usize, bits: Option<u64>, from: usize) -> Option<usize>
-    requires { head < length heads.now.heads }
-    ensures { IsLeastFrom (IsAsked bits heads.now head) from result }
+fn next_asked(
+    specs: &CountedSpecs,
+    heads: &CountedHeads,
+    end_bytes: &EndBytes,
+    head: usize,
+    bits: Option<u64>,
+    path: BStr<'_>,
+    from: usize,
+) -> Option<usize>
+    requires grouped { ArePlacesOf specs.now heads.now }
+    requires head { head < length heads.now.heads }
+    ensures { IsLeastFrom
+        (IsAsked bits heads.now head end_bytes.now (bstr_bytes path.entry)) from result }
 {
     match bits {
         Some(word) => next_bit(word, from),
-        None => heads.next_place(head, from),
+        None => next_left(specs, heads, end_bytes, head, path.as_bytes(), from),
     }
+}
+
+/// The least place from one on whose head begins the head with a number, and that the path leaves. It goes by blocks of 64
+/// specs: in each it looks at as many places as the path leaves there, and at one more.
+fn next_left(
+    specs: &CountedSpecs,
+    heads: &CountedHeads,
+    end_bytes: &EndBytes,
+    head: usize,
+    path: &[u8],
+    from: usize,
+) -> Option<usize>
+    requires grouped { ArePlacesOf specs.now heads.now }
+    requires head { head < length heads.now.heads }
+    ensures { IsLeastFrom (IsAsked None heads.now head end_bytes.now path.now) from result }
+{
+    let count = specs.len();
+    let head_len = heads.head_len(head);
+    let mut at = from;
+    while let Some(place) = heads.next_place(head, at) {
+        let left = end_bytes.next_left(place, path, head_len);
+        if left == place {
+            return Some(place);
+        }
+        at = left;
+    }
+    None
 }

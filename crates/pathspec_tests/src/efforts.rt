@@ -288,10 +288,19 @@ fn paths_near_the_head_of_the_last_compare_one(rt: HostRuntime) -> Result<(), Fa
 fn ten_thousand_specs_of_one_head_are_compared_once(rt: HostRuntime) -> Result<(), Fail> {
     const ROWS: &[Telling] = &[
         (0, "a/bc", (Some((0, WILDCARD)), 1), Some(1)),
-        (0, "a/b", (None, 10_000), Some(1)),
+        (0, "a/b", (None, 0), Some(1)),
         (0, "a/c", (None, 0), Some(0)),
     ];
-    assert_each(rt.alloc(), &[Tells(10_000, Texts::Same("a/b*c"), ROWS)])
+    // A glob that tells no last byte.
+    const BRACKETS: &[Telling] = &[
+        (0, "a/bc", (Some((0, WILDCARD)), 1), Some(1)),
+        (0, "a/b", (None, 10_000), Some(1)),
+    ];
+    const SPECS: &[Tells] = &[
+        Tells(10_000, Texts::Same("a/b*c"), ROWS),
+        Tells(10_000, Texts::Same("a/b*[c]"), BRACKETS),
+    ];
+    assert_each(rt.alloc(), SPECS)
 }
 
 #[test]
@@ -307,29 +316,34 @@ fn heads_may_begin_one_another_a_thousand_times(rt: HostRuntime) -> Result<(), F
 #[test]
 fn heads_of_globs_may_begin_one_another_a_thousand_times(rt: HostRuntime) -> Result<(), Fail> {
     const ROWS: &[Telling] = &[
-        (1001, "b", (None, 1000), None),
+        (1001, "b", (None, 0), None),
         (1001, "b.c", (Some((0, WILDCARD)), 1), None),
     ];
     assert_each(rt.alloc(), &[Tells(1000, Texts::Nested(999, "*.c"), ROWS)])
 }
 
 #[test]
-fn specs_behind_the_64th_are_always_asked(rt: HostRuntime) -> Result<(), Fail> {
+fn specs_behind_the_64th_are_left_out_too(rt: HostRuntime) -> Result<(), Fail> {
     const NUMBERED: &[Telling] = &[
         (0, "d10005/a.rs", (Some((5, WILDCARD)), 1), None),
         (0, "d10005/a.c", (None, 0), None),
         (0, "d10063/a.c", (None, 0), None),
-        (0, "d10064/a.c", (None, 1), None),
-        (0, "d10069/a.c", (None, 1), None),
+        (0, "d10064/a.c", (None, 0), None),
+        (0, "d10069/a.c", (None, 0), None),
         (0, "d10069/a.rs", (Some((69, WILDCARD)), 1), None),
         (0, "d10063/*.rs/a.c", (Some((63, PREFIX)), 1), None),
+        (0, "d10069/*.rs/a.c", (Some((69, PREFIX)), 1), None),
     ];
     const IN_A_WORD: &[Telling] = &[
         (0, "a.c", (None, 0), None),
         (0, "a.s", (None, 64), None),
         (0, "*.rs/a.c", (Some((0, PREFIX)), 1), None),
     ];
-    const MORE: &[Telling] = &[(0, "a.c", (None, 65), None)];
+    const MORE: &[Telling] = &[
+        (0, "a.c", (None, 0), None),
+        (0, "a.s", (None, 65), None),
+        (0, "*.rs/a.c", (Some((0, PREFIX)), 1), None),
+    ];
     const ROWS: &[Tells] = &[
         Tells(70, Texts::Between("d", "/*.rs"), NUMBERED),
         Tells(64, Texts::Same("*.rs"), IN_A_WORD),

@@ -14,7 +14,7 @@ use bitflags::Flags;
 use pathspec_heads::paths::{PathTable, SpecPath};
 use pathspec_heads::tables::SpecStem;
 use pathspec_parts::attributes::Outcome;
-use pathspec_parts::glob::{Glob, Mode, Scratch, first_wildcard, is_same_byte};
+use pathspec_parts::glob::{Glob, Mode, Scratch, first_wildcard};
 use std::alloc::{AllocError, Global};
 use std::fmt;
 use std::marker::Model;
@@ -53,7 +53,7 @@ impl CompiledSpec {
     ghost use Rattle.gix_pathspec.specs.Patterns.{pattern_spec};
     ghost use Rattle.gix_pathspec.specs.Specs.{Spec, is_include, ignores_case, wants_directory, always_matches, has_wildcard};
     ghost use Rattle.gix_pathspec.specs.Prefixes.{stem, head};
-    ghost use Rattle.gix_pathspec.specs.EndBytes.{BeginsPaths, EndsPaths, Refuses, Wants};
+    ghost use Rattle.gix_pathspec.specs.EndBytes.{BeginsPaths, EndsPaths, Wants};
     ghost use Rattle.gix_pathspec.specs.PathTables.{IsPathTableOf};
     ghost use Rattle.gix_pathspec.specs.Plain.{has_one_case};
     ghost use Rattle.gix_pathspec.specs.Pruning.{stem_of, is_total_exclude};
@@ -297,23 +297,12 @@ impl CompiledSpec {
     }
 
     /// The byte that the spec wants at an end of a path, where it is known.
-    fn wanted(&self, end: PathEnd) -> Option<u8>
+    pub(super) fn wanted(&self, end: PathEnd) -> Option<u8>
         ensures { IfSome result (Wants end self.now.spec) }
     {
         match end {
             PathEnd::First => self.first_byte(),
             PathEnd::Last => self.last_byte(),
-        }
-    }
-
-    /// Whether the spec is known to match no path that has this byte at this end, but for a last byte of those that its own text
-    /// begins.
-    pub(super) fn refuses(&self, end: PathEnd, byte: u8) -> bool
-        ensures { IsTrue result → Refuses end self.now.spec byte }
-    {
-        match self.wanted(end) {
-            Some(wanted) => !is_same_byte(matching::case_of(&self.pattern), wanted, byte),
-            None => false,
         }
     }
 
