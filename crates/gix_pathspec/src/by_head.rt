@@ -285,8 +285,20 @@ impl SpecsByHead {
         ensures { result ≡ is_unasked self.now path.now }
     {
         let common = self.common_prefix.as_slice();
+        // Most searches have no common prefix, and then this is no call.
         path.is_empty() || !common.is_empty() && !begins_with(path, common, false)
     }
+}
+
+/// The places of the specs that a match asks about a path: those at these bits, or where there are none, those whose head begins
+/// the head with this number and that the path leaves.
+#[derive(Clone, Copy)]
+struct Asked<'a> {
+    heads: &'a CountedHeads,
+    end_bytes: &'a EndBytes,
+    head: usize,
+    bits: Option<u64>,
+    path: BStr<'a>,
 }
 
 /// The place of the first spec that matches a path, and how it does. It asks only specs whose head begins the path, and of
@@ -322,61 +334,62 @@ fn first_match<L: LookUp>(
         return Ok(None);
     };
     let room = &mut scratch.specs;
-    let count = &mut tested;
+    let asked = Asked {
+        heads,
+        end_bytes,
+        head,
+        bits: None,
+        path,
+    };
     let found = match heads.bits(head) {
         Some(places) => {
-            let left = Some(end_bytes.left(places, path.as_bytes(), heads.head_len(head)));
-            ask(
-                specs, heads, end_bytes, head, left, room, count, path, is_dir, look_up,
-            )
+            let left = end_bytes.left(places, path.as_bytes(), heads.head_len(head));
+            let asked = Asked {
+                bits: Some(left),
+                ..asked
+            };
+            ask(specs, asked, is_dir, room, &mut tested, look_up)
         }
-        None => ask(
-            specs, heads, end_bytes, head, None, room, count, path, is_dir, look_up,
-        ),
+        None => ask(specs, asked, is_dir, room, &mut tested, look_up),
     };
     scratch.effort = Effort { tested, compared };
     found
 }
 
 // In line, so that each of its two calls has a loop of its own kind.
-/// The place of the first spec that matches a path, and how it does, of those at these bits, or where there are none, of those
-/// whose head begins the one with a number and that the path leaves. It counts each spec that it asks.
+/// The place of the first spec that matches the path, of these, and how it does. It counts each spec that it asks.
 #[inline(always)]
 fn ask<L: LookUp>(
     specs: &CountedSpecs,
-    heads: &CountedHeads,
-    end_bytes: &EndBytes,
-    head: usize,
-    bits: Option<u64>,
+    asked: Asked<'_>,
+    is_dir: bool,
     scratch: &mut SpecScratch,
     tested: &mut usize,
-    path: BStr<'_>,
-    is_dir: bool,
     look_up: &mut L,
 ) -> Result<Option<(usize, MatchKind)>, L::Fault>
     requires room { HasRoom specs.now scratch.old.room }
-    requires head { head < length heads.now.heads }
-    requires grouped { ArePlacesOf specs.now heads.now }
-    requires asked { AreAsked specs.now (bstr_bytes path) is_dir
-        (IsAsked bits heads.now head end_bytes.now (bstr_bytes path)) }
+    requires head { asked.head < length asked.heads.now.heads }
+    requires grouped { ArePlacesOf specs.now asked.heads.now }
+    requires asked { AreAsked specs.now (bstr_bytes asked.path) is_dir
+        (IsAsked asked.bits asked.heads.now asked.head asked.end_bytes.now (bstr_bytes asked.path)) }
     requires none { tested.old ≡ 0 }
     ensures room { scratch.new.room ≡ scratch.old.room }
     ensures first { IfOk result (λ found.
-        IsFirstFound (L.table look_up.old) specs.now (bstr_bytes path.entry) is_dir found) }
+        IsFirstFound (L.table look_up.old) specs.now (bstr_bytes asked.entry.path) is_dir found) }
     ensures table_stays { L.table look_up.new ≡ L.table look_up.old }
     ensures ok_leaves_count { OnOk result (L.failures look_up.new ≡ L.failures look_up.old) }
     ensures err_counts { OnErr result
         (L.failures look_up.new ≡ next_count (L.failures look_up.old)) }
     ensures counted { Counts scratch.old.tested tested.new scratch.new.tested }
-    ensures few { tested.new ≤ candidate_count specs.now (bstr_bytes path.entry) }
+    ensures few { tested.new ≤ candidate_count specs.now (bstr_bytes asked.entry.path) }
     ensures asked { IfOk result (λ found. IsSome found → 1 ≤ tested.new) }
 {
     // The loop ends since no place is behind the last: nothing else needs their number, and the compiled loop hasn't it.
     let count = specs.len();
     let mut from = 0;
-    while let Some(place) = next_asked(specs, heads, end_bytes, head, bits, path, from) {
+    while let Some(place) = asked.next(specs, from) {
         *tested += 1;
-        if let Some(kind) = specs.matches(place, path, is_dir, scratch, look_up)? {
+        if let Some(kind) = specs.matches(place, asked.path, is_dir, scratch, look_up)? {
             return Ok(Some((place, kind)));
         }
         from = place + 1;
@@ -384,52 +397,43 @@ fn ask<L: LookUp>(
     Ok(None)
 }
 
-/// The least place from one on of these bits, or where there are none, of those whose head begins the head with a number and that
-/// the path leaves.
-#[inline(always)]
-fn next_asked(
-    specs: &CountedSpecs,
-    heads: &CountedHeads,
-    end_bytes: &EndBytes,
-    head: usize,
-    bits: Option<u64>,
-    path: BStr<'_>,
-    from: usize,
-) -> Option<usize>
-    requires grouped { ArePlacesOf specs.now heads.now }
-    requires head { head < length heads.now.heads }
-    ensures { IsLeastFrom
-        (IsAsked bits heads.now head end_bytes.now (bstr_bytes path.entry)) from result }
-{
-    match bits {
-        Some(word) => next_bit(word, from),
-        None => next_left(specs, heads, end_bytes, head, path.as_bytes(), from),
-    }
-}
-
-/// The least place from one on whose head begins the head with a number, and that the path leaves. It goes by blocks of 64
-/// specs: in each it looks at as many places as the path leaves there, and at one more.
-fn next_left(
-    specs: &CountedSpecs,
-    heads: &CountedHeads,
-    end_bytes: &EndBytes,
-    head: usize,
-    path: &[u8],
-    from: usize,
-) -> Option<usize>
-    requires grouped { ArePlacesOf specs.now heads.now }
-    requires head { head < length heads.now.heads }
-    ensures { IsLeastFrom (IsAsked None heads.now head end_bytes.now path.now) from result }
-{
-    let count = specs.len();
-    let head_len = heads.head_len(head);
-    let mut at = from;
-    while let Some(place) = heads.next_place(head, at) {
-        let left = end_bytes.next_left(place, path, head_len);
-        if left == place {
-            return Some(place);
+impl Asked<'_> {
+    /// The least of the places from one on.
+    #[inline(always)]
+    fn next(&self, specs: &CountedSpecs, from: usize) -> Option<usize>
+        requires grouped { ArePlacesOf specs.now self.now.heads.now }
+        requires head { self.now.head < length self.now.heads.now.heads }
+        ensures { IsLeastFrom (IsAsked self.now.bits self.now.heads.now self.now.head
+            self.now.end_bytes.now (bstr_bytes self.now.path)) from result }
+    {
+        match self.bits {
+            Some(word) => next_bit(word, from),
+            None => self.next_left(specs, from),
         }
-        at = left;
     }
-    None
+
+    // Out of line, so that a match of up to 64 specs makes no room for what this needs.
+    /// The least place from one on whose head begins the head with the number, and that the path leaves. It goes by blocks of 64
+    /// specs: in each it looks at as many places as the path leaves there, and at one more.
+    #[inline(never)]
+    fn next_left(&self, specs: &CountedSpecs, from: usize) -> Option<usize>
+        requires grouped { ArePlacesOf specs.now self.now.heads.now }
+        requires head { self.now.head < length self.now.heads.now.heads }
+        ensures { IsLeastFrom (IsAsked None self.now.heads.now self.now.head
+            self.now.end_bytes.now (bstr_bytes self.now.path)) from result }
+    {
+        let count = specs.len();
+        let head_len = self.heads.head_len(self.head);
+        let mut at = from;
+        while let Some(place) = self.heads.next_place(self.head, at) {
+            let left = self
+                .end_bytes
+                .next_left(place, self.path.as_bytes(), head_len);
+            if left == place {
+                return Some(place);
+            }
+            at = left;
+        }
+        None
+    }
 }

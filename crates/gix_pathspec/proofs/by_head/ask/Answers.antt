@@ -30,47 +30,47 @@ module _ (table : Table) (ns : List Numbered) (path : List ℕ) (is_dir : Bool) 
 pub returns-clause-first : goal.returns-clause-first
 returns-clause-first g c =
     let i = c.loop-place.invariant in
-    sym i.rest ∙ none (g.L.LookUp.table c.args.look_up.now) c.args.specs.now (bstr_bytes c.args.path) c.args.is_dir (IsAsked c.args.bits c.args.heads.now c.args.head c.args.end_bytes.now (bstr_bytes c.args.path)) c.requires.asked c.loop-place.from c.next_asked.result c.next_asked.ensures c.in_default.is i.within
+    sym i.rest ∙ none (g.L.LookUp.table c.args.look_up.now) c.args.specs.now (bstr_bytes c.args.asked.path) c.args.is_dir (IsAsked c.args.asked.bits c.args.asked.heads.now c.args.asked.head c.args.asked.end_bytes.now (bstr_bytes c.args.asked.path)) c.requires.asked c.loop-place.from c.next.result c.next.ensures c.in_default.is i.within
 
 pub matches-requires-clause-room : goal.matches-requires-clause-room
 matches-requires-clause-room g c = subst (HasRoom c.args.specs.now) (sym c.loop-place.invariant.room) c.requires.room
 
 pub matches-requires-clause-place : goal.matches-requires-clause-place
 matches-requires-clause-place g c =
-    let n = next (g.L.LookUp.table c.args.look_up.now) c.args.specs.now (bstr_bytes c.args.path) c.args.is_dir (IsAsked c.args.bits c.args.heads.now c.args.head c.args.end_bytes.now (bstr_bytes c.args.path)) c.requires.asked c.loop-place.from c.next_asked.result c.next_asked.ensures c.in-Some.place c.in-Some.is in
+    let n = next (g.L.LookUp.table c.args.look_up.now) c.args.specs.now (bstr_bytes c.args.asked.path) c.args.is_dir (IsAsked c.args.asked.bits c.args.asked.heads.now c.args.asked.head c.args.asked.end_bytes.now (bstr_bytes c.args.asked.path)) c.requires.asked c.loop-place.from c.next.result c.next.ensures c.in-Some.place c.in-Some.is in
     n.1
 
 pub returns-in_err-kind-clause-few : goal.returns-in_err-kind-clause-few
 returns-in_err-kind-clause-few g c =
-    let n = next (g.L.LookUp.table c.args.look_up.now) c.args.specs.now (bstr_bytes c.args.path) c.args.is_dir (IsAsked c.args.bits c.args.heads.now c.args.head c.args.end_bytes.now (bstr_bytes c.args.path)) c.requires.asked c.loop-place.from c.next_asked.result c.next_asked.ensures c.in-Some.place c.in-Some.is in
-    omega (arith, few-more (λ n. head n.spec) (bstr_bytes c.args.path) c.args.specs.now c.loop-place.from c.in-Some.place c.loop-place.tested n.0 n.1 n.2 c.loop-place.invariant.few)
+    let n = next (g.L.LookUp.table c.args.look_up.now) c.args.specs.now (bstr_bytes c.args.asked.path) c.args.is_dir (IsAsked c.args.asked.bits c.args.asked.heads.now c.args.asked.head c.args.asked.end_bytes.now (bstr_bytes c.args.asked.path)) c.requires.asked c.loop-place.from c.next.result c.next.ensures c.in-Some.place c.in-Some.is in
+    omega (arith, few-more (λ n. head n.spec) (bstr_bytes c.args.asked.path) c.args.specs.now c.loop-place.from c.in-Some.place c.loop-place.tested n.0 n.1 n.2 c.loop-place.invariant.few)
 
 pub returns-in-Some-2-clause-first : goal.returns-in-Some-2-clause-first
 returns-in-Some-2-clause-first g c =
     let i = c.loop-place.invariant in
-    let n = next (g.L.LookUp.table c.args.look_up.now) c.args.specs.now (bstr_bytes c.args.path) c.args.is_dir (IsAsked c.args.bits c.args.heads.now c.args.head c.args.end_bytes.now (bstr_bytes c.args.path)) c.requires.asked c.loop-place.from c.next_asked.result c.next_asked.ensures c.in-Some.place c.in-Some.is in
+    let n = next (g.L.LookUp.table c.args.look_up.now) c.args.specs.now (bstr_bytes c.args.asked.path) c.args.is_dir (IsAsked c.args.asked.bits c.args.asked.heads.now c.args.asked.head c.args.asked.end_bytes.now (bstr_bytes c.args.asked.path)) c.requires.asked c.loop-place.from c.next.result c.next.ensures c.in-Some.place c.in-Some.is in
     match-here _ c.args.specs.now _ _ c.in-Some.place n.1 (sym n.3 ∙ i.rest) c.in-Some-2.kind
     (sym (same-table _ _ c.args.specs.now _ _ c.in-Some.place i.same_table) ∙ (sym c.in_ok-kind.ensures.answer ∙ c.in-Some-2.is))
 
 pub returns-in-Some-2-clause-few : goal.returns-in-Some-2-clause-few
 returns-in-Some-2-clause-few g c =
-    let n = next (g.L.LookUp.table c.args.look_up.now) c.args.specs.now (bstr_bytes c.args.path) c.args.is_dir (IsAsked c.args.bits c.args.heads.now c.args.head c.args.end_bytes.now (bstr_bytes c.args.path)) c.requires.asked c.loop-place.from c.next_asked.result c.next_asked.ensures c.in-Some.place c.in-Some.is in
-    omega (arith, few-more (λ n. head n.spec) (bstr_bytes c.args.path) c.args.specs.now c.loop-place.from c.in-Some.place c.loop-place.tested n.0 n.1 n.2 c.loop-place.invariant.few)
+    let n = next (g.L.LookUp.table c.args.look_up.now) c.args.specs.now (bstr_bytes c.args.asked.path) c.args.is_dir (IsAsked c.args.asked.bits c.args.asked.heads.now c.args.asked.head c.args.asked.end_bytes.now (bstr_bytes c.args.asked.path)) c.requires.asked c.loop-place.from c.next.result c.next.ensures c.in-Some.place c.in-Some.is in
+    omega (arith, few-more (λ n. head n.spec) (bstr_bytes c.args.asked.path) c.args.specs.now c.loop-place.from c.in-Some.place c.loop-place.tested n.0 n.1 n.2 c.loop-place.invariant.few)
 
 pub overflow_add-tested : goal.overflow_add-tested
 overflow_add-tested g c =
-    let n = next (g.L.LookUp.table c.args.look_up.now) c.args.specs.now (bstr_bytes c.args.path) c.args.is_dir (IsAsked c.args.bits c.args.heads.now c.args.head c.args.end_bytes.now (bstr_bytes c.args.path)) c.requires.asked c.loop-place.from c.next_asked.result c.next_asked.ensures c.in-Some.place c.in-Some.is in
+    let n = next (g.L.LookUp.table c.args.look_up.now) c.args.specs.now (bstr_bytes c.args.asked.path) c.args.is_dir (IsAsked c.args.asked.bits c.args.asked.heads.now c.args.asked.head c.args.asked.end_bytes.now (bstr_bytes c.args.asked.path)) c.requires.asked c.loop-place.from c.next.result c.next.ensures c.in-Some.place c.in-Some.is in
     omega (arith, n.0, n.1, c.loop-place.invariant.steps, c.len-count.ensures, c.len-count.type_inv)
 
 pub overflow_add-from : goal.overflow_add-from
 overflow_add-from g c =
-    let n = next (g.L.LookUp.table c.args.look_up.now) c.args.specs.now (bstr_bytes c.args.path) c.args.is_dir (IsAsked c.args.bits c.args.heads.now c.args.head c.args.end_bytes.now (bstr_bytes c.args.path)) c.requires.asked c.loop-place.from c.next_asked.result c.next_asked.ensures c.in-Some.place c.in-Some.is in
+    let n = next (g.L.LookUp.table c.args.look_up.now) c.args.specs.now (bstr_bytes c.args.asked.path) c.args.is_dir (IsAsked c.args.asked.bits c.args.asked.heads.now c.args.asked.head c.args.asked.end_bytes.now (bstr_bytes c.args.asked.path)) c.requires.asked c.loop-place.from c.next.result c.next.ensures c.in-Some.place c.in-Some.is in
     omega (arith, n.1, c.len-count.ensures, c.len-count.type_inv)
 
 pub loop-place-preserved : goal.loop-place-preserved
 loop-place-preserved g c =
     let i = c.loop-place.invariant in
-    let n = next (g.L.LookUp.table c.args.look_up.now) c.args.specs.now (bstr_bytes c.args.path) c.args.is_dir (IsAsked c.args.bits c.args.heads.now c.args.head c.args.end_bytes.now (bstr_bytes c.args.path)) c.requires.asked c.loop-place.from c.next_asked.result c.next_asked.ensures c.in-Some.place c.in-Some.is in
+    let n = next (g.L.LookUp.table c.args.look_up.now) c.args.specs.now (bstr_bytes c.args.asked.path) c.args.is_dir (IsAsked c.args.asked.bits c.args.asked.heads.now c.args.asked.head c.args.asked.end_bytes.now (bstr_bytes c.args.asked.path)) c.requires.asked c.loop-place.from c.next.result c.next.ensures c.in-Some.place c.in-Some.is in
     record {
       room = c.matches.ensures.room ∙ i.room;
       within = omega (arith, n.1);
@@ -79,11 +79,11 @@ loop-place-preserved g c =
       same_table = c.matches.ensures.table_stays ∙ i.same_table;
       same_count = c.in_ok-kind.ensures.ok_leaves_count ∙ i.same_count;
       counted = counts-more c.args.scratch.now.tested c.loop-place.tested c.loop-place.scratch.tested c.matches.new.scratch.tested i.counted c.matches.ensures.counted;
-      few = few-more (λ n. head n.spec) (bstr_bytes c.args.path) c.args.specs.now c.loop-place.from c.in-Some.place c.loop-place.tested n.0 n.1 n.2 i.few;
+      few = few-more (λ n. head n.spec) (bstr_bytes c.args.asked.path) c.args.specs.now c.loop-place.from c.in-Some.place c.loop-place.tested n.0 n.1 n.2 i.few;
       steps = omega (arith, n.0, i.steps);
     }
 
 pub loop-place-smaller : goal.loop-place-smaller
 loop-place-smaller g c =
-    let n = next (g.L.LookUp.table c.args.look_up.now) c.args.specs.now (bstr_bytes c.args.path) c.args.is_dir (IsAsked c.args.bits c.args.heads.now c.args.head c.args.end_bytes.now (bstr_bytes c.args.path)) c.requires.asked c.loop-place.from c.next_asked.result c.next_asked.ensures c.in-Some.place c.in-Some.is in
+    let n = next (g.L.LookUp.table c.args.look_up.now) c.args.specs.now (bstr_bytes c.args.asked.path) c.args.is_dir (IsAsked c.args.asked.bits c.args.asked.heads.now c.args.asked.head c.args.asked.end_bytes.now (bstr_bytes c.args.asked.path)) c.requires.asked c.loop-place.from c.next.result c.next.ensures c.in-Some.place c.in-Some.is in
     omega (arith, n.0, n.1)

@@ -11,11 +11,11 @@ invariant-loop-place g l =
     record {
       room : l.scratch.room ≡ l.fn.scratch.room;
       within : l.from ≤ length l.specs;
-      rest : first_match (g.L.LookUp.table l.fn.look_up) (drop l.from l.specs) (bstr_bytes l.path) l.is_dir ≡ first_match (g.L.LookUp.table l.fn.look_up) l.specs (bstr_bytes l.path) l.is_dir;
+      rest : first_match (g.L.LookUp.table l.fn.look_up) (drop l.from l.specs) (bstr_bytes l.asked.path) l.is_dir ≡ first_match (g.L.LookUp.table l.fn.look_up) l.specs (bstr_bytes l.asked.path) l.is_dir;
       same_table : g.L.LookUp.table l.look_up ≡ g.L.LookUp.table l.fn.look_up;
       same_count : g.L.LookUp.failures l.look_up ≡ g.L.LookUp.failures l.fn.look_up;
       counted : Counts l.fn.scratch.tested l.tested l.scratch.tested;
-      few : l.tested + candidate_count (drop l.from l.specs) (bstr_bytes l.path) ≤ candidate_count l.specs (bstr_bytes l.path);
+      few : l.tested + candidate_count (drop l.from l.specs) (bstr_bytes l.asked.path) ≤ candidate_count l.specs (bstr_bytes l.asked.path);
       steps : l.tested ≤ l.from;
     }
 

@@ -32,9 +32,9 @@ ask-found-requires-clause-asked g c =
     let h = c.args.heads.now.heads in
     let inside = (c.deepest-head.ensures.found.begins c.in-Some.head c.in-Some.is).0 in
     let chain : IsChainOf h path c.in-Some.head = subst (λ t. IsChainOf h t c.in-Some.head) c.as_bytes.ensures (subst (λ o. IfSome o (λ j. IsChainOf h c.as_bytes.result.now j)) c.in-Some.is c.deepest-head.ensures.chain) in
-    let others = subst (λ n. (p : ℕ) → has c.in-Some-bits.places p ≡ true → has c.left.result p ≡ false → IsLeftOut c.args.end_bytes.now path n 0 p) c.head_len.ensures
-    (subst (λ t. (p : ℕ) → has c.in-Some-bits.places p ≡ true → has c.left.result p ≡ false → IsLeftOut c.args.end_bytes.now t c.head_len.result 0 p) c.as_bytes-in-Some-bits.ensures c.left.ensures.others) in
-    left-asked c.args.specs.now c.args.heads.now c.requires.grouped path c.args.is_dir c.in-Some.head inside chain c.args.end_bytes.now c.requires.end_bytes c.in-Some-bits.places c.left.result c.left.ensures.low c.in-Some-bits.ensures c.left.ensures.only others
+    let others = subst (λ n. (p : ℕ) → has c.in-Some-bits.places p ≡ true → has c.left-left.result p ≡ false → IsLeftOut c.args.end_bytes.now path n 0 p) c.head_len.ensures
+    (subst (λ t. (p : ℕ) → has c.in-Some-bits.places p ≡ true → has c.left-left.result p ≡ false → IsLeftOut c.args.end_bytes.now t c.head_len.result 0 p) c.as_bytes-in-Some-bits.ensures c.left-left.ensures.others) in
+    left-asked c.args.specs.now c.args.heads.now c.requires.grouped path c.args.is_dir c.in-Some.head inside chain c.args.end_bytes.now c.requires.end_bytes c.in-Some-bits.places c.left-left.result c.left-left.ensures.low c.in-Some-bits.ensures c.left-left.ensures.only others
 
 pub ask-found-requires-in-None-clause-head : goal.ask-found-requires-in-None-clause-head
 ask-found-requires-in-None-clause-head g c = (c.deepest-head.ensures.found.begins c.in-Some.head c.in-Some.is).0
