@@ -1,6 +1,7 @@
 -- What the tables of a search and the excludes that are asked one by one say of a directory is whether a walk may skip it.
 use Rattle.std.proofs.Common.{◌≡◌, ℕ, Bool, true, false, not, ◌&&◌, ◌||◌, cond, inl, inr, refl, sym, ◌∙◌, ap, List, [], ◌∷◌, ◌++◌, Option, Some, filter}
-use Rattle.std.proofs.lemmas.Bool.{and_parts, or_cases, or_left, or_right, not-true}
+use Rattle.std.proofs.lemmas.Bool.{and_parts, and_from, or_cases, or_left, or_right, not-true}
+use Rattle.std.proofs.lemmas.List.Elements.{Contains-push, Contains-append_left, Contains-append_right}
 use Rattle.std.specs.List.{list_any}
 use Rattle.gix_pathspec.specs.Bytes.{slash, is_empty}
 use Rattle.gix_pathspec.specs.PathTables.{PathParts, path_takes}
@@ -11,7 +12,7 @@ use Rattle.gix_pathspec.specs.Plain.{has_one_case}
 use Rattle.gix_pathspec.specs.Prefixes.{common_prefix}
 use Rattle.gix_pathspec.specs.Pruning.{stem_of, reaches, agree, is_total_exclude, can_match}
 use Rattle.gix_pathspec.specs.Reach.{is_tabled, path_of, taken_paths, is_buried, has_stem, stems_of, reaches_live}
-use Rattle.gix_pathspec.specs.Skipping.{takes_whole, takes_rest, has_open_end, buries, is_live, holds_nothing, may_skip}
+use Rattle.gix_pathspec.specs.Skipping.{takes_whole, takes_rest, has_open_end, buries, is_live, holds_nothing, may_skip, HaveOneCase}
 use Rattle.gix_pathspec.specs.SkipTables.{holds_nothing_by_tables, skips_by_tables}
 use Rattle.gix_pathspec.specs.Takers.{is_taker, takers_of, taker_takes}
 use Rattle.gix_pathspec.proofs.ReachProofs.{reached-by-stems}
@@ -263,3 +264,58 @@ tables-hold_nothing specs d h =
 pub tables-skip : (specs : List Spec) (d : List ℕ) → holds_nothing_by_tables specs d ≡ true → may_skip specs d ≡ true
 unfolding may_skip
 tables-skip specs d h = or_left (holds_nothing specs d) (not (is_empty d) && list_any (λ e. is_exclude e && takes_rest e d) specs) (tables-hold_nothing specs d h)
+
+-- where all excludes have one case, one that takes a directory whole takes every path, or stands in the table and takes this one
+whole-tabled : (d : List ℕ) (s : Spec) → (is_exclude s ≡ true → has_one_case s ≡ true) → (is_exclude s && takes_whole s d) ≡ true → (is_total_exclude s || is_tabled s && path_takes (path_of s) d true) ≡ true
+unfolding takes_whole
+whole-tabled d s one h = here (is_exclude s) (is_empty s.attributes) (always_matches s) (has_one_case s) (is_in_prefix_directory s d true) (is_verbatim_match s d true) (is_prefix_match s d) one h
+  where
+    here : (x e m c k v p : Bool) → (x ≡ true → c ≡ true) → (x && (e && (k && (m || v || p)))) ≡ true → (x && m && e || (x && e && not m && c) && (v || p)) ≡ true
+    here false e m c k v p f h = cc
+    here true false m c k v p f h = cc
+    here true true m c false v p f h = cc
+    here true true true c true v p f h = refl
+    here true true false c true v p f h = rw (f refl) h
+
+whole-all : (d : List ℕ) (specs : List Spec) → HaveOneCase specs → list_any (λ e. is_exclude e && takes_whole e d) specs ≡ true
+    → (list_any is_total_exclude specs || list_any (λ p. path_takes p d true) (taken_paths specs)) ≡ true
+whole-all d specs one h =
+    let tabled = any-kept (λ p. path_takes p d true) path_of is_tabled (λ s. path_takes (path_of s) d true) (λ s e. refl) specs in
+    rw tabled (sym (any-or is_total_exclude (λ s. is_tabled s && path_takes (path_of s) d true) specs) ∙ some specs one h)
+  where
+    some : (ss : List Spec) → HaveOneCase ss → list_any (λ e. is_exclude e && takes_whole e d) ss ≡ true → list_any (λ s. is_total_exclude s || is_tabled s && path_takes (path_of s) d true) ss ≡ true
+    some [] one t = cc
+    some (s ∷ ss) one t = elim (or_cases (is_exclude s && takes_whole s d) (list_any (λ e. is_exclude e && takes_whole e d) ss) t) [
+      | inl e ↦ or_left (is_total_exclude s || is_tabled s && path_takes (path_of s) d true) _ (whole-tabled d s (one s (Contains-append_left (s ∷ []) ss s (Contains-push [] s))) e)
+      | inr e ↦ or_right (is_total_exclude s || is_tabled s && path_takes (path_of s) d true) _ (some ss (λ x c. one x (Contains-append_right (s ∷ []) ss x c)) e)
+    ]
+
+-- from what a directory holds to what tables say, where there are specs
+tables-by_parts : (agrees total by_path whole has_include live unburied reached buried : Bool) → (whole ≡ true → (total || by_path) ≡ true) → (total ≡ false → unburied ≡ live) → reached ≡ (live || buried)
+    → (not (agrees && not total && (reached || not has_include)) || whole || has_include && not unburied) ≡ true → (not agrees || total || by_path || has_include && not live) ≡ true
+tables-by_parts false total by_path whole i l u r b w same by h = refl
+tables-by_parts true true by_path whole i l u r b w same by h = refl
+tables-by_parts true false true whole i l u r b w same by h = refl
+tables-by_parts true false false true i l u r b w same by h = let no : false ≡ true = w refl in cc
+tables-by_parts true false false false false l u true b w same by h = cc
+tables-by_parts true false false false false l u false b w same by h = cc
+tables-by_parts true false false false true false u r b w same by h = refl
+tables-by_parts true false false false true true u r b w same by h =
+    let reached : r ≡ true = by in
+    let unburied : u ≡ true = same refl in
+    let no : false ≡ true = rw (reached, unburied) at h in cc
+
+-- Where all excludes have one case, tables tell of each directory that it holds nothing.
+pub held-by-tables : (specs : List Spec) (d : List ℕ) → HaveOneCase specs → holds_nothing specs d ≡ true → holds_nothing_by_tables specs d ≡ true
+unfolding holds_nothing can_match
+held-by-tables specs d one h =
+    let p = and_parts (not (is_empty d)) _ h in
+    and_from (not (is_empty d)) (skips_by_tables specs d) p.0 (held specs one p.0 p.1)
+  where
+    held : (ss : List Spec) → HaveOneCase ss → not (is_empty d) ≡ true
+        → (not (can_match ss d (Some true)) || list_any (λ e. is_exclude e && takes_whole e d) ss || list_any is_include ss && not (list_any (λ i. is_live ss i && reaches i d (Some true)) ss)) ≡ true → skips_by_tables ss d ≡ true
+    held [] one some t = cc
+    held (s ∷ ss) one some t =
+        let all = s ∷ ss in
+        tables-by_parts (agree d (common_prefix all)) (list_any is_total_exclude all) (list_any (λ p. path_takes p d true) (taken_paths all)) (list_any (λ e. is_exclude e && takes_whole e d) all) (list_any is_include all) (reaches_live all d (Some true)) (list_any (λ i. is_live all i && reaches i d (Some true)) all)
+        (list_any (λ s. is_include s && reaches s d (Some true)) all) (list_any (λ t. stem_reaches t d (Some true)) (stems_of true all all)) (whole-all d all one) (live-all d (Some true) all) (reached-by-stems d (Some true) all) (rw (not-true (is_empty d) some) at t)

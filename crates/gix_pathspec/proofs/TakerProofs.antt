@@ -7,6 +7,7 @@ use Rattle.std.proofs.lemmas.List.{take-append-drop, append-nil, length-take-le,
 use Rattle.std.proofs.Math.Seq.{drop-append_seam}
 use Rattle.pathspec_pattern.specs.declared.SearchMode.{SearchMode}
 use Rattle.pathspec_pattern.specs.declared.SearchMode.TheVariants.{ShellGlob, Literal, PathAwareGlob}
+use Rattle.pathspec_glob.specs.Counts.{Counts}
 use Rattle.pathspec_glob.specs.Globs.{GlobSource, AnswersGlob, GlobIsRelation}
 use Rattle.gix_pathspec.specs.Bytes.{slash, is_empty, is_wildcard, fold_case, begins_with}
 use Rattle.gix_pathspec.specs.Paths.{ends_with_slash, without_last_slash}
@@ -17,10 +18,10 @@ use Rattle.gix_pathspec.specs.Prefixes.{stem, IsFrontOf}
 use Rattle.gix_pathspec.specs.Plain.{has_one_case}
 use Rattle.gix_pathspec.specs.Matching.{case_of, glob_matches, is_in_prefix_directory, is_verbatim_match, is_prefix_match, fits}
 use Rattle.gix_pathspec.specs.Room.{glob_in_mode, glob_of, tokens_of}
-use Rattle.gix_pathspec.specs.Search.{Numbered, specs_of}
+use Rattle.gix_pathspec.specs.Search.{Numbered, MatchCounts, BeginsCounts, specs_of}
 use Rattle.gix_pathspec.specs.Skipping.{fits_plainly, takes_whole, takes_rest, has_open_end}
 use Rattle.gix_pathspec.specs.Reach.{takes_by_path}
-use Rattle.gix_pathspec.specs.Takers.{can_take_rest, is_taker, takers_of, taker_of, rest_glob, taker_takes, taker_head}
+use Rattle.gix_pathspec.specs.Takers.{can_take_rest, is_taker, takers_of, taker_of, rest_glob, taker_takes, taker_head, taker_count, exclude_count, IsTakerCounted, IsSkipCounted}
 use Rattle.gix_pathspec.proofs.BeginsProofs.{front-itself, front-through, begins_with-from_front, front-from_length}
 use Rattle.gix_pathspec.proofs.HeadProofs.{fits-head, glob_stem, stem-at_false, is_in_prefix_directory-front, not_nil, head_sensitive}
 use Rattle.gix_pathspec.proofs.SkipProofs.{plainly-fits}
@@ -245,3 +246,46 @@ module _ {X : Type 0} (test : X → Bool) where
 -- a scratch that fits the specs has room for the globs of these excludes
 pub takers-fit : (specs : List Numbered) (tokens : ℕ) → All (λ n. tokens_of n.spec ≤ tokens) specs → All (λ s. tokens_of s ≤ tokens) (takers_of (specs_of specs))
 takers-fit specs tokens h = All-filter is_taker (λ s. tokens_of s ≤ tokens) (specs_of specs) (All-map (λ s. tokens_of s ≤ tokens) (λ n. n.spec) specs h)
+
+-- ---- how many are asked
+
+module _ (d : List ℕ) where
+  -- each of these excludes is an exclude
+  taker-excludes : (s : Spec) → is_taker s ≡ true → is_exclude s ≡ true
+  taker-excludes s t = (and_parts (is_exclude s) (is_empty s.attributes) (and_parts (is_exclude s && is_empty s.attributes) (not (always_matches s)) (and_parts (takes_by_path s) (can_take_rest s || not (has_one_case s)) t).0).0).0
+
+  abbrev is_headed : Spec → Bool
+  is_headed s = begins_with d (taker_head s)
+
+  takers-few : (specs : List Spec) → taker_count (takers_of specs) d ≤ exclude_count specs d
+  takers-few [] = omega arith
+  takers-few (s ∷ ss) = elim (cases_Bool (is_taker s)) [
+    | inl t ↦ rw (t, taker-excludes s t) (both (is_headed s) (takers-few ss))
+    | inr f ↦ rw f (more (is_exclude s && is_headed s) (takers-few ss))
+  ]
+    where
+      both : (b : Bool) → taker_count (takers_of ss) d ≤ exclude_count ss d
+          → length (cond b (s ∷ filter is_headed (takers_of ss)) (filter is_headed (takers_of ss))) ≤ length (cond b (s ∷ filter (λ s. is_exclude s && is_headed s) ss) (filter (λ s. is_exclude s && is_headed s) ss))
+      both true few = omega (arith, few)
+      both false few = few
+
+      more : (b : Bool) → taker_count (takers_of ss) d ≤ exclude_count ss d → taker_count (takers_of ss) d ≤ length (cond b (s ∷ filter (λ s. is_exclude s && is_headed s) ss) (filter (λ s. is_exclude s && is_headed s) ss))
+      more true few = omega (arith, few)
+      more false few = few
+
+  takers-shorter : (specs : List Spec) → length (takers_of specs) ≤ length specs
+  takers-shorter [] = omega arith
+  takers-shorter (s ∷ ss) = at (is_taker s) (takers-shorter ss)
+    where
+      at : (t : Bool) → length (takers_of ss) ≤ length ss → length (cond t (s ∷ takers_of ss) (takers_of ss)) ≤ length (s ∷ ss)
+      at true few = omega (arith, few)
+      at false few = omega (arith, few)
+
+  -- What was asked of these excludes, from counts that were begun, is counted as what was asked of the specs.
+  pub skip-counted : (specs : List Spec) (old begun new : MatchCounts) → BeginsCounts old begun → IsTakerCounted (takers_of specs) d begun new → IsSkipCounted specs d old new
+  skip-counted specs old begun new b c = record {
+    tested = subst (λ k. Counts k new.last_tested new.tested) b.tested c.tested;
+    compared = subst (λ k. Counts k new.last_compared new.compared) b.compared c.compared;
+    few_tested = omega (arith, c.few_tested, takers-few specs);
+    few_compared = λ b few. c.few_compared b (omega (arith, few, takers-shorter specs));
+  }

@@ -16,7 +16,7 @@ use Rattle.gix_pathspec.specs.Search.{BeginsCounts, MatchCounts, Numbered, Answe
 use Rattle.gix_pathspec.specs.Skipping.{fits_plainly, takes_whole, takes_rest, is_without_glob, found_takes_whole, answer_takes_whole, is_live, holds_nothing, may_skip}
 use Rattle.gix_pathspec.specs.SkipLaws.{FoundIsSkipped}
 use Rattle.gix_pathspec.specs.SkipTables.{holds_nothing_by_tables}
-use Rattle.gix_pathspec.specs.Takers.{IsSkipCounted, IsVisitCounted, takers_of}
+use Rattle.gix_pathspec.specs.Takers.{IsSkipCounted, IsVisitCounted}
 use Rattle.gix_pathspec.specs.SelectionLaws.{NoNilPrefix}
 use Rattle.pathspec_glob.specs.Counts.{Counts}
 use Rattle.gix_pathspec.proofs.ChosenProofs.{chosen_is_test}
@@ -156,7 +156,7 @@ passed-counted specs path asks old new begun = record {
     counts : {before after n : ℕ} → after ≡ before → n ≡ 0 → Counts before n after
     counts {before} {after} {n} same none = rw (same, none) (ap (λ k. k % 2 ^ 128) (omega arith))
 
-    asked : (a : Bool) → MatchBool a (IsSkipCounted (takers_of (specs_of specs)) path new new) (new ≡ new)
+    asked : (a : Bool) → MatchBool a (IsSkipCounted (specs_of specs) path new new) (new ≡ new)
     asked true = record {
       tested = counts refl begun.last_tested;
       compared = counts refl begun.last_compared;

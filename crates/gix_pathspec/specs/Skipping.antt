@@ -1,5 +1,5 @@
 -- Which directories a walk may skip: pruning that looks at the excludes too.
-use Rattle.std.specs.Prelude.{ℕ, Bool, true, false, not, ◌&&◌, ◌||◌, List, [], ◌∷◌, ◌++◌, Option, Some, None}
+use Rattle.std.specs.Prelude.{ℕ, Bool, true, false, not, ◌&&◌, ◌||◌, List, [], ◌∷◌, ◌++◌, Option, Some, None, Contains, IsTrue}
 use Rattle.std.specs.List.{list_any}
 use Rattle.pathspec_pattern.specs.declared.SearchMode.{SearchMode}
 use Rattle.pathspec_pattern.specs.declared.SearchMode.TheVariants.{ShellGlob, Literal, PathAwareGlob}
@@ -76,6 +76,10 @@ holds_nothing specs d =
     not (is_empty d)
     && (not (can_match specs d (Some true)) || list_any (λ e. is_exclude e && takes_whole e d) specs
     || list_any is_include specs && not (list_any (λ i. is_live specs i && reaches i d (Some true)) specs))
+
+-- Case counts in all of the path of each exclude, or nowhere.
+abbrev pub HaveOneCase : List Spec → Type 0
+HaveOneCase specs = (e : Spec) → Contains specs e → IsTrue (is_exclude e) → IsTrue (has_one_case e)
 
 -- A walk may skip what lies below a directory: the directory holds nothing, or its path isn't empty and an exclude takes the rest of it.
 unfoldable pub may_skip : List Spec → List ℕ → Bool

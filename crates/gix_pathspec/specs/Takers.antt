@@ -5,7 +5,7 @@ use Rattle.pathspec_glob.specs.Globs.{GlobSource}
 use Rattle.pathspec_heads.specs.Groups.{GroupedPlaces, IsGrouped}
 use Rattle.gix_pathspec.specs.Bytes.{is_empty, begins_with}
 use Rattle.gix_pathspec.specs.Paths.{without_last_slash}
-use Rattle.gix_pathspec.specs.Specs.{Spec, ignores_case, wants_directory, has_wildcard, prefix_directory}
+use Rattle.gix_pathspec.specs.Specs.{Spec, is_exclude, ignores_case, wants_directory, has_wildcard, prefix_directory}
 use Rattle.gix_pathspec.specs.Plain.{has_one_case}
 use Rattle.gix_pathspec.specs.Prefixes.{stem}
 use Rattle.gix_pathspec.specs.Search.{Numbered, MatchCounts, specs_of}
@@ -55,15 +55,26 @@ AreTakerPlaces takers places = IsGrouped (map taker_head takers) places.heads pl
 abbrev pub taker_count : List Spec → List ℕ → ℕ
 taker_count takers d = length (filter (λ s. begins_with d (taker_head s)) takers)
 
--- What the last question asked and compared is counted. It asked no more excludes than have a head that begins the directory, and compared few heads.
-pub record IsSkipCounted (takers : List Spec) (d : List ℕ) (old new : MatchCounts) : Type 0 where
+-- What the last question to these excludes asked and compared is counted. It asked no more of them than have a head that begins the directory, and compared few heads.
+pub record IsTakerCounted (takers : List Spec) (d : List ℕ) (old new : MatchCounts) : Type 0 where
   pub tested : Counts old.tested new.last_tested new.tested
   pub compared : Counts old.compared new.last_compared new.compared
   pub few_tested : new.last_tested ≤ taker_count takers d
   pub few_compared : (b : ℕ) → length takers < 2 ^ b → new.last_compared ≤ b + 2
 
+-- how many excludes have a head that begins the directory
+abbrev pub exclude_count : List Spec → List ℕ → ℕ
+exclude_count specs d = length (filter (λ s. is_exclude s && begins_with d (taker_head s)) specs)
+
+-- What a question whether a walk may skip a directory asked and compared is counted. It asked no more specs than there are excludes with a head that begins the directory, and compared few heads.
+pub record IsSkipCounted (specs : List Spec) (d : List ℕ) (old new : MatchCounts) : Type 0 where
+  pub tested : Counts old.tested new.last_tested new.tested
+  pub compared : Counts old.compared new.last_compared new.compared
+  pub few_tested : new.last_tested ≤ exclude_count specs d
+  pub few_compared : (b : ℕ) → length specs < 2 ^ b → new.last_compared ≤ b + 2
+
 -- What a visit asked and compared is counted: that of the match, and then, where it asks whether a walk may skip the path, that of this question.
 pub record IsVisitCounted (specs : List Numbered) (path : List ℕ) (asks : Bool) (old new : MatchCounts) : Type 0 where
   pub between : MatchCounts
   pub matched : IsCounted specs path old between
-  pub skipped : MatchBool asks (IsSkipCounted (takers_of (specs_of specs)) path between new) (new ≡ between)
+  pub skipped : MatchBool asks (IsSkipCounted (specs_of specs) path between new) (new ≡ between)

@@ -7,7 +7,7 @@ ghost use Rattle.pathspec_glob.specs.Counts.{Counts};
 ghost use Rattle.pathspec_heads.specs.Heads.{IsChainOf};
 ghost use Rattle.gix_pathspec.specs.Specs.{Spec};
 ghost use Rattle.gix_pathspec.specs.Room.{tokens_of};
-ghost use Rattle.gix_pathspec.specs.Takers.{AreTakerPlaces, IsSkipCounted, taker_takes, taker_count};
+ghost use Rattle.gix_pathspec.specs.Takers.{AreTakerPlaces, IsTakerCounted, taker_takes, taker_count};
 
 use crate::by_head::Scratch;
 use crate::search::counted::{CountedHeads, CountedTakers, SpecScratch};
@@ -51,7 +51,7 @@ impl TakersByHead {
         ensures answer { result
             ≡ list_any (λ s. taker_takes s (bstr_bytes directory.entry)) self.now }
         ensures room { scratch.new.room ≡ scratch.old.room }
-        ensures counted { IsSkipCounted self.now (bstr_bytes directory.entry)
+        ensures counted { IsTakerCounted self.now (bstr_bytes directory.entry)
             scratch.old.counts scratch.new.counts }
     {
         some_takes(&self.takers, &self.heads, scratch, directory)
@@ -71,7 +71,7 @@ fn some_takes(
     ensures answer { result
         ≡ list_any (λ s. taker_takes s (bstr_bytes directory.entry)) takers.now }
     ensures room { scratch.new.room ≡ scratch.old.room }
-    ensures counted { IsSkipCounted takers.now (bstr_bytes directory.entry)
+    ensures counted { IsTakerCounted takers.now (bstr_bytes directory.entry)
         scratch.old.counts scratch.new.counts }
 {
     let deepest = heads.deepest(directory.as_bytes(), &mut scratch.heads);

@@ -7,7 +7,7 @@ ghost use Rattle.gix_pathspec.specs.Skipping.{may_skip};
 ghost use Rattle.gix_pathspec.specs.SkipLaws.{SkippedIsNotChosen, NothingIsChosen, SkippedStays, SkipsMore, SkipIsExact};
 ghost use Rattle.gix_pathspec.specs.Search.{BeginsCounts};
 ghost use Rattle.gix_pathspec.specs.SkipTables.{holds_nothing_by_tables, skips_by_tables};
-ghost use Rattle.gix_pathspec.specs.Takers.{IsSkipCounted, takers_of};
+ghost use Rattle.gix_pathspec.specs.Takers.{IsSkipCounted};
 
 use crate::search::{Scratch, Search};
 use bstr::BStr;
@@ -28,12 +28,11 @@ impl Search {
     /// The directory's path has no slash at its end, as for [`Search::can_match_relative_path`]. To the empty path the answer
     /// is no.
     ///
-    /// In each of ten lists, six of stems of includes and four of paths of excludes, it compares the path with at most as many as
-    /// their count has binary digits, and two. In a list of stems this is often one where one walker asks of directories in byte
-    /// order: its scratch keeps where each search ended. Nothing counts these. Then it asks, one by one, the excludes whose glob
-    /// ends with `**`, or in a shell glob with `*`, and those without case that have a prefix directory: those whose head begins
-    /// the directory, up to the first that takes it. It counts these questions and the comparisons of heads in the scratch, as a
-    /// match does. It takes no memory.
+    /// Tables tell most of it: it goes by one search through each of ten lists, six of stems of includes and four of paths of
+    /// excludes. Nothing counts what these compare. Then it asks one by one the excludes that no table answers for, those whose
+    /// glob ends with `**`, or in a shell glob with `*`, and those without case that have a prefix directory, up to the first
+    /// that takes the directory. These questions, and the comparisons of heads, are counted in the scratch as in a match: it asks
+    /// no more excludes than have a head that begins the directory. It takes no memory.
     pub fn may_skip(&self, directory: BStr<'_>, scratch: &mut Scratch) -> bool
         requires { Fits self.now.specs scratch.old }
         ensures answer { result ≡ may_skip (specs_of self.now.specs) (bstr_bytes directory.entry) }
@@ -48,7 +47,7 @@ impl Search {
         // Of plain specs it may skip exactly where nothing at or below the directory is chosen.
         ensures exact { (table : Table) → SkipIsExact table (specs_of self.now.specs) }
         ensures room { scratch.new.room ≡ scratch.old.room }
-        ensures counted { IsSkipCounted (takers_of (specs_of self.now.specs))
+        ensures counted { IsSkipCounted (specs_of self.now.specs)
             (bstr_bytes directory.entry) scratch.old.counts scratch.new.counts }
     {
         // The proof reads here that no nil spec has a prefix directory, and that paths are bytes.
@@ -61,7 +60,7 @@ impl Search {
         requires { Fits self.now.specs scratch.old }
         ensures answer { result ≡ may_skip (specs_of self.now.specs) (bstr_bytes directory.entry) }
         ensures room { scratch.new.room ≡ scratch.old.room }
-        ensures counted { IsSkipCounted (takers_of (specs_of self.now.specs))
+        ensures counted { IsSkipCounted (specs_of self.now.specs)
             (bstr_bytes directory.entry) scratch.old.counts scratch.new.counts }
     {
         self.holds_nothing_by_tables(directory, scratch)
@@ -91,7 +90,7 @@ impl Search {
             (bstr_bytes directory) ≡ false }
         ensures answer { result ≡ may_skip (specs_of self.now.specs) (bstr_bytes directory.entry) }
         ensures room { scratch.new.room ≡ scratch.old.room }
-        ensures counted { IsSkipCounted (takers_of (specs_of self.now.specs))
+        ensures counted { IsSkipCounted (specs_of self.now.specs)
             (bstr_bytes directory.entry) scratch.old.counts scratch.new.counts }
     {
         scratch.begin();

@@ -9,10 +9,10 @@ ghost use Rattle.gix_pathspec.specs.Found.{match_view};
 ghost use Rattle.gix_pathspec.specs.Matching.{is_chosen};
 ghost use Rattle.gix_pathspec.specs.Room.{Fits};
 ghost use Rattle.gix_pathspec.specs.Search.{BeginsCounts, specs_of, answer, selects};
-ghost use Rattle.gix_pathspec.specs.Skipping.{answer_takes_whole, may_skip};
+ghost use Rattle.gix_pathspec.specs.Skipping.{answer_takes_whole, holds_nothing, may_skip, HaveOneCase};
 ghost use Rattle.gix_pathspec.specs.SkipLaws.{SkippedIsNotChosen};
 ghost use Rattle.gix_pathspec.specs.SkipTables.{holds_nothing_by_tables};
-ghost use Rattle.gix_pathspec.specs.Takers.{IsSkipCounted, IsVisitCounted, takers_of};
+ghost use Rattle.gix_pathspec.specs.Takers.{IsSkipCounted, IsVisitCounted};
 
 use crate::search::found::selects;
 use crate::search::{Match, Scratch, Search};
@@ -62,9 +62,10 @@ impl Search {
         // The search chooses nothing below a directory that the walk doesn't enter, whatever a look-up says.
         ensures safe { (table : Table) → SkippedIsNotChosen table (specs_of self.now.specs) }
         ensures room { scratch.new.room ≡ scratch.old.room }
-        // Of a directory that holds nothing, as far as tables tell, it asks no spec and compares no head.
-        ensures passed_over { IsTrue (is_dir && holds_nothing_by_tables (specs_of self.now.specs)
-            (bstr_bytes path.entry)) → BeginsCounts scratch.old.counts scratch.new.counts }
+        // Of a directory that holds nothing it asks no spec and compares no head, if all excludes have one case.
+        ensures passed_over { HaveOneCase (specs_of self.now.specs)
+            → IsTrue (is_dir && holds_nothing (specs_of self.now.specs) (bstr_bytes path.entry))
+            → BeginsCounts scratch.old.counts scratch.new.counts }
         // Of a file, and of a directory whose match takes it whole, it asks for the match alone.
         ensures counted { let found = answer (L.table look_up.old) self.now.specs
             (bstr_bytes path.entry) is_dir in
@@ -106,7 +107,7 @@ impl Search {
             ≡ (is_dir && not (may_skip (specs_of self.now.specs) (bstr_bytes path.entry))) }
         ensures room { scratch.new.room ≡ scratch.old.room }
         ensures counted { MatchBool (is_dir && not is_skipped)
-            (IsSkipCounted (takers_of (specs_of self.now.specs))
+            (IsSkipCounted (specs_of self.now.specs)
             (bstr_bytes path.entry) scratch.old.counts scratch.new.counts)
             (scratch.new.counts ≡ scratch.old.counts) }
     {

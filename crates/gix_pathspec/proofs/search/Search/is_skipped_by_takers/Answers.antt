@@ -8,10 +8,10 @@ use Rattle.gix_pathspec.specs.Room.{tokens_of}
 use Rattle.gix_pathspec.specs.Search.{Numbered, SearchContents, specs_of}
 use Rattle.gix_pathspec.specs.SkipTables.{holds_nothing_by_tables, skips_by_tables}
 use Rattle.gix_pathspec.specs.Skipping.{may_skip}
-use Rattle.gix_pathspec.specs.Takers.{taker_takes, takers_of}
+use Rattle.gix_pathspec.specs.Takers.{taker_takes, takers_of, IsTakerCounted}
 use Rattle.gix_pathspec.proofs.FoundProofs.{is_empty-counted}
 use Rattle.gix_pathspec.proofs.SkipTableProofs.{skips-as-defined, skips-no-empty}
-use Rattle.gix_pathspec.proofs.TakerProofs.{takers-fit}
+use Rattle.gix_pathspec.proofs.TakerProofs.{skip-counted, takers-fit}
 use Rattle.gix_pathspec.proofs.search.Search.is_skipped_by_takers.Goals as goal
 
 -- whether the path is empty, as its bytes were counted
@@ -38,3 +38,10 @@ returns-clause-answer c =
     let same : c.self.inside.specs ≡ c.args.self.now.specs = ap (λ (s : SearchContents). s.specs) c.self.view_is in
     let takers = c.self.invariant.are_takers ∙ ap (λ (ns : List Numbered). takers_of (specs_of ns)) same in
     by-takers _ (bstr_bytes c.args.directory) (test-empty (bstr_bytes c.args.directory) c.as_bytes.ensures c.is_empty.ensures c.if-is_empty.false) c.requires.tables (c.has_taker.ensures.answer ∙ ap (λ ts. list_any (λ s. taker_takes s (bstr_bytes c.args.directory)) ts) takers)
+
+pub returns-clause-counted : goal.returns-clause-counted
+returns-clause-counted c =
+    let same : c.self.inside.specs ≡ c.args.self.now.specs = ap (λ (s : SearchContents). s.specs) c.self.view_is in
+    let takers = c.self.invariant.are_takers ∙ ap (λ (ns : List Numbered). takers_of (specs_of ns)) same in
+    skip-counted (bstr_bytes c.args.directory) (specs_of c.args.self.now.specs) c.args.scratch.now.counts c.begin.new.self.counts c.has_taker.new.scratch.counts c.begin.ensures.begun
+    (subst (λ ts. IsTakerCounted ts (bstr_bytes c.args.directory) c.begin.new.self.counts c.has_taker.new.scratch.counts) takers c.has_taker.ensures.counted)

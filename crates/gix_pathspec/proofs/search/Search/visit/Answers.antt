@@ -1,14 +1,18 @@
 -- A directory that holds nothing is passed over, one whose match takes it whole may be skipped, and the law of skipping holds of the specs of each search.
-use Rattle.std.proofs.Common.{◌≡◌, ◌∙◌, ℕ, Bool, List, true, subst, sym}
+use Rattle.std.proofs.Common.{◌≡◌, ◌∙◌, ◌&&◌, ℕ, Bool, IsTrue, List, true, false, subst, sym}
+use Rattle.std.proofs.lemmas.Bool.{and_parts, both_ways}
 use Rattle.std.specs.Option.{option_map}
 use Rattle.bstr.specs.BStr.{bstr_bytes}
 use Rattle.gix_pathspec.specs.Found.{match_view}
 use Rattle.gix_pathspec.specs.Search.{SearchContents, specs_of, in_search_order}
 use Rattle.gix_pathspec.specs.SelectionLaws.{NoNilPrefix}
+use Rattle.gix_pathspec.specs.Skipping.{holds_nothing, HaveOneCase}
 use Rattle.gix_pathspec.specs.SkipTables.{holds_nothing_by_tables}
 use Rattle.gix_pathspec.specs.Specs.{Spec}
 use Rattle.gix_pathspec.proofs.SkipProofs.{skipped_is_not_chosen}
 use Rattle.gix_pathspec.proofs.VisitProofs.{passed-counted, passed-not-chosen, passed-not-entered, passed-not-selected, visit-skipped}
+use Rattle.gix_pathspec.proofs.SkipTableProofs.{held-by-tables}
+use Rattle.gix_pathspec.proofs.search.Search.visit.Goals.{else-is_dir-via-then-is_dir+else-holds_nothing_by_tables, else-is_dir-via-else-is_dir}
 use Rattle.gix_pathspec.proofs.search.Search.visit.Goals as goal
 
 pub enters-is_entered-requires-clause-skipped : goal.enters-is_entered-requires-clause-skipped
@@ -49,3 +53,25 @@ returns-in_err-found-clause-safe g c table = rw (← c.self.view_is) (skipped_is
 
 pub returns-clause-safe : goal.returns-clause-safe
 returns-clause-safe g c table = rw (← c.self.view_is) (skipped_is_not_chosen table _ c.self.invariant.has_no_nil_prefix)
+
+-- tables tell of each directory that holds nothing, where all excludes have one case
+not_passed : {A : Type 0} (specs : List Spec) (d : List ℕ) (is_dir : Bool) → (is_dir ≡ true → holds_nothing_by_tables specs d ≡ false) → HaveOneCase specs → IsTrue (is_dir && holds_nothing specs d) → A
+not_passed specs d is_dir none one h =
+    let p = and_parts is_dir (holds_nothing specs d) h in
+    absurd (both_ways (holds_nothing_by_tables specs d) (none p.0) (held-by-tables specs d one p.1))
+
+pub returns-in_err-found-clause-passed_over : goal.returns-in_err-found-clause-passed_over
+returns-in_err-found-clause-passed_over g c =
+    let none : c.args.is_dir ≡ true → holds_nothing_by_tables (specs_of c.args.self.now.specs) (bstr_bytes c.args.path) ≡ false = elim c.else-is_dir.branch [
+      | else-is_dir-via-then-is_dir+else-holds_nothing_by_tables w ↦ λ k. sym w.holds_nothing_by_tables.ensures.answer ∙ w.if-holds_nothing_by_tables.false
+      | else-is_dir-via-else-is_dir w ↦ λ k. absurd (both_ways c.args.is_dir w.if-is_dir.false k)
+    ] in
+    not_passed (specs_of c.args.self.now.specs) (bstr_bytes c.args.path) c.args.is_dir none
+
+pub returns-clause-passed_over : goal.returns-clause-passed_over
+returns-clause-passed_over g c =
+    let none : c.args.is_dir ≡ true → holds_nothing_by_tables (specs_of c.args.self.now.specs) (bstr_bytes c.args.path) ≡ false = elim c.else-is_dir.branch [
+      | else-is_dir-via-then-is_dir+else-holds_nothing_by_tables w ↦ λ k. sym w.holds_nothing_by_tables.ensures.answer ∙ w.if-holds_nothing_by_tables.false
+      | else-is_dir-via-else-is_dir w ↦ λ k. absurd (both_ways c.args.is_dir w.if-is_dir.false k)
+    ] in
+    not_passed (specs_of c.args.self.now.specs) (bstr_bytes c.args.path) c.args.is_dir none
