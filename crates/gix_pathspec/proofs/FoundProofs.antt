@@ -72,6 +72,16 @@ same-branches : {A : Type 0} (b : Bool) (x : A) → x ≡ cond b x x
 same-branches true x = refl
 same-branches false x = refl
 
+-- a spec that doesn't match the path
+pub matched_kind-never : (table : Table) (s : Spec) (path : List ℕ) (is_dir : Bool) → spec_matches table s path is_dir ≡ false → None ≡ matched_kind table s path is_dir
+unfolding matched_kind spec_matches
+matched_kind-never table s path is_dir h = at (has_attributes table s path is_dir) (fit s path is_dir) h
+  where
+    at : (has : Bool) (o : Option MatchKind) → (is_some o && has) ≡ false → None ≡ cond has o None
+    at false o h = refl
+    at true None h = refl
+    at true (Some kind) h = cc
+
 -- one that doesn't fit
 pub matched_kind-unfitted : (table : Table) (s : Spec) (path : List ℕ) (is_dir : Bool) → fit s path is_dir ≡ None → None ≡ matched_kind table s path is_dir
 unfolding matched_kind

@@ -2,6 +2,8 @@
 use Rattle.std.specs.Prelude.{◌≡◌, ℕ, List, length, Option}
 use Rattle.pathspec_pattern.specs.declared.pattern.Pattern.{Pattern}
 use Rattle.pathspec_glob.specs.Globs.{GlobSource}
+use Rattle.std.specs.Option.{ForSome}
+use Rattle.gix_pathspec.specs.EndBytes.{BeginsPaths, EndsPaths}
 use Rattle.gix_pathspec.specs.Specs.{Spec}
 use Rattle.gix_pathspec.specs.Patterns.{pattern_spec}
 use Rattle.gix_pathspec.specs.Prefixes.{stem}
@@ -17,10 +19,12 @@ use Rattle.gix_pathspec.specs.SelectionLaws.{NoNilPrefix, SpecPathsAreBytes}
 abbrev pub numbered_pattern : ℕ → Pattern → Numbered
 numbered_pattern number pattern = record { number = number; spec = pattern_spec pattern }
 
--- A spec is ready for matching: its stem is measured, and its glob compiled.
-pub record IsCompiled (s : Spec) (stem_length : ℕ) (glob : Option GlobSource) : Type 0 where
+-- A spec is ready for matching: its stem is measured, its glob compiled, and the first and the last byte of its paths are known where they tell anything.
+pub record IsCompiled (s : Spec) (stem_length : ℕ) (glob : Option GlobSource) (first last : Option ℕ) : Type 0 where
   pub is_stem : stem_length ≡ length (stem s)
   pub is_glob : glob ≡ glob_of s
+  pub is_first : ForSome first (BeginsPaths s)
+  pub is_last : ForSome last (EndsPaths s)
 
 -- A search: its specs stand in search order, no nil spec has a prefix directory, the paths are bytes, and it holds what the specs reach, the excludes that are asked one by one and the nil pattern, and room for its own matches.
 pub record IsSearch (specs : List Numbered) (reach : Reach) (takers : List Spec) (nil : Pattern) (scratch : ScratchContents) : Type 0 where

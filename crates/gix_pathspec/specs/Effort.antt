@@ -9,7 +9,6 @@ use Rattle.gix_pathspec.specs.Prefixes.{head, common_prefix}
 use Rattle.pathspec_glob.specs.Counts.{Counts}
 use Rattle.gix_pathspec.specs.Search.{Numbered, Answer, MatchCounts, specs_of}
 use Rattle.gix_pathspec.specs.Found.{matched_kind}
-use Rattle.gix_pathspec.specs.EndBytes.{EndWords, AreEndBytes}
 
 -- the heads of the specs in search order
 abbrev pub heads_in_order : List Numbered → List (List ℕ)
@@ -19,11 +18,10 @@ heads_in_order specs = map (λ n. head n.spec) specs
 abbrev pub ArePlacesOf : List Numbered → GroupedPlaces → Type 0
 ArePlacesOf specs places = IsGrouped (heads_in_order specs) places.heads places.starts places.order
 
--- the places are those of the specs, this is their common prefix, and the words tell what first and last bytes do
-pub record IsByHead (specs : List Numbered) (heads : GroupedPlaces) (common : List ℕ) (words : EndWords) : Type 0 where
+-- the places are those of the specs, and this is their common prefix
+pub record IsByHead (specs : List Numbered) (heads : GroupedPlaces) (common : List ℕ) : Type 0 where
   pub is_grouped : ArePlacesOf specs heads
   pub is_common : common ≡ common_prefix (specs_of specs)
-  pub are_end_bytes : AreEndBytes specs words
 
 -- how the spec at a place matches a path, where there is one
 abbrev pub kind_at : Table → List Numbered → List ℕ → Bool → ℕ → Option MatchKind

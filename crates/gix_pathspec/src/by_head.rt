@@ -3,27 +3,25 @@
 //! A match sees two questions about a path that isn't empty and begins with the common prefix: how the spec at a place
 //! matches it, and which heads begin it. Both count, in the scratch that the match borrows. What reads a spec, and what
 //! makes a scratch, is private to the module `search`.
-ghost use Rattle.std.specs.Prelude.{◌≡◌, ◌<◌, ◌≤◌, length, IsSome, IsTrue, IfOk, None, OnOk, OnErr};
+ghost use Rattle.std.specs.Prelude.{◌≡◌, ◌<◌, ◌≤◌, length, IsSome, IsTrue, IfOk, OnOk, OnErr};
 ghost use Rattle.std.specs.Box.{box_value};
 ghost use Rattle.bstr.specs.BStr.{bstr_bytes};
 ghost use Rattle.pathspec_parts.specs.Attributes.{next_count};
 ghost use Rattle.pathspec_glob.specs.Counts.{Counts};
-ghost use Rattle.pathspec_heads.specs.Groups.{IsLeastFrom};
+ghost use Rattle.pathspec_heads.specs.Heads.{IsChainOf};
 ghost use Rattle.gix_pathspec.specs.Found.{IsFirstFound};
 ghost use Rattle.gix_pathspec.specs.Prefixes.{common_prefix};
 ghost use Rattle.gix_pathspec.specs.Search.{specs_of, BeginsCounts, IsFresh};
 ghost use Rattle.gix_pathspec.specs.Room.{HasRoom, Fits};
 ghost use Rattle.gix_pathspec.specs.Effort.{ArePlacesOf, candidate_count, IsCounted, IsLittleCompared, is_unasked};
-ghost use Rattle.gix_pathspec.specs.EndBytes.{AreAsked, AreEndBytes, IsAsked};
 
 pub(crate) mod takers;
 
 use crate::search::MatchKind;
 use crate::search::counted::{CountedHeads, CountedSpecs, SpecScratch};
-use crate::search::end_bytes::EndBytes;
 use crate::search::texts::begins_with;
 use bstr::BStr;
-use pathspec_heads::places::{self, Deepest, next_bit};
+use pathspec_heads::places::{self, Deepest};
 use pathspec_heads::tables::StemHints;
 use pathspec_parts::attributes::LookUp;
 use std::fmt;
@@ -115,10 +113,10 @@ impl Scratch {
         self.effort = NO_EFFORT;
     }
 
-    /// How many specs the last match asked whether they match the path; a spec at which the look-up failed is one. It asks none
-    /// that the path's first or last byte rules out: of `*.rs`, `a` it asks one about `a`. It is 0 before the first match, and where the
-    /// path was empty or lacked the common prefix. After [`Search::may_skip`](crate::search::Search::may_skip) it is how many
-    /// excludes that call asked one by one.
+    /// How many specs the last match asked whether they match the path. A spec at which the look-up failed is one, and so is a
+    /// spec that the path's last byte rules out. It is 0 before the first match, and where the path was empty or lacked the
+    /// common prefix. After [`Search::may_skip`](crate::search::Search::may_skip) it is how many excludes that call asked one
+    /// by one.
     pub fn last_tested(&self) -> usize
         ensures { result ≡ self.now.counts.last_tested }
     {
@@ -155,7 +153,6 @@ pub(crate) struct SpecsByHead {
     /// The places of the specs in search order, by their heads.
     heads: Box<CountedHeads>,
     common_prefix: Vec<u8>,
-    end_bytes: EndBytes,
 }
 
 impl Model for SpecsByHead {
@@ -168,8 +165,7 @@ impl Model for SpecsByHead {
 
     ghost view = { λ s. s.specs };
 
-    ghost invariant = { λ s. IsByHead s.specs (box_value s.heads) s.common_prefix.items
-        s.end_bytes };
+    ghost invariant = { λ s. IsByHead s.specs (box_value s.heads) s.common_prefix.items };
 }
 
 impl SpecsByHead {
@@ -177,23 +173,16 @@ impl SpecsByHead {
     ghost use Rattle.gix_pathspec.specs.Found.{is_directory, answer_found};
     ghost use Rattle.gix_pathspec.specs.Search.{answer};
 
-    /// Specs with their places, their common prefix, and what first and last bytes tell of them.
-    pub(crate) fn new(
-        specs: CountedSpecs,
-        heads: Box<CountedHeads>,
-        common: Vec<u8>,
-        end_bytes: EndBytes,
-    ) -> SpecsByHead
+    /// Specs with their places and their common prefix.
+    pub(crate) fn new(specs: CountedSpecs, heads: Box<CountedHeads>, common: Vec<u8>) -> SpecsByHead
         requires places { ArePlacesOf specs (box_value heads) }
         requires common { common.items ≡ common_prefix (specs_of specs) }
-        requires end_bytes { AreEndBytes specs end_bytes }
         ensures { result ≡ specs }
     {
         SpecsByHead {
             specs,
             heads,
             common_prefix: common,
-            end_bytes,
         }
     }
 
@@ -271,13 +260,7 @@ impl SpecsByHead {
             return Ok(None);
         }
         let is_dir = is_dir.unwrap_or(false);
-        let SpecsByHead {
-            specs,
-            heads,
-            end_bytes,
-            common_prefix: _,
-        } = self;
-        first_match(specs, heads, end_bytes, scratch, path, is_dir, look_up)
+        first_match(&self.specs, &self.heads, scratch, path, is_dir, look_up)
     }
 
     /// Whether the answer for a path needs no look at the specs: it is empty, or lacks the common prefix.
@@ -285,35 +268,22 @@ impl SpecsByHead {
         ensures { result ≡ is_unasked self.now path.now }
     {
         let common = self.common_prefix.as_slice();
-        // Most searches have no common prefix, and then this is no call.
+        // Without a common prefix this makes no call.
         path.is_empty() || !common.is_empty() && !begins_with(path, common, false)
     }
 }
 
-/// The places of the specs that a match asks about a path: those at these bits, or where there are none, those whose head begins
-/// the head with this number and that the path leaves.
-#[derive(Clone, Copy)]
-struct Asked<'a> {
-    heads: &'a CountedHeads,
-    end_bytes: &'a EndBytes,
-    head: usize,
-    bits: Option<u64>,
-    path: BStr<'a>,
-}
-
-/// The place of the first spec that matches a path, and how it does. It asks only specs whose head begins the path, and of
-/// those only the ones that its first and its last byte leave.
+/// The place of the first spec that matches a path, and how it does. It asks no more specs than have a head that begins the
+/// path.
 fn first_match<L: LookUp>(
     specs: &CountedSpecs,
     heads: &CountedHeads,
-    end_bytes: &EndBytes,
     scratch: &mut Scratch,
     path: BStr<'_>,
     is_dir: bool,
     look_up: &mut L,
 ) -> Result<Option<(usize, MatchKind)>, L::Fault>
     requires grouped { ArePlacesOf specs.now heads.now }
-    requires end_bytes { AreEndBytes specs.now end_bytes.now }
     requires fits { Fits specs.now scratch.old }
     ensures room { scratch.new.room ≡ scratch.old.room }
     ensures first { IfOk result (λ found.
@@ -333,107 +303,60 @@ fn first_match<L: LookUp>(
         scratch.effort = Effort { tested, compared };
         return Ok(None);
     };
-    let room = &mut scratch.specs;
-    let asked = Asked {
+    let found = first_candidate(
+        specs,
         heads,
-        end_bytes,
         head,
-        bits: None,
+        &mut scratch.specs,
+        &mut tested,
         path,
-    };
-    let found = match heads.bits(head) {
-        Some(places) => {
-            let left = end_bytes.left(places, path.as_bytes(), heads.head_len(head));
-            let asked = Asked {
-                bits: Some(left),
-                ..asked
-            };
-            ask(specs, asked, is_dir, room, &mut tested, look_up)
-        }
-        None => ask(specs, asked, is_dir, room, &mut tested, look_up),
-    };
+        is_dir,
+        look_up,
+    );
     scratch.effort = Effort { tested, compared };
     found
 }
 
-// In line, so that each of its two calls has a loop of its own kind.
-/// The place of the first spec that matches the path, of these, and how it does. It counts each spec that it asks.
-#[inline(always)]
-fn ask<L: LookUp>(
+/// The place of the first spec that matches a path, and how it does, of those whose head begins the one with a number.
+/// It counts each spec that it asks.
+fn first_candidate<L: LookUp>(
     specs: &CountedSpecs,
-    asked: Asked<'_>,
-    is_dir: bool,
+    heads: &CountedHeads,
+    head: usize,
     scratch: &mut SpecScratch,
     tested: &mut usize,
+    path: BStr<'_>,
+    is_dir: bool,
     look_up: &mut L,
 ) -> Result<Option<(usize, MatchKind)>, L::Fault>
+    requires grouped { ArePlacesOf specs.now heads.now }
     requires room { HasRoom specs.now scratch.old.room }
-    requires head { asked.head < length asked.heads.now.heads }
-    requires grouped { ArePlacesOf specs.now asked.heads.now }
-    requires asked { AreAsked specs.now (bstr_bytes asked.path) is_dir
-        (IsAsked asked.bits asked.heads.now asked.head asked.end_bytes.now (bstr_bytes asked.path)) }
+    requires head { head < length heads.now.heads }
+    requires chain { IsChainOf heads.now.heads (bstr_bytes path) head }
     requires none { tested.old ≡ 0 }
     ensures room { scratch.new.room ≡ scratch.old.room }
     ensures first { IfOk result (λ found.
-        IsFirstFound (L.table look_up.old) specs.now (bstr_bytes asked.entry.path) is_dir found) }
+        IsFirstFound (L.table look_up.old) specs.now (bstr_bytes path.entry) is_dir found) }
     ensures table_stays { L.table look_up.new ≡ L.table look_up.old }
     ensures ok_leaves_count { OnOk result (L.failures look_up.new ≡ L.failures look_up.old) }
     ensures err_counts { OnErr result
         (L.failures look_up.new ≡ next_count (L.failures look_up.old)) }
     ensures counted { Counts scratch.old.tested tested.new scratch.new.tested }
-    ensures few { tested.new ≤ candidate_count specs.now (bstr_bytes asked.entry.path) }
+    ensures few { tested.new ≤ candidate_count specs.now (bstr_bytes path.entry) }
     ensures asked { IfOk result (λ found. IsSome found → 1 ≤ tested.new) }
 {
-    // The loop ends since no place is behind the last: nothing else needs their number, and the compiled loop hasn't it.
     let count = specs.len();
     let mut from = 0;
-    while let Some(place) = asked.next(specs, from) {
+    while from < count {
+        let place = match heads.next_place(head, from) {
+            Some(place) => place,
+            None => return Ok(None),
+        };
         *tested += 1;
-        if let Some(kind) = specs.matches(place, asked.path, is_dir, scratch, look_up)? {
+        if let Some(kind) = specs.matches(place, path, is_dir, scratch, look_up)? {
             return Ok(Some((place, kind)));
         }
         from = place + 1;
     }
     Ok(None)
-}
-
-impl Asked<'_> {
-    /// The least of the places from one on.
-    #[inline(always)]
-    fn next(&self, specs: &CountedSpecs, from: usize) -> Option<usize>
-        requires grouped { ArePlacesOf specs.now self.now.heads.now }
-        requires head { self.now.head < length self.now.heads.now.heads }
-        ensures { IsLeastFrom (IsAsked self.now.bits self.now.heads.now self.now.head
-            self.now.end_bytes.now (bstr_bytes self.now.path)) from result }
-    {
-        match self.bits {
-            Some(word) => next_bit(word, from),
-            None => self.next_left(specs, from),
-        }
-    }
-
-    // Out of line, so that a match of up to 64 specs makes no room for what this needs.
-    /// The least place from one on whose head begins the head with the number, and that the path leaves. It goes by blocks of 64
-    /// specs: in each it looks at as many places as the path leaves there, and at one more.
-    #[inline(never)]
-    fn next_left(&self, specs: &CountedSpecs, from: usize) -> Option<usize>
-        requires grouped { ArePlacesOf specs.now self.now.heads.now }
-        requires head { self.now.head < length self.now.heads.now.heads }
-        ensures { IsLeastFrom (IsAsked None self.now.heads.now self.now.head
-            self.now.end_bytes.now (bstr_bytes self.now.path)) from result }
-    {
-        let count = specs.len();
-        let head_len = self.heads.head_len(self.head);
-        let mut at = from;
-        while let Some(place) = self.heads.next_place(self.head, at) {
-            let left = self
-                .end_bytes
-                .next_left(place, self.path.as_bytes(), head_len);
-            if left == place {
-                return Some(place);
-            }
-            at = left;
-        }
-        None
-    }
 }

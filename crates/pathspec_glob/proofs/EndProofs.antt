@@ -245,13 +245,6 @@ module _ (mode : Mode) (case : Case) where
       ∙ tail-splits (head ++ middle) tail (tail-singles mode ts) (stands-behind_head head middle tail (head-singles ts) (tail-stands mode ts)) text
       ∙ ap (λ x. ends tail text && x) (head-splits head middle (head-singles ts) front)
 
-  -- where tokens match a text, their tail takes its end
-  pub tail-taken : (ts : List Token) (text : List ℕ) → matches mode case ts text ≡ true → takes_each mode case (tail_of mode ts) (drop (length text - length (tail_of mode ts)) text) ≡ true
-  tail-taken ts text h =
-      let tail = tail_of mode ts in
-      let front = take (length text - length tail) text in
-      (and_parts (ends tail text) (after (head_of ts) (matches mode case (middle_of mode ts)) front) (sym (parts-match ts text) ∙ h)).0
-
   -- ---- one token for any number of bytes
 
   star-alone : (text : List ℕ) → some_suffix (λ b. not (b == slash)) (matches mode case []) text ≡ list_all (λ b. not (b == slash)) text

@@ -7,7 +7,7 @@ use Rattle.pathspec_glob.specs.Tokens.{tokens_from, tokens}
 use Rattle.pathspec_glob.specs.Tokens.Item.{Literal, Range, Class}
 use Rattle.pathspec_glob.specs.Tokens.OneByte.{Byte, Quoted, Bracket, Dead}
 use Rattle.pathspec_glob.specs.Tokens.Token.{One, Star, Deep}
-use Rattle.pathspec_glob.specs.LastBytes.{ends_with_byte, last_of}
+use Rattle.pathspec_glob.specs.LastBytes.{ends_with_byte, own_end}
 use Rattle.pathspec_glob.proofs.Asking.{globbed}
 
 -- `:(glob)*.c` on `x.c`
@@ -464,15 +464,21 @@ ends_with_no_a = refl
 empty_ends_with_none : (byte : ℕ) → ends_with_byte Fold [] byte ≡ false
 empty_ends_with_none byte = refl
 
--- `.rs` wants `s` at its end, and `.[s]` and no tokens want no byte of their own
-last_wants_s : last_of (tokens Shell (codes ".rs")) ≡ Some (One (Byte 115))
-unfolding tokens_from
-last_wants_s = refl
+-- `src/*.rs` and `*.\s` end with a byte that stands for itself; a bracket, `**/` and the empty pattern don't
+own_end-byte : own_end (codes "src/*.rs") ≡ Some 115
+own_end-byte = refl
 
-last_is_bracket : last_of (tokens Shell (codes ".[s]")) ≡ Some (One (Bracket false (Literal 115 ∷ [])))
-unfolding tokens_from
-last_is_bracket = refl
+own_end-quoted : own_end (codes "*.\\s") ≡ Some 115
+own_end-quoted = refl
 
-no_last : last_of (tokens Shell []) ≡ None
-unfolding tokens_from
-no_last = refl
+own_end-bracket : own_end (codes "*.[s]") ≡ None
+own_end-bracket = refl
+
+own_end-slash : own_end (codes "src/**/") ≡ None
+own_end-slash = refl
+
+own_end-star : own_end (codes "src/*") ≡ None
+own_end-star = refl
+
+own_end-none : own_end [] ≡ None
+own_end-none = refl

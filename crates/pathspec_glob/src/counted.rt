@@ -1,14 +1,13 @@
 //! What a text is tested with, and the count of tests. Nothing else in this crate compares a byte of a text with what a glob wants.
-ghost use Rattle.std.specs.Prelude.{◌≡◌, ◌+◌, ◌*◌, ◌<◌, ◌^◌, bytes_eq, length, get_or, vec_len, IfSome};
+ghost use Rattle.std.specs.Prelude.{◌≡◌, ◌+◌, ◌*◌, ◌<◌, ◌^◌, bytes_eq, length, get_or, vec_len};
 ghost use Rattle.pathspec_glob.specs.Bytes.{fold_case};
 ghost use Rattle.pathspec_glob.specs.GlobForms.{form_view, tokens_view};
 ghost use Rattle.pathspec_glob.specs.declared.Case.{Case};
 ghost use Rattle.pathspec_glob.specs.Globs.{folds};
 ghost use Rattle.pathspec_glob.specs.GlobSteps.{token_takes};
-ghost use Rattle.pathspec_glob.specs.LastBytes.{LastWants, last_of};
 
 use crate::scratch::Key;
-use crate::tokens::{FirstForm, OneByte, Token};
+use crate::tokens::{FirstForm, Token};
 use crate::{Case, Mode};
 use std::marker::Model;
 
@@ -88,16 +87,6 @@ impl CountedTokens {
         self.all.len()
     }
 
-    /// The byte that the last token wants, where it wants one of its own. No text is tested with it.
-    pub fn last_byte(&self) -> Option<u8>
-        ensures { IfSome result (λ byte. LastWants self.now.tokens byte) }
-    {
-        match self.all.last() {
-            Some(Token::One(OneByte::Byte(byte))) => Some(*byte),
-            _ => None,
-        }
-    }
-
     /// Whether the token at a place takes a byte, alone or with others.
     #[inline(always)]
     pub fn test(&self, place: usize, byte: u8, case: Case, tests: &mut Tests) -> bool
@@ -166,13 +155,6 @@ impl CountedBytes {
         ensures { result ≡ length self.now.all.items }
     {
         self.all.len()
-    }
-
-    /// The last of the bytes. No text is tested with it.
-    pub fn last(&self) -> Option<u8>
-        ensures { result ≡ last_of self.now.all.items }
-    {
-        self.all.last().copied()
     }
 
     /// Whether each byte of a text is the one at its place, up to case where it doesn't count.

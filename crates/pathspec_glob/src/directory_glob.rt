@@ -47,8 +47,8 @@ impl fmt::Debug for DirectoryGlob {
 }
 
 impl DirectoryGlob {
-    /// The glob of a pattern. Every byte string is one. The cost is linear in the pattern, and so is the memory; where it begins
-    /// with a star, has an open end and 1 to 63 tokens for one byte, each of them is tested on each byte, for a table of 4 kB.
+    /// The glob of a pattern. Every byte string is one. The cost is linear in the pattern, and so is the memory. Of one that begins
+    /// with a star and has an open end, up to 63 tokens for one byte may be tested on every byte here, for a table of 4 kB.
     ///
     /// # Errors
     /// Memory runs out.

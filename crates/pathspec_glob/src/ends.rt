@@ -3,7 +3,6 @@ ghost use Rattle.std.specs.Prelude.{◌≡◌, ◌≤◌, ◌<◌, ◌+◌, ◌^
 ghost use Rattle.pathspec_glob.specs.Counts.{KeepsCount};
 ghost use Rattle.pathspec_glob.specs.declared.Mode.{Mode};
 ghost use Rattle.pathspec_glob.specs.GlobParts.{before_end, behind_front, plain_tokens, takes_each, takes_end, takes_front, tests_each};
-ghost use Rattle.pathspec_glob.specs.LastBytes.{LastWants};
 
 use crate::counted::{CountedBytes, CountedTokens, Tests};
 use crate::scratch::Steps;
@@ -94,16 +93,6 @@ impl End {
         match &self.tokens {
             EndTokens::Bytes(bytes, _) => bytes.len(),
             EndTokens::Any(tokens) => tokens.len(),
-        }
-    }
-
-    /// The byte that the last token wants, where it wants one of its own.
-    pub fn last_byte(&self) -> Option<u8>
-        ensures { IfSome result (λ byte. LastWants self.now.tokens byte) }
-    {
-        match &self.tokens {
-            EndTokens::Bytes(bytes, _) => bytes.last(),
-            EndTokens::Any(tokens) => tokens.last_byte(),
         }
     }
 

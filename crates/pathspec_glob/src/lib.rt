@@ -5,6 +5,7 @@ ghost use Rattle.std.specs.Prelude.{◌≡◌, is_some};
 ghost use Rattle.std.specs.List.{list_any, position};
 ghost use Rattle.pathspec_glob.specs.Bytes.{is_wildcard};
 ghost use Rattle.pathspec_glob.specs.Globs.{MatchBeginsStem};
+ghost use Rattle.pathspec_glob.specs.LastBytes.{is_own_end, own_end, MatchHasOwnEnd};
 
 mod bit_vec;
 mod brackets;
@@ -56,4 +57,24 @@ pub fn first_wildcard(text: &[u8]) -> Option<usize>
     ensures stem { MatchBeginsStem }
 {
     wildcards::place_of_wildcard(text)
+}
+
+/// The byte that every text ends with that the pattern matches as a glob, up to case where it doesn't count: `s` of `src/*.rs`.
+///
+/// None where the pattern ends with `/`, `]` or a wildcard byte, and for the empty pattern. It looks at one byte.
+pub fn last_byte(pattern: &[u8]) -> Option<u8>
+    ensures byte { result ≡ own_end pattern.now }
+    ensures ends { MatchHasOwnEnd }
+{
+    match pattern.last() {
+        Some(byte) if is_own_end(*byte) => Some(*byte),
+        _ => None,
+    }
+}
+
+/// Whether a byte stands for itself at the end of a pattern.
+fn is_own_end(byte: u8) -> bool
+    ensures { result ≡ is_own_end byte }
+{
+    !is_wildcard(byte) && byte != b']' && byte != b'/'
 }

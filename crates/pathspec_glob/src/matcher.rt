@@ -6,7 +6,6 @@ ghost use Rattle.pathspec_glob.specs.ByteSets.{listed_tokens};
 ghost use Rattle.pathspec_glob.specs.GlobParts.{behind_head, head_of, plain_tokens};
 ghost use Rattle.pathspec_glob.specs.GlobWays.{IsFormOf};
 ghost use Rattle.pathspec_glob.specs.Globs.{glob_tokens, is_tail_pattern, AnswersGlob, AnswersTail, GlobIsRelation};
-ghost use Rattle.pathspec_glob.specs.LastBytes.{EndsMatches};
 ghost use Rattle.pathspec_glob.specs.Counts.{Counts};
 
 use crate::counted::CountedFirst;
@@ -65,9 +64,8 @@ impl fmt::Debug for Glob {
 }
 
 impl Glob {
-    /// The glob of a pattern. Every byte string is one. The cost is linear in the pattern, and so is the memory; where 1 to
-    /// 63 tokens for one byte stand between head and tail, each of them is tested on every byte, for a table of 4 kB, but
-    /// not where `**/*` stands there.
+    /// The glob of a pattern. Every byte string is one. The cost is linear in the pattern, and so is the memory. Up to 63 tokens
+    /// for one byte between head and tail may be tested on every byte here, for a table of 4 kB.
     ///
     /// # Errors
     /// Memory runs out.
@@ -86,17 +84,6 @@ impl Glob {
     {
         let parts = &*self.parts;
         parts.head.len() + parts.middle.len() + parts.tail.len()
-    }
-
-    /// The byte that every text ends with that the glob matches, up to case where it doesn't count: `s` for `src/*.rs`, `d` for
-    /// `*[xq].md`. None where the last token wants no byte of its own, as of `*.[ch]` and `*.\c`, and where there is no star or
-    /// nothing behind it.
-    ///
-    /// No token is tested. So a caller who knows a text's last byte can leave out a glob that wants another, without a step.
-    pub fn last_byte(&self) -> Option<u8>
-        ensures { IfSome result (λ byte. EndsMatches self.now byte) }
-    {
-        self.parts.tail.last_byte()
     }
 
     /// Whether the scratch was made for at least as many tokens.

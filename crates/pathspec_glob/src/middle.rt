@@ -111,8 +111,8 @@ impl Middle {
         }
     }
 
-    /// Whether the tokens match the whole of a text: by the first alone where this takes the same texts, and else by sets
-    /// of places, in one word where they fit it and else in bit vectors. It takes no memory.
+    /// Whether the tokens match the whole of a text, by what they were made into: the first alone, sets of places in one word,
+    /// or sets in bit vectors. The answer and the bounds are the same by each. It takes no memory.
     #[inline(always)]
     pub fn matches(&self, text: &[u8], case: Case, places: &mut Places, steps: &mut Steps) -> bool
         requires room { HasRoom (length self.now.tokens) places.old }
@@ -173,7 +173,7 @@ impl Middle {
 impl Way {
     ghost use Rattle.pathspec_glob.specs.GlobWays.{IsWayOf, way_view};
 
-    /// Tokens in one word, or in bit vectors where they don't fit it.
+    /// Tokens in one word, or in bit vectors where they don't fit it. No clause says which: what holds of one holds of the other.
     ///
     /// # Errors
     /// Memory runs out.

@@ -332,15 +332,6 @@ impl Chains {
         }
     }
 
-    /// How many bytes a head has.
-    #[inline(always)]
-    pub fn head_len(&self, index: usize) -> usize
-        requires { index < length self.now }
-        ensures { result ≡ length (head_at self.now index) }
-    {
-        self.heads.texts().text_len(index)
-    }
-
     /// The last head before the one at the index that begins it.
     #[inline(always)]
     pub fn link(&self, index: usize) -> Option<usize>

@@ -149,9 +149,8 @@ impl PathTable {
     /// Whether one of the paths takes this one, which is that of a directory or of a file: it is the path, and a
     /// directory where one is wanted, or lies below it; without case where the path's spec has none.
     ///
-    /// The paths stand in four lists: with case and without, those that want a directory, and the others. In each it
-    /// compares at most as many paths with this one as their count has binary digits, and takes a link for each path that
-    /// begins it. It takes no memory.
+    /// The paths stand in four lists: with case and without, those that want a directory, and the others. It takes no memory.
+    /// What it costs isn't proved: in each list one search by halves, and a link for each path that begins this one.
     pub fn takes(&self, path: &[u8], is_dir: bool) -> bool
         ensures { (paths : List PathParts) → IsPathTableOf paths self.now
             → result ≡ list_any (λ p. path_takes p path.now is_dir) paths }

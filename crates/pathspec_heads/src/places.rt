@@ -129,7 +129,7 @@ fn earlier(left: Option<usize>, right: Option<usize>) -> Option<usize>
 
 /// The least bit of a word from one on.
 #[inline(always)]
-pub fn next_bit(word: u64, from: usize) -> Option<usize>
+fn next_bit(word: u64, from: usize) -> Option<usize>
     ensures { IsLeastFrom (λ p. has word p ≡ true) from result }
 {
     if from >= 64 {
@@ -295,38 +295,18 @@ impl PlacesByHead {
         self.groups.chains.deepest(text, scratch)
     }
 
-    /// How many bytes a head has.
-    #[inline(always)]
-    pub fn head_len(&self, head: usize) -> usize
-        requires { head < length self.now.heads }
-        ensures { result ≡ length (head_at self.now.heads head) }
-    {
-        self.groups.chains.head_len(head)
-    }
-
-    /// The places whose heads begin this one, as bits of a word; None where one of them is 64 or more, and for some heads
-    /// besides. Whoever goes through all such places needs the groups no more: the next is [`next_bit`].
-    #[inline(always)]
-    pub fn bits(&self, head: usize) -> Option<u64>
-        requires { head < length self.now.heads }
-        ensures { IfSome result (λ word. HasBitsOf word
-            (IsInChain self.now.heads self.now.starts self.now.order head)) }
-    {
-        self.words.get(head).copied()
-    }
-
     /// The least place from one on whose head begins this one.
     ///
-    /// Where all such places are below 64 this takes constant time. Else, for each head that begins it, it looks at as many
-    /// places as their count has binary digits, or at up to eight. It takes no memory.
+    /// It takes no memory. What it costs isn't proved: where all such places are below 64, a look at a word; else, for each head that
+    /// begins this one, a search in its places, by halves where they are more than eight.
     #[inline(always)]
     pub fn next_place(&self, head: usize, from: usize) -> Option<usize>
         requires { head < length self.now.heads }
         ensures { IsLeastFrom (IsInChain self.now.heads self.now.starts self.now.order head)
             from result }
     {
-        match self.bits(head) {
-            Some(word) => next_bit(word, from),
+        match self.words.get(head) {
+            Some(word) => next_bit(*word, from),
             None => self.groups.next_place(head, from),
         }
     }

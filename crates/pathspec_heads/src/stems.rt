@@ -144,9 +144,10 @@ impl Stems {
     /// Whether a stem and the path lead to one another: one lies below the other or they are one, or the path goes on
     /// after a stem that a wildcard follows, as it does all of them or none.
     ///
-    /// The hint is where the search looks first, and becomes where it ended: any number will do. It compares at most as many
-    /// stems with the path as their count has binary digits, and two: where paths come in byte order often one. Then it
-    /// takes a link for each stem that begins the path. It takes no memory.
+    /// The hint is where the search looks first, and becomes where it ended: any number will do. It takes no memory.
+    ///
+    /// What it costs isn't proved: the search goes by halves, and where paths come in byte order it often compares one stem. Then
+    /// it takes a link for each stem that begins the path.
     #[inline(always)]
     pub fn leads_to(&self, path: &[u8], ignore_case: bool, wild: bool, hint: &mut usize) -> bool
         ensures { result ≡ list_any (λ stem.

@@ -254,8 +254,8 @@ impl StemTable {
     /// Whether one of the stems reaches the path, which is that of a directory, of a file, or of either.
     ///
     /// The stems stand in six lists: with case and without, those that a wildcard follows, those that want a directory,
-    /// and the others. In each it compares at most as many stems with the path as their count has binary digits, and
-    /// two, and takes a link for each stem that begins the path. It takes no memory.
+    /// and the others. It takes no memory. What it costs isn't proved: in each list one search by halves, and a link for each
+    /// stem that begins the path.
     pub fn reaches(&self, path: &[u8], is_dir: Option<bool>) -> bool
         ensures { (stems : List StemParts) → IsTableOf stems self.now
             → result ≡ list_any (λ stem. stem_reaches stem path.now is_dir) stems }

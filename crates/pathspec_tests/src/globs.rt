@@ -1,7 +1,7 @@
 //! Globs by tables: their answers, their steps and the scratches that fit them.
 use pathspec_glob::Case::{self, Fold, Sensitive};
 use pathspec_glob::Mode::{self, PathAware, Shell};
-use pathspec_glob::{Glob, Scratch, first_wildcard, is_same_byte, is_wildcard};
+use pathspec_glob::{Glob, Scratch, first_wildcard, is_same_byte, is_wildcard, last_byte};
 use pathspec_test_support::support::{Row, assert_each, boxed_room};
 use std::alloc::{AllocError, Global};
 use std::test::Fail;
@@ -433,56 +433,41 @@ fn tokens_are_counted(rt: HostRuntime) -> Result<(), Fail> {
     assert_each(rt.alloc(), ROWS)
 }
 
-/// A pattern, its mode, and the byte that every text ends with that it matches, where its last token is a byte of its own behind a
-/// star.
-struct Last(&'static str, Mode, Option<u8>);
+/// A pattern, and the byte that every text ends with that it matches, where its last byte stands for itself.
+struct Last(&'static str, Option<u8>);
 
 impl Row for Last {
-    fn holds(&self, alloc: Global) -> Result<bool, Fail> {
-        Ok(Glob::compile(alloc, self.0.as_bytes(), self.1)?.last_byte() == self.2)
+    fn holds(&self, _alloc: Global) -> Result<bool, Fail> {
+        Ok(last_byte(self.0.as_bytes()) == self.1)
     }
 }
 
 #[test]
 #[rattlefmt::skip]
-fn the_last_byte_stands_behind_the_last_star(rt: HostRuntime) -> Result<(), Fail> {
+fn the_last_byte_is_that_of_the_pattern_where_it_stands_for_itself(rt: HostRuntime) -> Result<(), Fail> {
     const ROWS: &[Last] = &[
-        Last("src/*.rs", Shell, Some(b's')),
-        Last("src/*.rs", PathAware, Some(b's')),
-        Last("a*b", Shell, Some(b'b')),
-        Last("a*b*c", Shell, Some(b'c')),
-        Last("*.R", Shell, Some(b'R')),
-        Last("*/", PathAware, Some(b'/')),
-        Last("*\u{e4}", Shell, Some(0xa4)),
-        // What stands before the last star may be any tokens.
-        Last("[ab]*yz", Shell, Some(b'z')),
-        Last("?[!c]*[d]*yz", PathAware, Some(b'z')),
-        Last("\\**.rs", Shell, Some(b's')),
-        Last("\\**.rs", PathAware, Some(b's')),
-        // Double stars are stars, with a slash behind them and without.
-        Last("src/**/*.c", PathAware, Some(b'c')),
-        Last("**/x", PathAware, Some(b'x')),
-        Last("**/x", Shell, Some(b'x')),
-        Last("**/", Shell, Some(b'/')),
-        // What stands between the last star and the last byte may be, too.
-        Last("*[xq].md", Shell, Some(b'd')),
-        Last("**/?.[ch]c", PathAware, Some(b'c')),
-        Last("*?c", Shell, Some(b'c')),
-        // The last token is no byte of the pattern.
-        Last("*.[ch]", Shell, None),
-        Last("*.[c]", Shell, None),
-        Last("*.\\c", Shell, None),
-        Last("*\\", Shell, None),
-        Last("*[c", Shell, None),
-        // There is no star, or nothing behind it.
-        Last("", Shell, None),
-        Last("abc", Shell, None),
-        Last("a?c", Shell, None),
-        Last("\\*c", Shell, None),
-        Last("*", Shell, None),
-        Last("a**", PathAware, None),
-        Last("src/**", PathAware, None),
-        Last("src/**/", PathAware, None),
+        Last("src/*.rs", Some(b's')),
+        Last("*.R", Some(b'R')),
+        Last("*\u{e4}", Some(0xa4)),
+        Last("abc", Some(b'c')),
+        Last("a?c", Some(b'c')),
+        // Brackets may stand before it.
+        Last("*[xq].md", Some(b'd')),
+        Last("?[!c]*[d]*yz", Some(b'z')),
+        // After a backslash it stands for itself, too, and a bracket that doesn't close matches no text.
+        Last("*.\\c", Some(b'c')),
+        Last("*[c", Some(b'c')),
+        // A wildcard takes other bytes, and so may a bracket that ends here.
+        Last("", None),
+        Last("*", None),
+        Last("a?", None),
+        Last("*.[c]", None),
+        Last("*.\\]", None),
+        Last("*[", None),
+        Last("*\\", None),
+        // `**/` may stand for nothing.
+        Last("src/**/", None),
+        Last("*/", None),
     ];
     assert_each(rt.alloc(), ROWS)
 }

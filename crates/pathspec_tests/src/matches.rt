@@ -174,6 +174,29 @@ fn stars_and_brackets_match_by_the_mode(rt: HostRuntime) -> Result<(), Fail> {
     assert_each(rt.alloc(), ROWS)
 }
 
+/// How many times `**/` stands before `x` in a spec, a file, and how the spec matches it.
+struct Deep(usize, &'static str, Settled);
+
+impl Row for Deep {
+    fn holds(&self, alloc: Global) -> Result<bool, Fail> {
+        let chain = "**/".repeat(alloc, self.0)?;
+        let spec = format!(in alloc; ":(glob){chain}x")?;
+        let mut search = search_of_line(alloc, &spec, "")?;
+        Ok(settled(&mut search, self.1.as_bytes(), Some(false))? == self.2)
+    }
+}
+
+#[test]
+fn many_double_stars_match_as_a_spec(rt: HostRuntime) -> Result<(), Fail> {
+    const ROWS: &[Deep] = &[
+        Deep(500, "x", WILDCARD),
+        Deep(500, "y", None),
+        Deep(500, "a/b/x", WILDCARD),
+        Deep(500, "a/b/y", None),
+    ];
+    assert_each(rt.alloc(), ROWS)
+}
+
 /// Texts, a file, the long text of the pattern that settles it, and whether the file is taken out.
 struct Lent(&'static [&'static str], &'static str, &'static str, bool);
 
@@ -270,11 +293,11 @@ fn attributes_are_asked_where_the_spec_fits(rt: HostRuntime) -> Result<(), Fail>
 fn no_attributes_are_asked_where_the_spec_does_not_fit(rt: HostRuntime) -> Result<(), Fail> {
     const ROWS: &[Asked] = &[
         Asked(&[":(attr:gen)x"], "xa", None, 0, 1),
-        Asked(&[":(attr:gen)x*y"], "xa", None, 0, 0),
+        Asked(&[":(attr:gen)x*y"], "xa", None, 0, 1),
         Asked(&[":(attr:gen)x*y"], "xay", None, 1, 1),
         Asked(&[":(attr:gen)x/"], "x", None, 0, 1),
         Asked(&[":(attr:gen)x/", "x"], "x", Some(1), 0, 2),
-        Asked(&[":(exclude,attr:gen)*y", "x"], "x", Some(1), 0, 1),
+        Asked(&[":(exclude,attr:gen)*y", "x"], "x", Some(1), 0, 2),
     ];
     assert_each(rt.alloc(), ROWS)
 }

@@ -2,41 +2,38 @@
 use bstr::BStr;
 use gix_pathspec::Search;
 use gix_pathspec::search::MatchKind;
-use pathspec_glob::first_wildcard;
 use pathspec_test_support::searches::{Settled, search_of_bytes, settled};
 use std::alloc::Global;
 use std::test::Fail;
 
-/// A spec as it is given, as the include that fits the same paths, and the bytes that it wants at their ends: of a spec without
-/// case the first of its text, if it is no wildcard; and the last of its glob, if it is the pattern's own and stands behind a
-/// star.
-struct Given(&'static [u8], &'static [u8], Option<u8>, Option<u8>);
+/// A spec as it is given, and as the include that fits the same paths.
+struct Given(&'static [u8], &'static [u8]);
 
 /// Specs whose heads begin one another, with wildcards at every place, without case, with bytes that are no text, and
 /// the nil spec.
 const SPECS: &[Given] = &[
-    Given(b"a", b"a", None, None),
-    Given(b"a/a", b"a/a", None, None),
-    Given(b"a/a/ab", b"a/a/ab", None, None),
-    Given(b":!a/a", b"a/a", None, None),
-    Given(b":!a/", b"a/", None, None),
-    Given(b":!ab", b"ab", None, None),
-    Given(b"a/*.c", b"a/*.c", None, Some(b'c')),
-    Given(b"*.c", b"*.c", None, Some(b'c')),
-    Given(b":(exclude)*b", b"*b", None, Some(b'b')),
-    Given(b"[a]/a", b"[a]/a", None, None),
-    Given(b":(exclude)?", b"?", None, None),
-    Given(b":", b":", None, None),
-    Given(b":(icase)A/A", b":(icase)A/A", Some(b'A'), None),
-    Given(b":(icase,exclude)a/B", b":(icase)a/B", Some(b'a'), None),
-    Given(b":(icase)B", b":(icase)B", Some(b'B'), None),
-    Given(b":(icase)*.C", b":(icase)*.C", None, Some(b'c')),
-    Given(b":(literal)a*", b":(literal)a*", None, None),
-    Given(b"a\xff", b"a\xff", None, None),
-    Given(b":(exclude)\xff\x80", b"\xff\x80", None, None),
-    Given(b":(attr:gen)x", b":(attr:gen)x", None, None),
-    Given(b":(exclude,glob)**/x", b":(glob)**/x", None, Some(b'x')),
-    Given(b":(top)b", b":(top)b", None, None),
+    Given(b"a", b"a"),
+    Given(b"a/a", b"a/a"),
+    Given(b"a/a/ab", b"a/a/ab"),
+    Given(b":!a/a", b"a/a"),
+    Given(b":!a/", b"a/"),
+    Given(b":!ab", b"ab"),
+    Given(b"a/*.c", b"a/*.c"),
+    Given(b"*.c", b"*.c"),
+    Given(b":(exclude)*b", b"*b"),
+    Given(b"[a]/a", b"[a]/a"),
+    Given(b":(exclude)?", b"?"),
+    Given(b":", b":"),
+    Given(b":(icase)A/A", b":(icase)A/A"),
+    Given(b":(icase,exclude)a/B", b":(icase)a/B"),
+    Given(b":(icase)B", b":(icase)B"),
+    Given(b":(icase)*.C", b":(icase)*.C"),
+    Given(b":(literal)a*", b":(literal)a*"),
+    Given(b"a\xff", b"a\xff"),
+    Given(b":(exclude)\xff\x80", b"\xff\x80"),
+    Given(b":(attr:gen)x", b":(attr:gen)x"),
+    Given(b":(exclude,glob)**/x", b":(glob)**/x"),
+    Given(b":(top)b", b":(top)b"),
 ];
 
 /// Paths of any bytes, shorter and longer than all heads.
@@ -92,10 +89,6 @@ struct Answer {
 struct Alone {
     given: Vec<u8>,
     is_exclude: bool,
-    ignores_case: bool,
-    /// The bytes that it wants at the ends of a path.
-    first: Option<u8>,
-    last: Option<u8>,
     search: Box<Search>,
     /// Its answers to each of the paths.
     answers: Vec<Answer>,
@@ -115,22 +108,9 @@ impl Alone {
         self.search.common_prefix().as_bytes()
     }
 
-    /// Whether a byte is the one that it wants, or it wants none.
-    fn takes(&self, wanted: Option<u8>, byte: Option<&u8>) -> bool {
-        match (wanted, byte) {
-            (Some(wanted), Some(byte)) if self.ignores_case => wanted.eq_ignore_ascii_case(byte),
-            (Some(wanted), Some(byte)) => wanted == *byte,
-            _ => true,
-        }
-    }
-
-    /// Whether it is asked about a path: its head begins it, it may begin so, and where last bytes tell, it may end so. Without
-    /// case, the bytes tell nothing in a prefix directory.
-    fn is_asked(&self, path: &[u8], last_tells: bool) -> bool {
-        let tells = !self.ignores_case || self.head().is_empty();
-        let begins = !tells || self.takes(self.first, path.first());
-        let ends = !tells || !last_tells || self.takes(self.last, path.last());
-        begins && ends && path.starts_with(self.head())
+    /// Whether it is asked about a path: its head begins it.
+    fn is_asked(&self, path: &[u8]) -> bool {
+        path.starts_with(self.head())
     }
 
     /// Whether it lets something at or below the path with a number match.
@@ -172,9 +152,6 @@ fn ask_alone(alloc: Global, spec: &Given, asked: Asked) -> Result<Alone, Fail> {
     Ok(Alone {
         given: Vec::from_slice(alloc, spec.0)?,
         is_exclude: spec.0 != spec.1,
-        ignores_case: spec.0.starts_with(b":(icase"),
-        first: spec.2,
-        last: spec.3,
         search,
         answers,
     })
@@ -187,18 +164,6 @@ fn each_alone(alloc: Global, asked: Asked) -> Result<Vec<Alone>, Fail> {
         specs.push(ask_alone(alloc, spec, asked)?)?;
     }
     Ok(specs)
-}
-
-/// Whether the last byte of a path tells of globs that don't match it: no wildcard byte stands behind the last head that begins
-/// it. Else the path may be a glob's own text, or lie below it. No head of these specs has such a byte.
-fn last_tells(specs: &[&Alone], path: &[u8]) -> bool {
-    let mut longest = 0;
-    for spec in specs {
-        if path.starts_with(spec.head()) {
-            longest = longest.max(spec.head().len());
-        }
-    }
-    first_wildcard(path) != Some(longest)
 }
 
 /// What is found for a path, and how many specs were asked.
@@ -217,10 +182,9 @@ fn go_on(
     tested: usize,
 ) -> Wanted {
     let mut tested = tested;
-    let last_tells = last_tells(specs, path);
     for (place, spec) in specs.iter().enumerate() {
         if spec.is_exclude == are_excludes {
-            if spec.is_asked(path, last_tells) {
+            if spec.is_asked(path) {
                 tested = tested.saturating_add(1);
             }
             if let Some(kind) = spec.kind(number) {

@@ -1,72 +1,55 @@
-//! Places by their heads: the last head that begins a text, and the places whose heads begin that one, as bits.
-use pathspec_heads::places::{PlacesByHead, next_bit};
+//! Places by their heads: the last head that begins a text, and the places whose heads begin that one.
+use pathspec_heads::places::PlacesByHead;
 use pathspec_test_support::support::{Row, assert_each};
 use std::alloc::Global;
 use std::test::Fail;
 
-/// Heads, a text, and of the last head that begins it, if one does, its length and the places whose heads begin it.
-struct Bits(
+/// Heads, a text, a number, and the least place from the number on whose head begins the text.
+struct Next(
     &'static [&'static [u8]],
     &'static [u8],
-    Option<(usize, Option<u64>)>,
+    usize,
+    Option<usize>,
 );
 
-impl Row for Bits {
+impl Row for Next {
     fn holds(&self, alloc: Global) -> Result<bool, Fail> {
         let places = PlacesByHead::new(alloc, self.0)?;
-        Ok(bits_of(&places, self.1) == self.2)
+        Ok(next_of(&places, self.1, self.2) == self.3)
     }
 }
 
-/// The length of the last head that begins a text, and the places whose heads begin that one, as bits.
-fn bits_of(places: &PlacesByHead, text: &[u8]) -> Option<(usize, Option<u64>)> {
+/// The least place from one on whose head begins a text.
+fn next_of(places: &PlacesByHead, text: &[u8], from: usize) -> Option<usize> {
     let mut scratch = places.new_scratch();
     match places.deepest(text, &mut scratch).head {
-        Some(head) => Some((places.head_len(head), places.bits(head))),
+        Some(head) => places.next_place(head, from),
         None => None,
     }
 }
 
 #[test]
-fn places_below_64_are_bits(rt: HostRuntime) -> Result<(), Fail> {
+#[rattlefmt::skip]
+fn the_next_place_is_found_below_64_and_behind(rt: HostRuntime) -> Result<(), Fail> {
     const A: &[u8] = b"a";
     const HEADS: &[&[u8]] = &[b"a/", b"", b"a/b", b"c", b"a/"];
-    const ROWS: &[Bits] = &[
-        Bits(HEADS, b"a/b/c", Some((3, Some(0b10111)))),
-        Bits(HEADS, b"a/b", Some((3, Some(0b10111)))),
-        Bits(HEADS, b"a/x", Some((2, Some(0b10011)))),
-        Bits(HEADS, b"a", Some((0, Some(0b10)))),
-        Bits(HEADS, b"c", Some((1, Some(0b1010)))),
-        Bits(HEADS, b"", Some((0, Some(0b10)))),
-        Bits(&[A], b"b", None),
-        Bits(&[A; 64], b"ab", Some((1, Some(u64::MAX)))),
-        Bits(&[A; 65], b"ab", Some((1, None))),
-        Bits(&[], b"a", None),
-    ];
-    assert_each(rt.alloc(), ROWS)
-}
-
-/// A word, a number, and the least bit of the word from the number on.
-struct NextBit(u64, usize, Option<usize>);
-
-impl Row for NextBit {
-    fn holds(&self, _alloc: Global) -> Result<bool, Fail> {
-        Ok(next_bit(self.0, self.1) == self.2)
-    }
-}
-
-#[test]
-fn the_next_bit_is_found(rt: HostRuntime) -> Result<(), Fail> {
-    const ROWS: &[NextBit] = &[
-        NextBit(0, 0, None),
-        NextBit(0b101, 0, Some(0)),
-        NextBit(0b101, 1, Some(2)),
-        NextBit(0b101, 2, Some(2)),
-        NextBit(0b101, 3, None),
-        NextBit(1 << 63, 0, Some(63)),
-        NextBit(1 << 63, 63, Some(63)),
-        NextBit(u64::MAX, 64, None),
-        NextBit(u64::MAX, usize::MAX, None),
+    const ROWS: &[Next] = &[
+        Next(HEADS, b"a/b/c", 0, Some(0)),
+        Next(HEADS, b"a/b/c", 1, Some(1)),
+        Next(HEADS, b"a/b/c", 3, Some(4)),
+        Next(HEADS, b"a/b/c", 5, None),
+        Next(HEADS, b"a/x", 2, Some(4)),
+        Next(HEADS, b"a", 0, Some(1)),
+        Next(HEADS, b"c", 2, Some(3)),
+        Next(HEADS, b"", 2, None),
+        Next(&[A], b"b", 0, None),
+        Next(&[A; 64], b"ab", 63, Some(63)),
+        Next(&[A; 64], b"ab", 64, None),
+        Next(&[A; 64], b"ab", usize::MAX, None),
+        Next(&[A; 65], b"ab", 63, Some(63)),
+        Next(&[A; 65], b"ab", 64, Some(64)),
+        Next(&[A; 65], b"ab", 65, None),
+        Next(&[], b"a", 0, None),
     ];
     assert_each(rt.alloc(), ROWS)
 }

@@ -6,8 +6,8 @@ ghost use Rattle.std.specs.Prelude.{◌≡◌, ◌↔◌, ℕ, ◌+◌, ◌^◌,
 ghost use Rattle.bstr.specs.BStr.{bstr_bytes};
 ghost use Rattle.pathspec_parts.specs.Attributes.{next_count};
 ghost use Rattle.pathspec_glob.specs.Counts.{Counts};
-ghost use Rattle.pathspec_heads.specs.Heads.{head_at, IsLastFront, IsChainOf};
-ghost use Rattle.pathspec_heads.specs.Groups.{HasBitsOf, IsInChain, IsLeastFrom};
+ghost use Rattle.pathspec_heads.specs.Heads.{IsLastFront, IsChainOf};
+ghost use Rattle.pathspec_heads.specs.Groups.{IsInChain, IsLeastFrom};
 ghost use Rattle.gix_pathspec.specs.Effort.{kind_at};
 ghost use Rattle.pathspec_parts.specs.Outcomes.{names_of};
 ghost use Rattle.gix_pathspec.specs.Room.{HasRoom, tokens_of, names_in_order};
@@ -114,25 +114,6 @@ impl CountedHeads {
         self.places.deepest(text, scratch)
     }
 
-    /// How many bytes a head has.
-    #[inline(always)]
-    pub(crate) fn head_len(&self, head: usize) -> usize
-        requires { head < length self.now.heads }
-        ensures { result ≡ length (head_at self.now.heads head) }
-    {
-        self.places.head_len(head)
-    }
-
-    /// The places whose heads begin this one as bits, as [`PlacesByHead::bits`] gives them.
-    #[inline(always)]
-    pub(crate) fn bits(&self, head: usize) -> Option<u64>
-        requires { head < length self.now.heads }
-        ensures { IfSome result (λ word. HasBitsOf word
-            (IsInChain self.now.heads self.now.starts self.now.order head)) }
-    {
-        self.places.bits(head)
-    }
-
     /// The least place from one on whose head begins this one.
     #[inline(always)]
     pub(crate) fn next_place(&self, head: usize, from: usize) -> Option<usize>
@@ -174,7 +155,8 @@ impl CountedSpecs {
     }
 
     // In line, and what it calls, since a match asks this of each spec whose head begins the path.
-    /// How the spec at a place matches a path that isn't empty, as [`CompiledSpec::matches`] says.
+    /// How the spec at a place matches a path that isn't empty, as [`CompiledSpec::matches`] says. It looks at the path's first
+    /// and last byte, and then asks the spec if these leave it open.
     ///
     /// # Errors
     /// The look-up's fault.
@@ -199,8 +181,12 @@ impl CountedSpecs {
             (L.failures look_up.new ≡ next_count (L.failures look_up.old)) }
     {
         scratch.tested = scratch.tested.wrapping_add(1);
+        let spec = &self.all[place];
+        if spec.is_ruled_out(path.as_bytes()) {
+            return Ok(None);
+        }
         let outcome = &mut scratch.outcomes[place];
-        self.all[place].matches(path, is_dir, &mut scratch.globs, outcome, look_up)
+        spec.matches(path, is_dir, &mut scratch.globs, outcome, look_up)
     }
 }
 

@@ -1,152 +1,75 @@
-//! What the first byte of a path and its last tell of specs, like `*.rs` and `:(icase)docs`, before a match asks them.
-ghost use Rattle.std.specs.Prelude.{◌≡◌, ◌+◌, ◌<◌, ◌≤◌, ℕ, length, false, true, IfOk, IsTrue, get_or};
-ghost use Rattle.pathspec_glob.specs.GlobCells.{has};
+//! What the first byte of a path and its last tell of a spec, before its glob is asked.
+ghost use Rattle.std.specs.Prelude.{◌≡◌, length, IfSome, IsTrue};
 ghost use Rattle.pathspec_glob.specs.LastBytes.{last_byte};
-ghost use Rattle.gix_pathspec.specs.declared.search.end_bytes.PathEnd.TheVariants.{First, Last};
-ghost use Rattle.gix_pathspec.specs.EndBytes.{AreEndBytes, LackOnlyRefusing, LacksOnlyRefusing, HavePlainHeads, LacksBitOf, IsLeftOut, IsLeftOutAt, KeepsBits, first_byte, has_wildcard_at};
+ghost use Rattle.gix_pathspec.specs.EndBytes.{first_byte, has_wildcard_at, is_other, BeginsPaths, EndsPaths};
+ghost use Rattle.gix_pathspec.specs.Patterns.{pattern_spec};
+ghost use Rattle.gix_pathspec.specs.Prefixes.{stem};
+ghost use Rattle.gix_pathspec.specs.Specs.{has_wildcard};
 
+use crate::Pattern;
+use crate::search::matching;
 use crate::search::spec::CompiledSpec;
-use pathspec_heads::places::next_bit;
-use pathspec_parts::glob::{first_wildcard, is_wildcard};
-use std::alloc::{AllocError, Global};
-use std::marker::Model;
+use pathspec_parts::attributes::Case;
+use pathspec_parts::glob::{self, is_same_byte, is_wildcard};
 
-/// So many specs have a bit in a word.
-const BITS: usize = 64;
-
-/// One of the two ends of a path.
-#[derive(Clone, Copy)]
-pub(crate) enum PathEnd {
-    First,
-    Last,
-}
-
-/// For each byte, which specs may match a path that begins with it, and which one that ends with it. Under `*.rs` and `*.md` a
-/// match asks no spec about `a.c`, and only the first about `a.rs`. Under `:(icase)docs` it asks none about `src/a`.
+/// The byte that each path begins with that a pattern matches, up to case: `d` for `:(icase)docs`.
 ///
-/// Each 64 specs are a block, and have a table of a word for each byte. There are no tables where no byte at that end tells
-/// anything, as where all specs are plain and case counts.
-#[derive(Drop)]
-pub(crate) struct EndBytes {
-    first: Vec<[u64; 256]>,
-    last: Vec<[u64; 256]>,
-}
-
-impl Model for EndBytes {
-    ghost use Rattle.gix_pathspec.specs.EndBytes.{EndWords};
-
-    ghost Value = { EndWords };
-
-    ghost view = { λ b. record { first = b.first.items; last = b.last.items } };
-}
-
-impl EndBytes {
-    /// What the bytes at both ends tell of these specs. The cost is linear in the bytes of their heads; the table of a
-    /// block takes two kilobytes.
-    ///
-    /// # Errors
-    /// Memory runs out.
-    pub(super) fn of_specs(alloc: Global, specs: &[CompiledSpec]) -> Result<EndBytes, AllocError>
-        ensures { IfOk result (AreEndBytes specs.now) }
-    {
-        let first = first_tables(alloc, specs)?;
-        let last = last_tables(alloc, specs)?;
-        Ok(EndBytes { first, last })
-    }
-
-    // In line, since a match asks this at each path.
-    /// Which of these places of the first 64 specs are left for a path, where the last head that begins it has so many bytes.
-    #[inline(always)]
-    pub(crate) fn left(&self, places: u64, path: &[u8], head_len: usize) -> u64
-        ensures low { (p : ℕ) → has places p ≡ true → p < 64 }
-        ensures only { (p : ℕ) → has result p ≡ true → has places p ≡ true }
-        ensures others { (p : ℕ) → has places p ≡ true → has result p ≡ false
-            → IsLeftOut self.now path.now head_len 0 p }
-    {
-        self.left_in(0, places, path, head_len)
-    }
-
-    /// The least place from one on that is left for a path, among the 64 of its block, or the first place behind these.
-    #[inline(always)]
-    pub(crate) fn next_left(&self, place: usize, path: &[u8], head_len: usize) -> usize
-        requires { place < 18446744073709551615 }
-        ensures later { place ≤ result }
-        ensures between { (p : ℕ) → place ≤ p → p < result
-            → IsLeftOutAt self.now path.now head_len p }
-        ensures left { result ≡ place → IsLeftOutAt self.now path.now head_len place → ⊥ }
-    {
-        let bit = place % BITS;
-        let word = self.left_in(place / BITS, u64::MAX, path, head_len);
-        match next_bit(word, bit) {
-            Some(next) => place - bit + next,
-            None => (place - bit).saturating_add(BITS),
-        }
-    }
-
-    /// Which of these places of a block are left for a path.
-    #[inline(always)]
-    fn left_in(&self, block: usize, places: u64, path: &[u8], head_len: usize) -> u64
-        ensures only { (p : ℕ) → has result p ≡ true → has places p ≡ true }
-        ensures others { (p : ℕ) → has places p ≡ true → has result p ≡ false
-            → IsLeftOut self.now path.now head_len block p }
-        ensures left { (p : ℕ) → has result p ≡ true
-            → IsLeftOut self.now path.now head_len block p → ⊥ }
-    {
-        let left = self.left_by_first(block, places, path);
-        self.left_by_last(block, left, path, head_len)
-    }
-
-    /// Which of these places of a block the first byte of a path leaves.
-    #[inline(always)]
-    fn left_by_first(&self, block: usize, places: u64, path: &[u8]) -> u64
-        ensures only { (p : ℕ) → has result p ≡ true → has places p ≡ true }
-        ensures others { (p : ℕ) → has places p ≡ true → has result p ≡ false
-            → LacksBitOf self.now.first (first_byte path.now) block p }
-        ensures left { (p : ℕ) → has result p ≡ true
-            → LacksBitOf self.now.first (first_byte path.now) block p → ⊥ }
-    {
-        match self.first.get(block) {
-            Some(words) => kept(places, words[first_byte(path) as usize]),
-            None => places,
-        }
-    }
-
-    /// Which of these places of a block the last byte of a path leaves.
-    ///
-    /// The path may also be the text of a spec or lie below it, as `*.rs/a.c` does under `*.rs`. Then a wildcard byte stands in
-    /// it behind the head, and all places are left.
-    #[inline(always)]
-    fn left_by_last(&self, block: usize, places: u64, path: &[u8], head_len: usize) -> u64
-        ensures only { (p : ℕ) → has result p ≡ true → has places p ≡ true }
-        ensures others { (p : ℕ) → has places p ≡ true → has result p ≡ false
-            → LacksBitOf self.now.last (last_byte path.now) block p
-            × (has_wildcard_at path.now head_len ≡ false) }
-        ensures left { (p : ℕ) → has result p ≡ true
-            → LacksBitOf self.now.last (last_byte path.now) block p
-            → has_wildcard_at path.now head_len ≡ false → ⊥ }
-    {
-        match self.last.get(block) {
-            Some(words) if !has_wildcard_at(path, head_len) => {
-                kept(places, words[last_byte(path) as usize])
-            }
-            _ => places,
-        }
-    }
-}
-
-/// Those of the places that are left.
-#[inline(always)]
-fn kept(places: u64, left: u64) -> u64
-    ensures only { (p : ℕ) → has result p ≡ true → has places p ≡ true }
-    ensures others { (p : ℕ) → has places p ≡ true → has result p ≡ false → has left p ≡ false }
-    ensures none { (p : ℕ) → has left p ≡ false → has result p ≡ false }
+/// None where case counts, since the head then tells as much, and where no byte stands before the first wildcard. The caller
+/// knows how many bytes stand before that.
+pub(super) fn first_byte(pattern: &Pattern, stem_length: usize) -> Option<u8>
+    requires { stem_length ≡ length (stem (pattern_spec pattern.now)) }
+    ensures { IfSome result (BeginsPaths (pattern_spec pattern.now)) }
 {
-    places & left
+    if pattern.is_nil() || !matching::ignores_case(pattern) {
+        return None;
+    }
+    pattern.path().as_bytes()[..stem_length].first().copied()
+}
+
+/// The byte that each path ends with that a pattern's glob matches, up to case where it doesn't count: `s` for `src/*.rs`.
+///
+/// None where there is no wildcard, and where the pattern ends with a wildcard byte, `]` or `/`. The caller knows whether there
+/// is one.
+pub(super) fn last_byte(pattern: &Pattern, is_wild: bool) -> Option<u8>
+    requires { is_wild ≡ has_wildcard (pattern_spec pattern.now) }
+    ensures { IfSome result (EndsPaths (pattern_spec pattern.now)) }
+{
+    if !is_wild {
+        return None;
+    }
+    glob::last_byte(pattern.path().as_bytes())
+}
+
+impl CompiledSpec {
+    ghost use Rattle.gix_pathspec.specs.EndBytes.{NeverMatches};
+
+    /// Whether a path's first byte or its last tells that the spec doesn't match it: of `*.rs` the last byte of `a.c`, of
+    /// `:(icase)docs` the first of `src`. Where a wildcard byte stands behind the spec's stem, as in `*.rs/a.c`, the last byte
+    /// tells nothing, since the path may lie below the spec's own.
+    #[inline(always)]
+    pub(super) fn is_ruled_out(&self, path: &[u8]) -> bool
+        ensures { IsTrue result → NeverMatches self.now.spec path.now }
+    {
+        let case = matching::case_of(&self.pattern);
+        is_other(case, self.first, first_of(path))
+            || is_other(case, self.last, last_of(path)) && !has_wildcard_at(path, self.stem)
+    }
+}
+
+/// Whether another byte is wanted, where one is.
+#[inline(always)]
+fn is_other(case: Case, wanted: Option<u8>, byte: u8) -> bool
+    ensures { result ≡ is_other case wanted byte }
+{
+    match wanted {
+        Some(wanted) => !is_same_byte(case, wanted, byte),
+        None => false,
+    }
 }
 
 /// The first byte of a path, and 0 for the empty one.
 #[inline(always)]
-fn first_byte(path: &[u8]) -> u8
+fn first_of(path: &[u8]) -> u8
     ensures { result ≡ first_byte path.now }
 {
     match path.first() {
@@ -157,7 +80,7 @@ fn first_byte(path: &[u8]) -> u8
 
 /// The last byte of a path, and 0 for the empty one.
 #[inline(always)]
-fn last_byte(path: &[u8]) -> u8
+fn last_of(path: &[u8]) -> u8
     ensures { result ≡ last_byte path.now }
 {
     match path.last() {
@@ -174,117 +97,5 @@ fn has_wildcard_at(path: &[u8], at: usize) -> bool
     match path.get(at) {
         Some(byte) => is_wildcard(*byte),
         None => false,
-    }
-}
-
-/// Whether a first byte tells anything of a spec: where a head begins a path, it tells no more.
-fn has_first_byte(specs: &[CompiledSpec]) -> bool {
-    specs.iter().any(|spec| spec.head().is_empty() && spec.first_byte().is_some())
-}
-
-/// Whether a spec has a last byte.
-fn has_last_byte(specs: &[CompiledSpec]) -> bool {
-    specs.iter().any(|spec| spec.last_byte().is_some())
-}
-
-/// Whether no wildcard byte stands in the head of a spec. One may stand in the prefix directory of a spec without case.
-fn have_plain_heads(specs: &[CompiledSpec]) -> bool
-    ensures { IsTrue result → HavePlainHeads specs.now }
-{
-    for place in 0..specs.len() {
-        if first_wildcard(specs[place].head()).is_some() {
-            return false;
-        }
-    }
-    true
-}
-
-/// Tables of first bytes of a path; none where they tell nothing.
-///
-/// # Errors
-/// Memory runs out.
-fn first_tables(alloc: Global, specs: &[CompiledSpec]) -> Result<Vec<[u64; 256]>, AllocError>
-    ensures { IfOk result (λ tables. LackOnlyRefusing First specs.now tables.items) }
-{
-    if !has_first_byte(specs) {
-        return Ok(Vec::new(alloc));
-    }
-    tables(alloc, specs, PathEnd::First)
-}
-
-/// Tables of last bytes of a path; none where they tell nothing, or a wildcard byte stands in a head.
-///
-/// # Errors
-/// Memory runs out.
-fn last_tables(alloc: Global, specs: &[CompiledSpec]) -> Result<Vec<[u64; 256]>, AllocError>
-    ensures refusing { IfOk result (λ tables. LackOnlyRefusing Last specs.now tables.items) }
-    ensures plain { IfOk result (λ tables. 0 < length tables.items → HavePlainHeads specs.now) }
-{
-    if !has_last_byte(specs) || !have_plain_heads(specs) {
-        return Ok(Vec::new(alloc));
-    }
-    tables(alloc, specs, PathEnd::Last)
-}
-
-/// A table of bytes at an end of a path for each block of specs.
-///
-/// # Errors
-/// Memory runs out.
-fn tables(
-    alloc: Global,
-    specs: &[CompiledSpec],
-    end: PathEnd,
-) -> Result<Vec<[u64; 256]>, AllocError>
-    ensures { IfOk result (λ tables. LackOnlyRefusing end specs.now tables.items) }
-{
-    let mut tables = Vec::with_capacity(alloc, specs.len() / BITS + 1)?;
-    let mut rest = specs;
-    while !rest.is_empty() {
-        let (block, behind) = rest.split_at(rest.len().min(BITS));
-        tables.push(table(block, end))?;
-        rest = behind;
-    }
-    Ok(tables)
-}
-
-/// For each byte, which specs of a block may match a path that has it at this end, as bits of a word.
-fn table(specs: &[CompiledSpec], end: PathEnd) -> [u64; 256]
-    requires { length specs.now ≤ 64 }
-    ensures { LacksOnlyRefusing end specs.now result }
-{
-    let mut words = [0; 256];
-    let mut any = 0;
-    for place in 0..specs.len() {
-        let spec = &specs[place];
-        match spec.wanted(end) {
-            Some(byte) if spec.ignores_case() => {
-                add_place(&mut words, byte.to_ascii_lowercase(), place);
-                add_place(&mut words, byte.to_ascii_uppercase(), place);
-            }
-            Some(byte) => add_place(&mut words, byte, place),
-            None => any |= 1 << place,
-        }
-    }
-    add_to_all(&mut words, any);
-    words
-}
-
-/// Adds a place to the word of a byte.
-fn add_place(words: &mut [u64; 256], byte: u8, place: usize)
-    requires { place < 64 }
-    ensures kept { KeepsBits words.old words.new }
-    ensures added { has (get_or words.new byte 0) place ≡ true }
-{
-    words[byte as usize] |= 1 << place;
-}
-
-/// Adds these places to the word of each byte.
-fn add_to_all(words: &mut [u64; 256], places: u64)
-    ensures kept { KeepsBits words.old words.new }
-    ensures added { (byte p : ℕ) → byte < 256
-        → has places p ≡ true → has (get_or words.new byte 0) p ≡ true }
-{
-    for byte in 0..256 {
-        words[byte] |= places;
     }
 }

@@ -70,11 +70,11 @@ impl Search {
     /// spec matches, if there are only excludes.
     ///
     /// It looks at each byte of the common prefix once. Of a path that begins with it, it compares at most as many heads
-    /// with it as the count of specs has binary digits, and two ([`Scratch::last_compared`]). Then it asks the specs whose
-    /// head begins the path, in search order, up to the first that matches ([`Scratch::last_tested`]). Each of them looks
-    /// at each byte of its own path a fixed number of times, beside the steps of its glob; and to find it, it looks at as
-    /// many places for each head that begins the path as their count has binary digits. For each of them that lists
-    /// attributes and fits, it resets an outcome and asks the look-up once. It takes no memory.
+    /// with it as the count of specs has binary digits, and two ([`Scratch::last_compared`]). Then it asks specs in search
+    /// order, up to the first that matches, and no more than have a head that begins the path ([`Scratch::last_tested`]). A
+    /// spec looks at the path's first and last byte, and then at each byte of its own path a fixed number of times, beside the
+    /// steps of its glob. Where it lists attributes and fits, it resets an outcome and asks the look-up once. A match takes no
+    /// memory.
     ///
     /// # Errors
     /// The look-up's fault, and only where the look-up failed in this call.

@@ -21,7 +21,6 @@ ghost use Rattle.gix_pathspec.specs.SelectionLaws.{NoNilPrefix, SpecPathsAreByte
 use crate::by_head::SpecsByHead;
 use crate::by_head::takers::TakersByHead;
 use crate::search::counted::{CountedHeads, CountedSpecs, CountedTakers};
-use crate::search::end_bytes::EndBytes;
 use crate::search::reach::Reach;
 use crate::search::scratch::boxed_scratch;
 use crate::search::spec::CompiledSpec;
@@ -323,10 +322,11 @@ pub(super) fn error_at(number: usize, error: Error) -> BuildError
     }
 }
 
-/// Excludes before includes, each group in its order. Where there is no exclude, no spec is moved.
+/// Excludes before includes, each group in its order.
 fn in_search_order(alloc: Global, specs: Vec<CompiledSpec>) -> Result<Vec<CompiledSpec>, AllocError>
     ensures { IfOk result (λ ordered. ordered.items ≡ in_search_order specs.items) }
 {
+    // Most lists have no exclude, and stand in order as they are.
     if !specs.iter().any(|spec| spec.pattern.is_excluded()) {
         return Ok(specs);
     }
@@ -349,8 +349,7 @@ fn by_head(alloc: Global, specs: Vec<CompiledSpec>) -> Result<SpecsByHead, Alloc
 {
     let common = common_prefix(alloc, specs.as_slice())?;
     let heads = places_by_head(alloc, specs.as_slice())?;
-    let end_bytes = EndBytes::of_specs(alloc, specs.as_slice())?;
-    Ok(SpecsByHead::new(CountedSpecs::new(specs), heads, common, end_bytes))
+    Ok(SpecsByHead::new(CountedSpecs::new(specs), heads, common))
 }
 
 /// The takers among these specs, by their heads.

@@ -27,9 +27,8 @@ impl Search {
     /// another, or there is no include. Where the path is that of a file, pass `Some(false)` as `is_dir`: then a spec that
     /// wants a directory, as `src/` does, reaches the path only if it lies below the spec's path.
     ///
-    /// It compares the path with at most as many stems of includes as their count has binary digits, and two, in each of
-    /// six tables: with case and without, and of stems that a wildcard follows, of others, and of those that want a
-    /// directory. Then it takes a link for each stem that begins the path. It takes no memory.
+    /// It takes no memory. It goes by one search through each of six lists of stems of includes: with case and without, of stems
+    /// that a wildcard follows, of others, and of those that want a directory. Nothing counts what these compare.
     pub fn can_match_relative_path(&self, path: BStr<'_>, is_dir: Option<bool>) -> bool
         ensures answer { result ≡ can_match (specs_of self.now.specs) (bstr_bytes path.entry)
             is_dir }

@@ -7,7 +7,7 @@ ghost use Rattle.gix_pathspec.specs.Patterns.{pattern_spec};
 ghost use Rattle.gix_pathspec.specs.Room.{glob_of};
 ghost use Rattle.gix_pathspec.specs.Specs.{has_wildcard};
 
-use crate::search::end_bytes::PathEnd;
+use crate::search::end_bytes::{first_byte, last_byte};
 use crate::search::matching;
 use crate::{Error, MagicSignature, Pattern, SearchMode};
 use bitflags::Flags;
@@ -28,6 +28,10 @@ pub(crate) struct CompiledSpec {
     pub(super) stem: usize,
     /// None for a spec that compares its path literally.
     pub(super) glob: Option<Glob>,
+    /// The first byte of each path that it matches, where the head doesn't tell that.
+    pub(super) first: Option<u8>,
+    /// The last byte of each path that its glob matches, where the pattern tells one.
+    pub(super) last: Option<u8>,
 }
 
 impl fmt::Debug for CompiledSpec {
@@ -45,7 +49,7 @@ impl Model for CompiledSpec {
 
     ghost view = { λ c. numbered_pattern c.number c.pattern };
 
-    ghost invariant = { λ c. IsCompiled (pattern_spec c.pattern) c.stem c.glob };
+    ghost invariant = { λ c. IsCompiled (pattern_spec c.pattern) c.stem c.glob c.first c.last };
 }
 
 impl CompiledSpec {
@@ -53,7 +57,6 @@ impl CompiledSpec {
     ghost use Rattle.gix_pathspec.specs.Patterns.{pattern_spec};
     ghost use Rattle.gix_pathspec.specs.Specs.{Spec, is_include, ignores_case, wants_directory, always_matches, has_wildcard};
     ghost use Rattle.gix_pathspec.specs.Prefixes.{stem, head};
-    ghost use Rattle.gix_pathspec.specs.EndBytes.{BeginsPaths, EndsPaths, Wants};
     ghost use Rattle.gix_pathspec.specs.PathTables.{IsPathTableOf};
     ghost use Rattle.gix_pathspec.specs.Plain.{has_one_case};
     ghost use Rattle.gix_pathspec.specs.Pruning.{stem_of, is_total_exclude};
@@ -78,11 +81,15 @@ impl CompiledSpec {
         // The proof reads here, too, that the path is bytes.
         let is_wild = stem < pattern.path().as_bytes().len();
         let glob = compile_glob(alloc, &pattern, is_wild)?;
+        let first = first_byte(&pattern, stem);
+        let last = last_byte(&pattern, is_wild);
         Ok(CompiledSpec {
             pattern,
             number,
             stem,
             glob,
+            first,
+            last,
         })
     }
 
@@ -271,39 +278,6 @@ impl CompiledSpec {
         ensures { result ≡ always_matches self.now.spec }
     {
         self.pattern.always_matches()
-    }
-
-    /// The byte that each path begins with that the spec matches, up to case where it doesn't count: the first of its stem. None
-    /// where the stem is empty, and for a nil spec.
-    pub(super) fn first_byte(&self) -> Option<u8>
-        ensures { IfSome result (BeginsPaths self.now.spec) }
-    {
-        if self.pattern.is_nil() {
-            return None;
-        }
-        self.stem().first().copied()
-    }
-
-    /// The byte that a path ends with that the spec's glob matches, up to case where it doesn't count: `s` of `src/*.rs`. None
-    /// where that may be any of several, where there is no glob or no star, and where the glob's first wildcard doesn't stand
-    /// right behind the head, as in `:(icase)src/*.rs`.
-    pub(super) fn last_byte(&self) -> Option<u8>
-        ensures { IfSome result (EndsPaths self.now.spec) }
-    {
-        match &self.glob {
-            Some(glob) if self.head().len() == self.stem => glob.last_byte(),
-            _ => None,
-        }
-    }
-
-    /// The byte that the spec wants at an end of a path, where it is known.
-    pub(super) fn wanted(&self, end: PathEnd) -> Option<u8>
-        ensures { IfSome result (Wants end self.now.spec) }
-    {
-        match end {
-            PathEnd::First => self.first_byte(),
-            PathEnd::Last => self.last_byte(),
-        }
     }
 
     /// How many tokens the spec's glob has, 0 where it has none.

@@ -39,8 +39,8 @@ pub struct Word {
 impl Word {
     ghost use Rattle.pathspec_glob.specs.GlobWords.{IsWordOf};
 
-    /// The word of tokens, where 1 to 63 of them take one byte, and no two places that may be passed over stand side by
-    /// side.
+    /// The word of tokens. It is None but where 1 to 63 of them take one byte, and no two places that may be passed over stand
+    /// side by side; no clause says that there it is a word.
     ///
     /// The cost is linear in the tokens; it tests each of them on each of the 256 bytes, with case and without.
     ///
