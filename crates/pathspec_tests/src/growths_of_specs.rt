@@ -19,7 +19,7 @@ use std::test::Fail;
 const TEXT: &str = ":(top,icase,attr:a=x\\,y)p/";
 
 /// Specs, the second of which leaves the directory `a/b` in which all are given. A walk asks the third by itself which
-/// directories it takes, the first byte of a path tells of the first, and the last of the fourth.
+/// directories it takes.
 const TEXTS: &[&str] = &[TEXT, "../c", ":(exclude,glob)d/**", "*.c"];
 
 /// A call that makes a pattern.
@@ -223,6 +223,33 @@ fn a_pattern_is_normalised_or_as_before(rt: HostRuntime) -> Result<(), Fail> {
         Changes(Normalize(":(attr:gen -b !c d=v)../c")),
         Changes(Normalize(":(icase,exclude,attr:gen)../..")),
         Changes(Normalize(":(glob,attr:gen)/r/a/*/")),
+    ];
+    assert_calls(rt.alloc(), CALLS)
+}
+
+/// The call that resolves the pattern of a text on the top of a repository, where its path is clean, with all growths refused.
+struct ResolveClean(&'static str);
+
+impl Call for ResolveClean {
+    fn end(&self, alloc: Global, _: usize) -> Result<Ended, Fail> {
+        let mut pattern = pattern_of(alloc, self.0)?;
+        let before = pattern_of(alloc, self.0)?;
+        refuse(alloc, ALL);
+        let answer = pattern.resolve(BStr::new(b""), BStr::new(b"/r"));
+        refuse(alloc, NONE);
+        Ok(Ended::Answered.if_right(answer.is_ok() && pattern == before))
+    }
+}
+
+#[test]
+fn a_clean_path_on_the_top_takes_no_memory(rt: HostRuntime) -> Result<(), Fail> {
+    const CALLS: &[ResolveClean] = &[
+        ResolveClean("a"),
+        ResolveClean("a/b.c/d"),
+        ResolveClean(":(top,icase,attr:g)p/"),
+        ResolveClean(":(prefix:1)a/*"),
+        ResolveClean("::"),
+        ResolveClean(":"),
     ];
     assert_calls(rt.alloc(), CALLS)
 }
