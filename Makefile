@@ -3,7 +3,7 @@
 #   make quick     run the program before any proof
 #   make check     the gate: every proof, must-fail edit, test and program; two checks at a time, or RT_JOBS
 #   make install   the program and its manual page below PREFIX (and DESTDIR), and the library where it is built
-#   make library   prove and build the library for C, and compare its names with the header's
+#   make library   prove and build the library for C, and compare its calls with the header's
 #   make examples  build and run the callers of the library, and compare the walkers with git
 PREFIX ?= /usr/local
 BINDIR ?= $(PREFIX)/bin
@@ -14,6 +14,8 @@ INCLUDEDIR ?= $(PREFIX)/include
 folder := crates/pathspec_select_cli
 program := $(folder)/out/pathspec_select_cli
 library := target/library
+# The number of the declarations, which names the shared library and stands in pathspec.pc.
+version = $(shell sed -n 's/^.define PS_VERSION //p' include/pathspec.h)
 
 .PHONY: all quick check install library examples
 
@@ -37,9 +39,9 @@ install:
 install-library:
 	install -d $(DESTDIR)$(LIBDIR)/pkgconfig $(DESTDIR)$(INCLUDEDIR)
 	install -m 644 $(library)/libpathspec.a $(DESTDIR)$(LIBDIR)/libpathspec.a
-	install $(library)/libpathspec.so $(DESTDIR)$(LIBDIR)/libpathspec.so.1
-	ln -sf libpathspec.so.1 $(DESTDIR)$(LIBDIR)/libpathspec.so
-	sed 's|@LIBDIR@|$(LIBDIR)|; s|@INCLUDEDIR@|$(INCLUDEDIR)|' include/pathspec.pc.in > $(DESTDIR)$(LIBDIR)/pkgconfig/pathspec.pc
+	install $(library)/libpathspec.so $(DESTDIR)$(LIBDIR)/libpathspec.so.$(version)
+	ln -sf libpathspec.so.$(version) $(DESTDIR)$(LIBDIR)/libpathspec.so
+	sed 's|@LIBDIR@|$(LIBDIR)|; s|@INCLUDEDIR@|$(INCLUDEDIR)|; s|@VERSION@|$(version)|' include/pathspec.pc.in > $(DESTDIR)$(LIBDIR)/pkgconfig/pathspec.pc
 	install -m 644 include/pathspec.h $(DESTDIR)$(INCLUDEDIR)/pathspec.h
 
 library:

@@ -22,6 +22,22 @@ static void expect_at(int line, unsigned long got, unsigned long wanted)
 
 #define EXPECT(got, wanted) expect_at(__LINE__, (unsigned long)(got), (unsigned long)(wanted))
 
+static uint8_t room[128];
+static size_t room_used;
+
+/* The whole of the text that the last call copied to the room. */
+static void expect_text_at(int line, const char *wanted)
+{
+    if (room_used != strlen(wanted) || memcmp(room, wanted, room_used)) {
+        fprintf(stderr, "edges.c:%d: \"%.*s\", not \"%s\"\n", line, (int)room_used, (const char *)room, wanted);
+        exit(1);
+    }
+    compared++;
+}
+
+#define EXPECT_TEXT(call, wanted) (EXPECT(call, PS_YES), expect_text_at(__LINE__, wanted))
+#define ROOM room, sizeof room, &room_used
+
 static uint32_t make(ps_search *search, const void *specs, size_t length, uint32_t defaults, ps_fault *fault)
 {
     return ps_search_new(search, specs, length, BYTES(""), BYTES(""), defaults, fault);
@@ -37,23 +53,68 @@ static uint32_t ask(ps_search *search, const char *path, bool is_dir)
 static void empty_ones(void)
 {
     ps_search search = PS_SEARCH_INIT, other = PS_SEARCH_INIT;
-    ps_fault fault;
-    uint8_t room[4] = "abc";
+    ps_fault fault = { 7, 77 };
+    uint8_t three[4] = "abc";
     for (int turn = 0; turn < 2; turn++) {
         size_t length = 9;
-        EXPECT(ask(&search, "a", false), PS_EMPTY);
-        EXPECT(ps_search_may_skip(&search, BYTES("a")), PS_EMPTY);
-        EXPECT(ps_search_can_match(&search, BYTES("a"), true), PS_EMPTY);
-        EXPECT(ps_search_common_prefix(&search, room, sizeof room, &length), PS_EMPTY);
+        ps_match found = { 9, 9, 9 };
+        EXPECT(ps_search_is_empty(&search), PS_YES);
+        EXPECT(ps_search_match(&search, BYTES("a"), false, &found), PS_NO);
+        EXPECT(found.number == 0 && found.kind == PS_UNSETTLED && found.is_excluded == 0, true);
+        EXPECT(ps_search_may_skip(&search, BYTES("a")), PS_NO);
+        EXPECT(ps_search_can_match(&search, BYTES("a"), true), PS_YES);
+        EXPECT(ps_search_common_prefix(&search, three, sizeof three, &length), PS_EMPTY);
         EXPECT(length, 0);
-        EXPECT(memcmp(room, "abc", 4), 0);
+        EXPECT(memcmp(three, "abc", 4), 0);
         EXPECT(ps_search_assign(&search, BYTES("a"), BYTES("x"), &fault), PS_EMPTY);
         EXPECT(ps_search_share(&search, &other), PS_EMPTY);
         EXPECT(make(&search, "a", 1, 0, &fault), PS_OK);
+        EXPECT(fault.number == 7 && fault.kind == 77, true);
+        EXPECT(ps_search_is_empty(&search), PS_NO);
         ps_search_free(&search);
         ps_search_free(&search);
         EXPECT(search.at == NULL, true);
     }
+}
+
+/* Each kind of fault, with its name and a spec that has it. */
+static void kinds(void)
+{
+    static const struct {
+        uint32_t kind;
+        const char *name, *spec;
+    } rows[] = {
+        { PS_FAULT_EMPTY, "Empty", "" },
+        { PS_FAULT_UNIMPLEMENTED_SHORT, "UnimplementedShort", ":%a" },
+        { PS_FAULT_MISSING_PAREN, "MissingParen", ":(top" },
+        { PS_FAULT_INVALID_KEYWORD, "InvalidKeyword", ":(nope)a" },
+        { PS_FAULT_LITERAL_WITH_GLOB, "LiteralWithGlob", ":(literal,glob)a" },
+        { PS_FAULT_SECOND_ATTRIBUTES, "SecondAttributes", ":(attr:a,attr:b)a" },
+        { PS_FAULT_INVALID_PREFIX, "InvalidPrefix", ":(prefix:x)a" },
+        { PS_FAULT_EMPTY_ATTRIBUTES, "EmptyAttributes", ":(attr:)a" },
+        { PS_FAULT_INVALID_NAME, "InvalidName", ":(attr:%)a" },
+        { PS_FAULT_INVALID_VALUE_BYTE, "InvalidValueByte", ":(attr:a=%)a" },
+        { PS_FAULT_TRAILING_ESCAPE, "TrailingEscape", ":(attr:a=b\\)a" },
+        { PS_FAULT_OUTSIDE_ROOT, "OutsideRoot", "/x" },
+        { PS_FAULT_LEAVES_REPOSITORY, "LeavesRepository", "../../x" },
+        { PS_FAULT_NOT_TRUTH, "NotTruth", NULL },
+        { PS_FAULT_GLOB_AND_NO_GLOB, "GlobAndNoGlob", NULL },
+    };
+    ps_search search = PS_SEARCH_INIT;
+    for (size_t row = 0; row < sizeof rows / sizeof *rows; row++) {
+        ps_fault fault = { 9, 99 };
+        EXPECT(rows[row].kind, row + 1);
+        EXPECT_TEXT(ps_fault_name(rows[row].kind, ROOM), rows[row].name);
+        if (!rows[row].spec)
+            continue;
+        const uint8_t *spec = (const uint8_t *)rows[row].spec;
+        EXPECT(ps_search_new(&search, spec, strlen(rows[row].spec) + 1, BYTES("a"), BYTES("/r"), 0, &fault), PS_FAULT);
+        EXPECT(fault.number, 0);
+        EXPECT(fault.kind, rows[row].kind);
+    }
+    EXPECT(ps_fault_name(0, ROOM), PS_NO);
+    EXPECT(ps_fault_name(16, ROOM), PS_NO);
+    EXPECT(room_used, 0);
 }
 
 /* A fault at each number of a list, and a search that is made over another. */
@@ -72,21 +133,46 @@ static void faults(void)
         EXPECT(make(&search, "a", 1, 0, &fault), PS_OK);
         EXPECT(make(&search, specs, length - 1, 0, &fault), PS_FAULT);
         EXPECT(fault.number, bad);
-        EXPECT(fault.kind, 4);
-        EXPECT(ask(&search, "a", false), PS_EMPTY);
+        EXPECT(fault.kind, PS_FAULT_INVALID_KEYWORD);
+        EXPECT(ps_search_is_empty(&search), PS_YES);
     }
     EXPECT(make(&search, "a\0", 3, 0, &fault), PS_FAULT);
     EXPECT(fault.number, 1);
-    EXPECT(fault.kind, 1);
+    EXPECT(fault.kind, PS_FAULT_EMPTY);
     EXPECT(ps_search_new(&search, BYTES("a"), BYTES("b//c"), BYTES(""), 0, &fault), PS_PREFIX);
     EXPECT(ps_search_new(&search, BYTES("b\0../../x"), BYTES("sub"), BYTES("/r"), 0, &fault), PS_FAULT);
     EXPECT(fault.number, 1);
-    EXPECT(fault.kind, 13);
+    EXPECT(fault.kind, PS_FAULT_LEAVES_REPOSITORY);
     EXPECT(ps_search_from_lines(&search, BYTES("a\n\nb"), BYTES(""), BYTES(""), 0, &fault), PS_FAULT);
     EXPECT(fault.number, 1);
     EXPECT(ps_search_from_lines(&search, BYTES("a\r\n:!a/b\n"), BYTES(""), BYTES(""), 0, &fault), PS_OK);
+    EXPECT(fault.number, 1);
+    EXPECT(fault.kind, PS_FAULT_EMPTY);
     EXPECT(ask(&search, "a/c", false), PS_YES);
     EXPECT(ask(&search, "a/b", false), PS_NO);
+    ps_search_free(&search);
+}
+
+/* A prefix and a root that are two: what lies below the one, and an absolute path in the other. */
+static void prefixes(void)
+{
+    ps_search search = PS_SEARCH_INIT;
+    ps_fault fault;
+    for (int turn = 0; turn < 2; turn++) {
+        uint32_t made = turn ? ps_search_from_lines(&search, BYTES("b\n/r/c\n"), BYTES("a"), BYTES("/r"), 0, &fault)
+                             : ps_search_new(&search, BYTES("b\0/r/c"), BYTES("a"), BYTES("/r"), 0, &fault);
+        EXPECT(made, PS_OK);
+        EXPECT(ask(&search, "a/b", false), PS_YES);
+        EXPECT(ask(&search, "b", false), PS_NO);
+        EXPECT(ask(&search, "c", false), PS_YES);
+    }
+    EXPECT_TEXT(ps_search_message(BYTES("b\0/s/c"), BYTES("a"), BYTES("/r"), 0, ROOM),
+                "spec 1: path is not inside of the repository: /s/c");
+    EXPECT_TEXT(ps_lines_message(BYTES("../../b\n"), BYTES("a"), BYTES("/r"), 0, ROOM),
+                "spec 0: path leaves the repository: ../../b");
+    /* the first include is the third spec, and has kept more of the prefix than the excludes */
+    EXPECT(ps_search_new(&search, BYTES(":!../x\0:!../../y\0z"), BYTES("p/q"), BYTES(""), 0, &fault), PS_OK);
+    EXPECT_TEXT(ps_search_prefix_directory(&search, ROOM), "p/q");
     ps_search_free(&search);
 }
 
@@ -122,18 +208,24 @@ static void defaults(void)
 /* The words of variables. */
 static void words(void)
 {
-    ps_fault fault;
+    ps_fault fault = { 7, 77 };
     uint32_t bits = 99;
     EXPECT(ps_defaults_from_words(BYTES(""), BYTES(""), BYTES(""), BYTES(""), &bits, &fault), PS_OK);
     EXPECT(bits, 0);
     EXPECT(ps_defaults_from_words(BYTES("true"), BYTES("1"), BYTES("on"), BYTES("yes"), &bits, &fault), PS_OK);
     EXPECT(bits, PS_LITERAL | PS_ICASE);
+    EXPECT(ps_defaults_from_words(BYTES("1"), BYTES(""), BYTES(""), BYTES(""), &bits, &fault), PS_OK);
+    EXPECT(bits, PS_LITERAL);
+    EXPECT(ps_defaults_from_words(BYTES(""), BYTES("1"), BYTES(""), BYTES("1"), &bits, &fault), PS_OK);
+    EXPECT(bits, PS_ICASE | PS_NOGLOB);
     EXPECT(ps_defaults_from_words(BYTES("no"), BYTES("off"), BYTES("2k"), BYTES("0"), &bits, &fault), PS_OK);
     EXPECT(bits, PS_GLOB);
+    EXPECT(fault.number == 7 && fault.kind == 77, true);
     EXPECT(ps_defaults_from_words(BYTES(""), BYTES("maybe"), BYTES(""), BYTES(""), &bits, &fault), PS_FAULT);
-    EXPECT(fault.kind, 14);
+    EXPECT(fault.number, 0);
+    EXPECT(fault.kind, PS_FAULT_NOT_TRUTH);
     EXPECT(ps_defaults_from_words(BYTES(""), BYTES(""), BYTES("1"), BYTES("1"), &bits, &fault), PS_FAULT);
-    EXPECT(fault.kind, 15);
+    EXPECT(fault.kind, PS_FAULT_GLOB_AND_NO_GLOB);
     EXPECT(bits, PS_GLOB);
     EXPECT(ps_version(), PS_VERSION);
 }
@@ -144,7 +236,7 @@ static void walks(void)
     ps_search search = PS_SEARCH_INIT;
     ps_fault fault;
     ps_match found;
-    uint8_t room[16] = "................";
+    uint8_t dots[16] = "................";
     size_t length;
     EXPECT(make(&search, "src/a\0src/b\0:!src/x", 20, 0, &fault), PS_OK);
     EXPECT(ps_search_may_skip(&search, BYTES("src")), PS_NO);
@@ -152,38 +244,54 @@ static void walks(void)
     EXPECT(ps_search_may_skip(&search, BYTES("doc")), PS_YES);
     EXPECT(ps_search_can_match(&search, BYTES("src"), true), PS_YES);
     EXPECT(ps_search_can_match(&search, BYTES("doc"), true), PS_NO);
-    EXPECT(ps_search_common_prefix(&search, room, 3, &length), PS_YES);
+    /* a slash at the end loses what lies below */
+    EXPECT(ps_search_may_skip(&search, BYTES("src/")), PS_YES);
+    EXPECT(ps_search_can_match(&search, BYTES("src/"), true), PS_NO);
+    EXPECT(ps_search_common_prefix(&search, dots, 3, &length), PS_YES);
     EXPECT(length, 4);
-    EXPECT(memcmp(room, "src.", 4), 0);
-    EXPECT(ps_search_common_prefix(&search, room, sizeof room, &length), PS_YES);
-    EXPECT(memcmp(room, "src/.", 5), 0);
-    EXPECT(ps_search_longest_common_directory(&search, room, 0, &length), PS_YES);
+    EXPECT(memcmp(dots, "src.", 4), 0);
+    EXPECT_TEXT(ps_search_common_prefix(&search, ROOM), "src/");
+    EXPECT(ps_search_longest_common_directory(&search, dots, 0, &length), PS_YES);
     EXPECT(length, 3);
-    EXPECT(ps_search_prefix_directory(&search, room, sizeof room, &length), PS_YES);
-    EXPECT(length, 0);
+    EXPECT_TEXT(ps_search_prefix_directory(&search, ROOM), "");
     EXPECT(ps_search_match(&search, BYTES("src/x/y"), false, &found), PS_NO);
     EXPECT(found.number, 2);
     EXPECT(found.kind, PS_BELOW);
     EXPECT(found.is_excluded, 1);
     EXPECT(make(&search, "*.c", 4, 0, &fault), PS_OK);
-    EXPECT(ps_search_longest_common_directory(&search, room, sizeof room, &length), PS_NO);
-    EXPECT(ps_fault_name(3, room, sizeof room, &length), PS_YES);
-    EXPECT(length, 12);
-    EXPECT(memcmp(room, "MissingParen", 12), 0);
-    EXPECT(ps_fault_name(99, room, sizeof room, &length), PS_NO);
-    EXPECT(ps_search_message(BYTES("a\0:(b"), BYTES(""), BYTES(""), 0, room, sizeof room, &length), PS_YES);
-    EXPECT(memcmp(room, "spec 1: missing ", sizeof room), 0);
-    EXPECT(ps_search_message(BYTES("a"), BYTES(""), BYTES(""), 0, room, sizeof room, &length), PS_NO);
-    EXPECT(ps_lines_message(BYTES("a\n:(b\n"), BYTES(""), BYTES(""), 0, room, sizeof room, &length), PS_YES);
-    EXPECT(length > 0 && !memcmp(room, "spec 1: ", 8), true);
-    EXPECT(ps_lines_message(BYTES("a\n"), BYTES(""), BYTES(""), 0, room, sizeof room, &length), PS_NO);
-    EXPECT(ps_lines_message(BYTES("a\n"), BYTES("/"), BYTES(""), 0, room, sizeof room, &length), PS_PREFIX);
-    EXPECT(ps_list_message(BYTES("a=b\\"), room, sizeof room, &length), PS_YES);
-    EXPECT(length > 0, true);
-    EXPECT(ps_list_message(BYTES("a -b"), room, sizeof room, &length), PS_NO);
-    EXPECT(length, 0);
-    EXPECT(length, 0);
+    EXPECT(ps_search_longest_common_directory(&search, dots, sizeof dots, &length), PS_NO);
+    EXPECT(make(&search, ":(glob)s*", 10, 0, &fault), PS_OK);
+    EXPECT(ask(&search, "src", true), PS_YES);
+    EXPECT(ask(&search, "src/", true), PS_NO);
     ps_search_free(&search);
+}
+
+/* The messages as a whole, of the first spec and of another; none where nothing is at fault. */
+static void messages(void)
+{
+    uint8_t dots[16] = "................";
+    size_t length;
+    EXPECT_TEXT(ps_search_message(BYTES(":(b"), BYTES(""), BYTES(""), 0, ROOM),
+                "spec 0: missing ')' at the end of pathspec magic in :(b");
+    EXPECT_TEXT(ps_search_message(BYTES("a\0:(nope)b"), BYTES(""), BYTES(""), 0, ROOM),
+                "spec 1: found an unknown keyword in long magic: nope");
+    EXPECT(ps_search_message(BYTES("a\0:(b"), BYTES(""), BYTES(""), 0, dots, 8, &length), PS_YES);
+    EXPECT(length, 55);
+    EXPECT(memcmp(dots, "spec 1: ........", sizeof dots), 0);
+    EXPECT_TEXT(ps_lines_message(BYTES("\na\n"), BYTES(""), BYTES(""), 0, ROOM),
+                "spec 0: an empty string is not a valid pathspec");
+    EXPECT_TEXT(ps_lines_message(BYTES("a\n:%b\n"), BYTES(""), BYTES(""), 0, ROOM),
+                "spec 1: unimplemented short keyword: '%'");
+    EXPECT_TEXT(ps_list_message(BYTES("a=b\\"), ROOM), "escape at the end of attribute value: b\\");
+    EXPECT_TEXT(ps_list_message(BYTES(""), ROOM), "attribute list is empty");
+    EXPECT_TEXT(ps_list_message(BYTES("a b=%"), ROOM), "invalid byte in attribute value: '%'");
+    EXPECT(ps_search_message(BYTES(":(b"), BYTES(""), BYTES(""), PS_LITERAL, ROOM), PS_NO);
+    EXPECT(room_used, 0);
+    EXPECT(ps_search_message(BYTES("a"), BYTES("b//c"), BYTES(""), 0, ROOM), PS_PREFIX);
+    EXPECT(ps_lines_message(BYTES("a\n"), BYTES(""), BYTES(""), 0, ROOM), PS_NO);
+    EXPECT(ps_lines_message(BYTES("a\n"), BYTES("/"), BYTES(""), 0, ROOM), PS_PREFIX);
+    EXPECT(ps_list_message(BYTES("a -b"), ROOM), PS_NO);
+    EXPECT(room_used, 0);
 }
 
 /* Attributes: none, some, and a list that can't be read. */
@@ -192,7 +300,8 @@ static void attributes(void)
     ps_search search = PS_SEARCH_INIT, other = PS_SEARCH_INIT;
     ps_fault fault;
     EXPECT(make(&search, ":(attr:text)*\0:(attr:a=%)b", 27, 0, &fault), PS_FAULT);
-    EXPECT(fault.kind, 10);
+    EXPECT(fault.number, 1);
+    EXPECT(fault.kind, PS_FAULT_INVALID_VALUE_BYTE);
     EXPECT(make(&search, ":(attr:text)*\0:(attr:!text eol=lf)b", 36, 0, &fault), PS_OK);
     EXPECT(ask(&search, "a", false), PS_NO);
     EXPECT(ps_search_assign(&search, BYTES("a"), BYTES("text"), &fault), PS_OK);
@@ -202,8 +311,12 @@ static void attributes(void)
     EXPECT(ask(&search, "a", false), PS_NO);
     EXPECT(ps_search_assign(&search, BYTES("b"), BYTES("eol=lf"), &fault), PS_OK);
     EXPECT(ask(&search, "b", false), PS_YES);
+    EXPECT(fault.number, 1);
     EXPECT(ps_search_assign(&search, BYTES("b"), BYTES(""), &fault), PS_FAULT);
-    EXPECT(fault.kind, 8);
+    EXPECT(fault.number, 0);
+    EXPECT(fault.kind, PS_FAULT_EMPTY_ATTRIBUTES);
+    EXPECT(ps_search_assign(&search, BYTES("b"), BYTES("a=b\\"), &fault), PS_FAULT);
+    EXPECT(fault.kind, PS_FAULT_TRAILING_ESCAPE);
     EXPECT(ask(&search, "b", false), PS_YES);
     EXPECT(ps_search_share(&search, &other), PS_OK);
     EXPECT(ask(&other, "b", false), PS_NO);
@@ -268,10 +381,13 @@ static void threads(void)
 int main(void)
 {
     empty_ones();
+    kinds();
     faults();
+    prefixes();
     defaults();
     words();
     walks();
+    messages();
     attributes();
     many();
     threads();

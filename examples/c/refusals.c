@@ -1,4 +1,5 @@
-/* Refuses each allocation of a search in turn: the answer is PS_MEMORY and nothing is kept; and a match takes none. */
+/* Refuses each allocation of a search in turn: the answer is PS_MEMORY and nothing is kept. A match takes none, unless
+ * attributes were given; then each of its own is refused in turn: the answer is PS_YES with PS_NO_MEMORY. */
 #include "pathspec.h"
 
 #include <stdio.h>
@@ -45,8 +46,26 @@ static uint32_t make(ps_search *search, ps_search *other, ps_fault *fault)
     const uint8_t *texts = (const uint8_t *)specs;
     uint32_t status = ps_search_new(search, texts, sizeof specs, BYTES("d/e"), BYTES("/r"), PS_ICASE, fault);
     if (status == PS_OK)
-        status = ps_search_assign(search, BYTES("q"), BYTES("a -b c=d"), fault);
+        status = ps_search_assign(search, BYTES("d/e/q"), BYTES("a -b c=d"), fault);
     return status == PS_OK ? ps_search_share(search, other) : status;
+}
+
+/* How many allocations a match takes that asks for attributes; -1 where a refusal isn't answered as it should be. */
+static long refuse_in_match(ps_search *search)
+{
+    for (long refused = 0;; refused++) {
+        ps_match found;
+        left = refused;
+        uint32_t selected = ps_search_match(search, BYTES("d/e/q"), false, &found);
+        int was_refused = left < 0;
+        left = -1;
+        if (selected != PS_YES || found.is_excluded)
+            return -1;
+        if (!was_refused)
+            return found.kind == PS_WILDCARD && found.number == 3 ? refused : -1;
+        if (found.kind != PS_NO_MEMORY || found.number)
+            return -1;
+    }
 }
 
 int main(void)
@@ -62,17 +81,19 @@ int main(void)
         left = -1;
         if (was_refused ? status != PS_MEMORY || other.at : status != PS_OK)
             return 1;
-        long asked = requests;
-        if (status == PS_OK)
-            ps_search_match(&other, BYTES("d/e/src/a.c"), false, &found);
+        long asked = requests, matched = 0;
+        if (status == PS_OK && !(ps_search_match(&other, BYTES("d/e/src/a.c"), false, &found) && found.kind == PS_WILDCARD))
+            return 1;
         if (requests != asked)
+            return 1;
+        if (status == PS_OK && (matched = refuse_in_match(&search)) < 0)
             return 1;
         ps_search_free(&search);
         ps_search_free(&other);
         if (live != before)
             return 1;
         if (!was_refused) {
-            printf("refusals: %ld, nothing kept; a match takes none\n", refused);
+            printf("refusals: %ld, nothing kept; a match takes none, and %ld with attributes\n", refused, matched);
             return 0;
         }
     }

@@ -112,10 +112,10 @@ static void visit(struct walk *walk, const struct dirent *entry)
     unsigned char type = type_of(dirfd(level->dir), entry);
     ps_match found;
     if (type == DT_DIR) {
-        if (ps_search_may_skip(&walk->search, path, length) == PS_NO)
+        if (!ps_search_may_skip(&walk->search, path, length))
             enter(walk, dirfd(level->dir), name, length);
     } else if (type == DT_REG || type == DT_LNK) {
-        if (ps_search_match(&walk->search, path, length, false, &found) == PS_YES)
+        if (ps_search_match(&walk->search, path, length, false, &found))
             printf("%s%c", walk->path, walk->end);
     }
 }

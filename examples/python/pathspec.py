@@ -11,7 +11,7 @@ import ctypes
 import os
 import sys
 
-_NO, _YES, _EMPTY, _MEMORY, _PREFIX, _FAULT = range(6)
+_MEMORY, _PREFIX = 3, 4
 
 
 class _Handle(ctypes.Structure):
@@ -37,6 +37,7 @@ def _load(path):
     library.ps_search_may_skip.restype = number
     library.ps_search_message.argtypes = [text, size, text, size, text, size, number, text, size, ctypes.POINTER(size)]
     library.ps_search_message.restype = number
+    library.ps_search_is_empty.argtypes, library.ps_search_is_empty.restype = [handle], number
     library.ps_search_free.argtypes, library.ps_search_free.restype = [handle], None
     return library
 
@@ -70,16 +71,18 @@ class Pathspec:
         self._library.ps_search_message(*given, room, len(room), length)
         return room.raw[: min(length.value, len(room))].decode(errors="replace") or "out of memory"
 
+    def _open(self):
+        if self._library.ps_search_is_empty(self._handle):
+            raise ValueError("the search is closed")
+        return self._handle
+
     def match(self, path, is_dir=False):
-        """Whether a path is selected."""
-        status = self._library.ps_search_match(self._handle, path, len(path), is_dir, _Match())
-        if status not in (_NO, _YES):
-            raise MemoryError if status == _MEMORY else ValueError("the search is closed")
-        return status == _YES
+        """Whether a path is selected. A directory's path has no slash at its end."""
+        return bool(self._library.ps_search_match(self._open(), path, len(path), is_dir, _Match()))
 
     def may_skip(self, directory):
-        """Whether a walk may skip a directory."""
-        return self._library.ps_search_may_skip(self._handle, directory, len(directory)) == _YES
+        """Whether a walk may skip a directory, whose path has no slash at its end."""
+        return bool(self._library.ps_search_may_skip(self._open(), directory, len(directory)))
 
     def close(self):
         self._library.ps_search_free(self._handle)

@@ -164,25 +164,25 @@ impl Search {
         }
     }
 
-    /// Whether a path is selected, and the spec that settles it, if one does.
+    /// Whether a path is selected, and the spec that settles it, if one does. A directory's path has no slash at its end.
     pub fn settle(&mut self, path: &[u8], is_dir: bool) -> (bool, Option<Match>) {
         let mut found = RawMatch::default();
         // SAFETY: `found` is this call's own.
-        let status = unsafe { ps_search_match(&mut self.handle, path.as_ptr(), path.len(), is_dir, &mut found) };
+        let selected = unsafe { ps_search_match(&mut self.handle, path.as_ptr(), path.len(), is_dir, &mut found) } != 0;
         let kind = match found.kind {
             1 => Kind::Always,
             2 => Kind::Below,
             3 => Kind::Wildcard,
             4 => Kind::Verbatim,
-            _ => return (status == 1, None),
+            _ => return (selected, None),
         };
-        (status == 1, Some(Match { number: found.number, kind, is_excluded: found.is_excluded == 1 }))
+        (selected, Some(Match { number: found.number, kind, is_excluded: found.is_excluded == 1 }))
     }
 
-    /// Whether a walk may skip a directory.
+    /// Whether a walk may skip a directory, whose path has no slash at its end.
     pub fn may_skip(&mut self, directory: &[u8]) -> bool {
         // SAFETY: the slice's pointer isn't null.
-        unsafe { ps_search_may_skip(&mut self.handle, directory.as_ptr(), directory.len()) == 1 }
+        unsafe { ps_search_may_skip(&mut self.handle, directory.as_ptr(), directory.len()) != 0 }
     }
 
     /// The files below a directory that are selected. Links aren't followed, and what is called `.git` is left out.

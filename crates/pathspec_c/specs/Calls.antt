@@ -1,5 +1,5 @@
 -- What C's numbers and bytes say.
-use Rattle.std.specs.Prelude.{◌≡◌, ℕ, Bool, true, false, not, ◌==◌, bit_and, if◌then◌else◌, List, Some, Result, Err}
+use Rattle.std.specs.Prelude.{◌≡◌, ◌⊎◌, ℕ, Bool, true, false, not, ◌==◌, bit_and, if◌then◌else◌, List, Some, Result, Err}
 use Rattle.pathspec_pattern.specs.declared.defaults.Defaults.{Defaults}
 use Rattle.pathspec_pattern.specs.declared.SearchMode.{SearchMode}
 use Rattle.pathspec_pattern.specs.declared.SearchMode.TheVariants.{ShellGlob, Literal, PathAwareGlob}
@@ -70,3 +70,17 @@ fault_number Fault.GlobAndNoGlob = 15
 -- there is a fault, and this is its number
 abbrev pub HasKind : {A : Type 0} → ℕ → Result A Fault → Type 0
 HasKind kind said = (fault : Fault) × (kind ≡ fault_number fault) × (said ≡ Err fault)
+
+-- ---- which numbers a call can answer
+
+-- a question: no or yes
+abbrev pub IsYesOrNo : ℕ → Type 0
+IsYesOrNo status = (status ≡ 0) ⊎ (status ≡ 1)
+
+-- a call that makes a search: done, no memory, a prefix that isn't clean, or a fault
+abbrev pub IsMakingStatus : ℕ → Type 0
+IsMakingStatus status = (status ≡ 0) ⊎ (status ≡ 3) ⊎ (status ≡ 4) ⊎ (status ≡ 5)
+
+-- a call that tells the message of a spec's fault: nothing at fault, a message, no memory, or a prefix that isn't clean
+abbrev pub IsMessageStatus : ℕ → Type 0
+IsMessageStatus status = (status ≡ 0) ⊎ (status ≡ 1) ⊎ (status ≡ 3) ⊎ (status ≡ 4)

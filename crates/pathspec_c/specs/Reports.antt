@@ -13,6 +13,10 @@ abbrev pub TellsAnswer : PsMatch → Option Answer → Type 0
 TellsAnswer report None = report ≡ record { number = 0; kind = 0; is_excluded = 0 }
 TellsAnswer report (Some a) = report ≡ record { number = a.number; kind = kind_number a.kind; is_excluded = yes_no (is_exclude a.pattern) }
 
+-- memory ran out before the question was answered: yes, with the kind 5 and zeros
+abbrev pub IsUnanswered : ℕ → PsMatch → Type 0
+IsUnanswered status report = (status ≡ 1) × (report ≡ record { number = 0; kind = 5; is_excluded = 0 })
+
 -- P holds of this fault, with its number
 abbrev pub TellsFirst : PsFault → (ℕ × Fault → Type 0) → Type 0
 TellsFirst report P = (fault : Fault) × (report.kind ≡ fault_number fault) × P (report.number, fault)

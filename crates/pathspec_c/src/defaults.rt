@@ -1,5 +1,5 @@
 //! What specs get that say nothing of it, as bits: 1 literal, 2 without case, 4 globs aware of paths, 8 no globs.
-ghost use Rattle.std.specs.Prelude.{◌≡◌, [], None, Some, Ok, MatchResult, if◌then◌else◌};
+ghost use Rattle.std.specs.Prelude.{◌≡◌, ◌≢◌, ◌⊎◌, [], None, Some, Ok, MatchResult, if◌then◌else◌};
 ghost use Rattle.pathspec_pattern.specs.Environment.{case_signature, defaults_of, flag_of};
 ghost use Rattle.pathspec_c.specs.Calls.{HasKind, defaults_by, defaults_from, mode_from, words_from};
 
@@ -9,7 +9,8 @@ use gix_pathspec::{Defaults, MagicSignature, SearchMode};
 use pathspec_parts::truth::parse_truth;
 
 /// The bits that the words of git's variables for pathspecs ask for. An empty word says the same as a variable that isn't
-/// set. The status is 0, or 5 where a word is none of truth, or globs are both asked for and not.
+/// set. The status is 0, or 5 where a word is none of truth, or globs are both asked for and not; then `defaults` stays. Only
+/// with 5 is the fault written, with the number 0.
 #[unsafe(no_mangle)]
 pub extern "C" fn ps_defaults_from_words(
     literal: &[u8],
@@ -24,6 +25,10 @@ pub extern "C" fn ps_defaults_from_words(
     ensures fault { result ≡ 5 → HasKind fault.new.kind
         (defaults_of (words_from literal.now icase.now glob.now noglob.now)) }
     ensures unset { flag_of (Some []) ≡ flag_of None }
+    ensures number { result ≡ 5 → fault.new.number ≡ 0 }
+    ensures closed { (result ≡ 0) ⊎ (result ≡ 5) }
+    ensures untold { result ≢ 5 → fault.new ≡ fault.old }
+    ensures kept { result ≢ 0 → defaults.new ≡ defaults.old }
 {
     match bits_of_words(literal, icase, glob, noglob) {
         Ok(bits) => {

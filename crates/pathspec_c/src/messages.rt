@@ -3,11 +3,14 @@
 //! Each call reads again what is at fault, at the same cost, and takes memory. A message is copied as the texts of
 //! [`texts`](crate::texts) are. The status is 1 where there is one, 0 where nothing is at fault, 3 where memory ran out,
 //! and 4 where the prefix isn't clean; where it isn't 1 the room is as before and the length 0.
-ghost use Rattle.std.specs.Prelude.{◌≡◌, ◌≢◌, IsOk};
+ghost use Rattle.std.specs.Prelude.{◌≡◌, ◌≢◌, ◌↔◌, ◌⊎◌, ℕ, false, IsErr, IsOk, List, Result};
 ghost use Rattle.pathspec_pattern.specs.AttributeLists.{assignments_of};
-ghost use Rattle.gix_pathspec.specs.declared.search.init.BuildError.TheVariants.{Memory};
+ghost use Rattle.gix_pathspec.specs.Building.{TellsFault};
+ghost use Rattle.gix_pathspec.specs.Faults.{Fault};
 ghost use Rattle.gix_pathspec.specs.Lines.{search_of_lines, search_of_texts};
-ghost use Rattle.pathspec_c.specs.Calls.{defaults_from, texts_in};
+ghost use Rattle.gix_pathspec.specs.Search.{Numbered};
+ghost use Rattle.pathspec_parts.specs.Paths.{is_clean_prefix};
+ghost use Rattle.pathspec_c.specs.Calls.{IsMessageStatus, defaults_from, texts_in};
 
 use crate::build;
 use crate::defaults::defaults_from;
@@ -28,8 +31,12 @@ pub extern "C" fn ps_search_message(
     room: &mut [u8],
     length: &mut usize,
 ) -> u32
-    ensures none { IsOk (search_of_texts (defaults_from defaults)
-        prefix.now root.now (texts_in specs.now)) → result ≢ 1 }
+    ensures closed { IsMessageStatus result }
+    ensures prefix { (result ≡ 4) ↔ (is_clean_prefix prefix.now ≡ false) }
+    ensures none { result ≡ 0 → IsOk (search_of_texts (defaults_from defaults)
+        prefix.now root.now (texts_in specs.now)) }
+    ensures told { result ≡ 1 → IsErr (search_of_texts (defaults_from defaults)
+        prefix.now root.now (texts_in specs.now)) }
     ensures length { result ≢ 1 → length.new ≡ 0 }
     ensures room { result ≢ 1 → room.new ≡ room.old }
 {
@@ -54,8 +61,12 @@ pub extern "C" fn ps_lines_message(
     room: &mut [u8],
     length: &mut usize,
 ) -> u32
-    ensures none { IsOk (search_of_lines (defaults_from defaults)
-        prefix.now root.now text.now) → result ≢ 1 }
+    ensures closed { IsMessageStatus result }
+    ensures prefix { (result ≡ 4) ↔ (is_clean_prefix prefix.now ≡ false) }
+    ensures none { result ≡ 0 → IsOk (search_of_lines (defaults_from defaults)
+        prefix.now root.now text.now) }
+    ensures told { result ≡ 1 → IsErr (search_of_lines (defaults_from defaults)
+        prefix.now root.now text.now) }
     ensures length { result ≢ 1 → length.new ≡ 0 }
     ensures room { result ≢ 1 → room.new ≡ room.old }
 {
@@ -80,7 +91,9 @@ pub extern "C" fn ps_list_message(
     room: &mut [u8],
     length: &mut usize,
 ) -> u32
-    ensures none { IsOk (assignments_of list.now) → result ≢ 1 }
+    ensures closed { (result ≡ 0) ⊎ (result ≡ 1) ⊎ (result ≡ 3) }
+    ensures none { result ≡ 0 → IsOk (assignments_of list.now) }
+    ensures told { result ≡ 1 → IsErr (assignments_of list.now) }
     ensures length { result ≢ 1 → length.new ≡ 0 }
     ensures room { result ≢ 1 → room.new ≡ room.old }
 {
@@ -98,7 +111,9 @@ pub extern "C" fn ps_list_message(
 /// Tells the message of the error of a spec.
 fn tell_build_error(alloc: Global, error: &BuildError, room: &mut [u8], length: &mut usize) -> u32
     requires { length.old ≡ 0 }
-    ensures memory { error.now ≡ Memory → result ≢ 1 }
+    ensures closed { (result ≡ 1) ⊎ (result ≡ 3) }
+    ensures told { (computed : Result (List Numbered) (ℕ × Fault))
+        → TellsFault error.now (λ first. computed ≡ Err first) → result ≡ 1 → IsErr computed }
     ensures length { result ≢ 1 → length.new ≡ 0 }
     ensures room { result ≢ 1 → room.new ≡ room.old }
 {

@@ -1,10 +1,10 @@
 //! What calls report to C: the spec that settles a path, and why a search was not made.
-ghost use Rattle.std.specs.Prelude.{◌≡◌, MatchOption};
+ghost use Rattle.std.specs.Prelude.{◌≡◌, ◌≢◌, None, MatchOption};
 ghost use Rattle.std.specs.Option.{option_map};
 ghost use Rattle.gix_pathspec.specs.Errors.{fault_of};
 ghost use Rattle.gix_pathspec.specs.Found.{match_view};
 ghost use Rattle.gix_pathspec.specs.Search.{selects};
-ghost use Rattle.pathspec_c.specs.Calls.{yes_no, kind_number, fault_number};
+ghost use Rattle.pathspec_c.specs.Calls.{IsYesOrNo, yes_no, kind_number, fault_number};
 
 use gix_pathspec::Error;
 use gix_pathspec::search::{Match, MatchKind};
@@ -15,7 +15,8 @@ use gix_pathspec::search::{Match, MatchKind};
 pub struct PsMatch {
     /// Its place in the list that the search was made from.
     pub number: usize,
-    /// How it came to match: 1 always, 2 by its prefix, 3 by its glob, 4 verbatim; 0 where no spec settles the path.
+    /// How it came to match: 1 always, 2 by its prefix, 3 by its glob, 4 verbatim; 0 where no spec settles the path, and 5
+    /// where memory ran out before that was known.
     pub kind: u32,
     /// 1 where it takes the path out, and else 0. It is no `bool`, so that a caller may hand in what the memory holds.
     pub is_excluded: u32,
@@ -32,12 +33,25 @@ pub struct PsFault {
 }
 
 impl PsMatch {
-    ghost use Rattle.pathspec_c.specs.Reports.{TellsAnswer};
+    ghost use Rattle.pathspec_c.specs.Reports.{IsUnanswered, TellsAnswer};
+
+    /// The report that no spec settles a path.
+    pub(crate) fn unsettled() -> PsMatch
+        ensures { TellsAnswer result None }
+    {
+        PsMatch {
+            number: 0,
+            kind: 0,
+            is_excluded: 0,
+        }
+    }
 
     /// Tells what settles a path, and whether that selects it: 1 for yes and 0 for no.
     pub(crate) fn tell(&mut self, settled: &Option<Match<'_>>) -> u32
         ensures selects { result ≡ yes_no (selects (option_map match_view settled.now)) }
         ensures report { TellsAnswer self.new (option_map match_view settled.now) }
+        ensures answered { self.new.kind ≢ 5 }
+        ensures closed { IsYesOrNo result }
     {
         match settled {
             Some(found) => {
@@ -48,18 +62,27 @@ impl PsMatch {
                 u32::from(!is_excluded)
             }
             None => {
-                self.number = 0;
-                self.kind = 0;
-                self.is_excluded = 0;
+                *self = PsMatch::unsettled();
                 0
             }
         }
+    }
+
+    /// Tells that memory ran out before the question was answered: 1, so that a caller who looks no further loses no path.
+    pub(crate) fn tell_unanswered(&mut self) -> u32
+        ensures { IsUnanswered result self.new }
+    {
+        self.number = 0;
+        self.kind = 5;
+        self.is_excluded = 0;
+        1
     }
 }
 
 /// The number of a kind.
 fn kind_number(kind: MatchKind) -> u32
-    ensures { result ≡ kind_number kind }
+    ensures number { result ≡ kind_number kind }
+    ensures answered { result ≢ 5 }
 {
     match kind {
         MatchKind::Always => 1,

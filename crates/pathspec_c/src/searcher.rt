@@ -8,9 +8,9 @@ ghost use Rattle.gix_pathspec.specs.Room.{Fits};
 ghost use Rattle.gix_pathspec.specs.Search.{specs_of, answer, selects};
 ghost use Rattle.gix_pathspec.specs.Skipping.{may_skip};
 ghost use Rattle.pathspec_select.specs.Listing.{table_of};
-ghost use Rattle.pathspec_c.specs.Calls.{yes_no};
+ghost use Rattle.pathspec_c.specs.Calls.{IsYesOrNo, yes_no};
 ghost use Rattle.pathspec_c.specs.Searchers.{AddsRow, Keeps, new_searcher};
-ghost use Rattle.pathspec_c.specs.Reports.{TellsAnswer};
+ghost use Rattle.pathspec_c.specs.Reports.{IsUnanswered, TellsAnswer};
 
 use crate::empty_rows::EmptyRows;
 use crate::reports::PsMatch;
@@ -89,19 +89,21 @@ impl Searcher {
             .may_skip(BStr::new(directory), &mut self.scratch)
     }
 
-    /// Whether the search selects a path, and which spec settles it.
+    /// Whether the search selects a path, and which spec settles it; or that memory ran out.
     pub(crate) fn settle(&mut self, path: &[u8], is_dir: bool, found: &mut PsMatch) -> u32
         ensures same { Keeps self.old self.new }
-        ensures answer { result ≢ 3 → result
+        ensures answer { found.new.kind ≢ 5 → result
             ≡ yes_no (selects (answer (table_of self.old.rows) self.old.specs path.now is_dir)) }
-        ensures report { result ≢ 3 → TellsAnswer found.new
+        ensures report { found.new.kind ≢ 5 → TellsAnswer found.new
             (answer (table_of self.old.rows) self.old.specs path.now is_dir) }
-        ensures failed { result ≡ 3 → self.old.has_rows ≡ true }
+        ensures unanswered { found.new.kind ≡ 5 → IsUnanswered result found.new }
+        ensures failed { found.new.kind ≡ 5 → self.old.has_rows ≡ true }
+        ensures closed { IsYesOrNo result }
     {
         let (search, scratch) = (&*self.search, &mut self.scratch);
         if let Some(rows) = &mut self.rows {
             let Ok(status) = settle_by(search, scratch, rows, path, is_dir, found) else {
-                return 3;
+                return found.tell_unanswered();
             };
             return status;
         }
@@ -150,6 +152,8 @@ fn settle_by<L: LookUp>(
         ≡ yes_no (selects (answer (L.table look_up.old) search.now.specs path.now is_dir))) }
     ensures report { IfOk result (λ _. TellsAnswer found.new
         (answer (L.table look_up.old) search.now.specs path.now is_dir)) }
+    ensures answered { OnOk result (found.new.kind ≢ 5) }
+    ensures closed { IfOk result IsYesOrNo }
     ensures room { scratch.new.room ≡ scratch.old.room }
     ensures table_stays { L.table look_up.new ≡ L.table look_up.old }
 {

@@ -1,8 +1,8 @@
 //! Searches are made, shared and freed.
 //!
 //! The status is 0 where all was done, 2 where the handle is empty, 3 where memory ran out, 4 where the prefix isn't clean,
-//! and 5 where a spec or a list of attributes is at fault.
-ghost use Rattle.std.specs.Prelude.{◌≡◌, ◌≢◌, ◌↔◌, ℕ, false, None, Some, Err, Result, IfSome, List};
+//! and 5 where a spec or a list of attributes is at fault. Only with 5 is the fault written.
+ghost use Rattle.std.specs.Prelude.{◌≡◌, ◌≢◌, ◌↔◌, ◌⊎◌, ℕ, false, None, Some, Err, Result, IfSome, List};
 ghost use Rattle.pathspec_parts.specs.Paths.{is_clean_prefix};
 ghost use Rattle.pathspec_pattern.specs.AttributeLists.{assignments_of};
 ghost use Rattle.gix_pathspec.specs.Building.{Builds};
@@ -10,7 +10,7 @@ ghost use Rattle.gix_pathspec.specs.Errors.{fault_of};
 ghost use Rattle.gix_pathspec.specs.Faults.{Fault};
 ghost use Rattle.gix_pathspec.specs.Lines.{search_of_lines, search_of_texts};
 ghost use Rattle.gix_pathspec.specs.Search.{Numbered};
-ghost use Rattle.pathspec_c.specs.Calls.{HasKind, defaults_from, fault_number, texts_in};
+ghost use Rattle.pathspec_c.specs.Calls.{HasKind, IsMakingStatus, defaults_from, fault_number, texts_in};
 ghost use Rattle.pathspec_c.specs.Searchers.{AddsRow, new_searcher};
 ghost use Rattle.pathspec_c.specs.Reports.{HoldsComputed, TellsFirst};
 
@@ -29,7 +29,7 @@ use std::alloc::Global;
 #[unsafe(no_mangle)]
 pub extern "C" fn ps_search_new(
     alloc: Global,
-    handle: &mut PsSearch,
+    search: &mut PsSearch,
     specs: &[u8],
     prefix: &[u8],
     root: &[u8],
@@ -37,26 +37,28 @@ pub extern "C" fn ps_search_new(
     fault: &mut PsFault,
 ) -> u32
     ensures made { result ≡ 0 → HoldsComputed (search_of_texts (defaults_from defaults)
-        prefix.now root.now (texts_in specs.now)) handle.new.searcher }
-    ensures refused { result ≢ 0 → handle.new.searcher ≡ None }
+        prefix.now root.now (texts_in specs.now)) search.new.searcher }
+    ensures refused { result ≢ 0 → search.new.searcher ≡ None }
     ensures spec { result ≡ 5 → TellsFirst fault.new (λ first. search_of_texts
         (defaults_from defaults) prefix.now root.now (texts_in specs.now) ≡ Err first) }
     ensures prefix { (result ≡ 4) ↔ (is_clean_prefix prefix.now ≡ false) }
+    ensures closed { IsMakingStatus result }
+    ensures untold { result ≢ 5 → fault.new ≡ fault.old }
 {
-    ps_search_free(alloc, handle);
+    ps_search_free(alloc, search);
     if !is_clean_prefix(BStr::new(prefix)) {
         return 4;
     }
     let defaults = defaults_from(defaults);
     let made = build::search_of_texts(alloc, specs, defaults, prefix, root);
-    keep(alloc, handle, made, fault)
+    keep(alloc, search, made, fault)
 }
 
 /// Makes a search of the specs on the lines of a text, as [`ps_search_new`] makes one of texts.
 #[unsafe(no_mangle)]
 pub extern "C" fn ps_search_from_lines(
     alloc: Global,
-    handle: &mut PsSearch,
+    search: &mut PsSearch,
     text: &[u8],
     prefix: &[u8],
     root: &[u8],
@@ -64,13 +66,15 @@ pub extern "C" fn ps_search_from_lines(
     fault: &mut PsFault,
 ) -> u32
     ensures made { result ≡ 0 → HoldsComputed (search_of_lines (defaults_from defaults)
-        prefix.now root.now text.now) handle.new.searcher }
-    ensures refused { result ≢ 0 → handle.new.searcher ≡ None }
+        prefix.now root.now text.now) search.new.searcher }
+    ensures refused { result ≢ 0 → search.new.searcher ≡ None }
     ensures spec { result ≡ 5 → TellsFirst fault.new (λ first. search_of_lines
         (defaults_from defaults) prefix.now root.now text.now ≡ Err first) }
     ensures prefix { (result ≡ 4) ↔ (is_clean_prefix prefix.now ≡ false) }
+    ensures closed { IsMakingStatus result }
+    ensures untold { result ≢ 5 → fault.new ≡ fault.old }
 {
-    ps_search_free(alloc, handle);
+    ps_search_free(alloc, search);
     let prefix = BStr::new(prefix);
     if !is_clean_prefix(prefix) {
         return 4;
@@ -78,24 +82,25 @@ pub extern "C" fn ps_search_from_lines(
     let defaults = defaults_from(defaults);
     let source = BStr::new(b"");
     let made = Search::from_lines(alloc, text, source, defaults, Some(prefix), BStr::new(root));
-    keep(alloc, handle, made, fault)
+    keep(alloc, search, made, fault)
 }
 
 /// Gives `other` the search of a handle, with room of its own and no attributes, so that another thread can ask it at the
 /// same time. What `other` held before is freed.
 #[unsafe(no_mangle)]
-pub extern "C" fn ps_search_share(alloc: Global, handle: &mut PsSearch, other: &mut PsSearch) -> u32
-    ensures stays { handle.new.searcher ≡ handle.old.searcher }
-    ensures made { result ≡ 0 → IfSome handle.old.searcher (λ searcher.
+pub extern "C" fn ps_search_share(alloc: Global, search: &mut PsSearch, other: &mut PsSearch) -> u32
+    ensures stays { search.new.searcher ≡ search.old.searcher }
+    ensures made { result ≡ 0 → IfSome search.old.searcher (λ searcher.
         other.new.searcher ≡ Some (new_searcher searcher.specs)) }
     ensures refused { result ≢ 0 → other.new.searcher ≡ None }
-    ensures empty { (result ≡ 2) ↔ (handle.old.searcher ≡ None) }
+    ensures empty { (result ≡ 2) ↔ (search.old.searcher ≡ None) }
+    ensures closed { (result ≡ 0) ⊎ (result ≡ 2) ⊎ (result ≡ 3) }
 {
     ps_search_free(alloc, other);
-    match handle.take(alloc) {
+    match search.take(alloc) {
         Some(searcher) => {
             let shared = searcher.share(alloc);
-            handle.put(searcher);
+            search.put(searcher);
             match shared {
                 Ok(shared) => {
                     other.put(shared);
@@ -112,21 +117,24 @@ pub extern "C" fn ps_search_share(alloc: Global, handle: &mut PsSearch, other: &
 #[unsafe(no_mangle)]
 pub extern "C" fn ps_search_assign(
     alloc: Global,
-    handle: &mut PsSearch,
+    search: &mut PsSearch,
     path: &[u8],
     list: &[u8],
     fault: &mut PsFault,
 ) -> u32
-    ensures added { result ≡ 0 → IfSome handle.old.searcher (λ old.
-        IfSome handle.new.searcher (AddsRow path.now list.now old)) }
-    ensures stays { result ≢ 0 → handle.new.searcher ≡ handle.old.searcher }
-    ensures empty { (result ≡ 2) ↔ (handle.old.searcher ≡ None) }
+    ensures added { result ≡ 0 → IfSome search.old.searcher (λ old.
+        IfSome search.new.searcher (AddsRow path.now list.now old)) }
+    ensures stays { result ≢ 0 → search.new.searcher ≡ search.old.searcher }
+    ensures empty { (result ≡ 2) ↔ (search.old.searcher ≡ None) }
     ensures list { result ≡ 5 → HasKind fault.new.kind (assignments_of list.now) }
+    ensures number { result ≡ 5 → fault.new.number ≡ 0 }
+    ensures closed { (result ≡ 0) ⊎ (result ≡ 2) ⊎ (result ≡ 3) ⊎ (result ≡ 5) }
+    ensures untold { result ≢ 5 → fault.new ≡ fault.old }
 {
-    match handle.take(alloc) {
+    match search.take(alloc) {
         Some(mut searcher) => {
             let added = searcher.add(alloc, path, list);
-            handle.put(searcher);
+            search.put(searcher);
             match added {
                 Ok(()) => 0,
                 Err(error) => refuse(0, &error, fault),
@@ -138,10 +146,10 @@ pub extern "C" fn ps_search_assign(
 
 /// Frees what a handle holds, and leaves it empty.
 #[unsafe(no_mangle)]
-pub extern "C" fn ps_search_free(alloc: Global, handle: &mut PsSearch)
-    ensures { handle.new.searcher ≡ None }
+pub extern "C" fn ps_search_free(alloc: Global, search: &mut PsSearch)
+    ensures { search.new.searcher ≡ None }
 {
-    drop(handle.take(alloc));
+    drop(search.take(alloc));
 }
 
 /// Keeps a search in an empty handle, or tells why there is none.
@@ -159,7 +167,8 @@ fn keep(
     ensures spec { (computed : Result (List Numbered) (ℕ × Fault))
         → Builds (λ search. search.specs) computed made
         → result ≡ 5 → TellsFirst fault.new (λ first. computed ≡ Err first) }
-    ensures known { result ≢ 4 }
+    ensures closed { (result ≡ 0) ⊎ (result ≡ 3) ⊎ (result ≡ 5) }
+    ensures untold { result ≢ 5 → fault.new ≡ fault.old }
 {
     match made {
         Ok(search) => match Searcher::new(alloc, search) {
@@ -178,7 +187,9 @@ fn keep(
 fn refuse(number: usize, error: &Error, fault: &mut PsFault) -> u32
     ensures report { IfSome (fault_of error.now) (λ first. (result ≡ 5)
         × (fault.new ≡ record { number = number; kind = fault_number first })) }
-    ensures memory { fault_of error.now ≡ None → result ≡ 3 }
+    ensures memory { fault_of error.now ≡ None → (result ≡ 3) × (fault.new ≡ fault.old) }
+    ensures closed { (result ≡ 3) ⊎ (result ≡ 5) }
+    ensures untold { result ≢ 5 → fault.new ≡ fault.old }
 {
     match error {
         Error::Memory => 3,

@@ -18,23 +18,23 @@ use std::alloc::Global;
 #[unsafe(no_mangle)]
 pub extern "C" fn ps_search_common_prefix(
     alloc: Global,
-    handle: &mut PsSearch,
+    search: &mut PsSearch,
     room: &mut [u8],
     length: &mut usize,
 ) -> u32
-    ensures stays { handle.new.searcher ≡ handle.old.searcher }
+    ensures stays { search.new.searcher ≡ search.old.searcher }
     ensures status { result
-        ≡ handle_status (λ specs. Some (common_prefix specs)) handle.old.searcher }
+        ≡ handle_status (λ specs. Some (common_prefix specs)) search.old.searcher }
     ensures copied { room.new
-        ≡ text_copied (text_in (λ specs. Some (common_prefix specs)) handle.old.searcher) room.old }
+        ≡ text_copied (text_in (λ specs. Some (common_prefix specs)) search.old.searcher) room.old }
     ensures length { length.new
-        ≡ text_length (text_in (λ specs. Some (common_prefix specs)) handle.old.searcher) }
+        ≡ text_length (text_in (λ specs. Some (common_prefix specs)) search.old.searcher) }
 {
-    let Some(searcher) = handle.take(alloc) else {
+    let Some(searcher) = search.take(alloc) else {
         return tell_nothing(length);
     };
     let status = tell(Some(searcher.search().common_prefix()), room, length);
-    handle.put(searcher);
+    search.put(searcher);
     status
 }
 
@@ -42,45 +42,46 @@ pub extern "C" fn ps_search_common_prefix(
 #[unsafe(no_mangle)]
 pub extern "C" fn ps_search_longest_common_directory(
     alloc: Global,
-    handle: &mut PsSearch,
+    search: &mut PsSearch,
     room: &mut [u8],
     length: &mut usize,
 ) -> u32
-    ensures stays { handle.new.searcher ≡ handle.old.searcher }
-    ensures status { result ≡ handle_status common_directory handle.old.searcher }
+    ensures stays { search.new.searcher ≡ search.old.searcher }
+    ensures status { result ≡ handle_status common_directory search.old.searcher }
     ensures copied { room.new
-        ≡ text_copied (text_in common_directory handle.old.searcher) room.old }
-    ensures length { length.new ≡ text_length (text_in common_directory handle.old.searcher) }
+        ≡ text_copied (text_in common_directory search.old.searcher) room.old }
+    ensures length { length.new ≡ text_length (text_in common_directory search.old.searcher) }
 {
-    let Some(searcher) = handle.take(alloc) else {
+    let Some(searcher) = search.take(alloc) else {
         return tell_nothing(length);
     };
     let status = tell(searcher.search().longest_common_directory(), room, length);
-    handle.put(searcher);
+    search.put(searcher);
     status
 }
 
-/// The directory of the prefix that the first spec has kept. It is the empty text where it has kept none of it.
+/// The directory of the prefix that the first include has kept. It is the empty text where it has kept none of it, and where
+/// there is no include.
 #[unsafe(no_mangle)]
 pub extern "C" fn ps_search_prefix_directory(
     alloc: Global,
-    handle: &mut PsSearch,
+    search: &mut PsSearch,
     room: &mut [u8],
     length: &mut usize,
 ) -> u32
-    ensures stays { handle.new.searcher ≡ handle.old.searcher }
+    ensures stays { search.new.searcher ≡ search.old.searcher }
     ensures status { result
-        ≡ handle_status (λ specs. Some (first_prefix_directory specs)) handle.old.searcher }
+        ≡ handle_status (λ specs. Some (first_prefix_directory specs)) search.old.searcher }
     ensures copied { room.new ≡ text_copied
-        (text_in (λ specs. Some (first_prefix_directory specs)) handle.old.searcher) room.old }
+        (text_in (λ specs. Some (first_prefix_directory specs)) search.old.searcher) room.old }
     ensures length { length.new ≡ text_length
-        (text_in (λ specs. Some (first_prefix_directory specs)) handle.old.searcher) }
+        (text_in (λ specs. Some (first_prefix_directory specs)) search.old.searcher) }
 {
-    let Some(searcher) = handle.take(alloc) else {
+    let Some(searcher) = search.take(alloc) else {
         return tell_nothing(length);
     };
     let status = tell(Some(searcher.search().prefix_directory()), room, length);
-    handle.put(searcher);
+    search.put(searcher);
     status
 }
 
@@ -99,9 +100,9 @@ pub extern "C" fn ps_fault_name(kind: u32, room: &mut [u8], length: &mut usize) 
 /// The number of what is declared in `pathspec.h`. It grows where a declaration changes.
 #[unsafe(no_mangle)]
 pub extern "C" fn ps_version() -> u32
-    ensures { result ≡ 1 }
+    ensures { result ≡ 2 }
 {
-    1
+    2
 }
 
 /// The name of the fault with this number.

@@ -3,7 +3,7 @@ use gix_pathspec::Search;
 use pathspec_parts::tree::Walk as _;
 use pathspec_select::index::{IndexError, IndexPlace, IndexWalk, SortedPaths, chosen_paths};
 use pathspec_select::listing::read;
-use pathspec_select::select;
+use pathspec_select::{SelectError, select};
 use pathspec_test_support::look_ups::Marks;
 use pathspec_test_support::searches::search_of_line;
 use pathspec_test_support::support::{Row, are_same, assert_each};
@@ -220,6 +220,49 @@ fn paths_that_are_no_index_are_refused(rt: HostRuntime) -> Result<(), Fail> {
         Refused(&["a/b", "a.b"], IndexError::NotGreater(1)),
         Refused(&["b", "a/"], IndexError::BadPath(1)),
     ];
+    assert_each(rt.alloc(), ROWS)
+}
+
+/// An error, and its text.
+struct Told(IndexError, &'static str);
+
+impl Row for Told {
+    fn holds(&self, alloc: Global) -> Result<bool, Fail> {
+        Ok(self.0.to_string(alloc)?.as_str() == self.1)
+    }
+}
+
+#[test]
+#[rattlefmt::skip]
+fn refusals_name_the_path(rt: HostRuntime) -> Result<(), Fail> {
+    const ROWS: &[Told] = &[
+        Told(IndexError::BadPath(12), "path 12 is empty, has a slash at an end or two in a row"),
+        Told(IndexError::NotGreater(34), "path 34 isn't greater than the one before it"),
+    ];
+    assert_each(rt.alloc(), ROWS)
+}
+
+/// How many questions a look-up answers before one fails, where the paths are `a` and `x`, and whether it then fails.
+struct Faulty(u64, bool);
+
+impl Row for Faulty {
+    fn holds(&self, alloc: Global) -> Result<bool, Fail> {
+        let search = search_of_line(alloc, ":(attr:gen)*", "")?;
+        let paths = bytes_of(alloc, &["a", "x"])?;
+        let mut marks = Marks::failing_after(self.0);
+        Ok(
+            match chosen_paths(alloc, &SortedPaths::new(&paths)?, &search, &mut marks) {
+                Ok(numbers) => !self.1 && are_same(&numbers, &[1]),
+                Err(SelectError::LookUp(AllocError)) => self.1 && marks.failed == 1,
+                Err(SelectError::Memory) => false,
+            },
+        )
+    }
+}
+
+#[test]
+fn a_fault_of_the_look_up_is_told_as_its_own(rt: HostRuntime) -> Result<(), Fail> {
+    const ROWS: &[Faulty] = &[Faulty(0, true), Faulty(1, true), Faulty(2, false)];
     assert_each(rt.alloc(), ROWS)
 }
 

@@ -141,6 +141,21 @@ fn scratches_that_are_used_in_turn_answer_alike(rt: HostRuntime) -> Result<(), F
     Ok(())
 }
 
+#[test]
+fn a_scratch_shows_what_its_last_match_looked_at(rt: HostRuntime) -> Result<(), Fail> {
+    let search = search_of(rt.alloc(), &["b", "c/d", "c/e"], "")?;
+    let mut scratch = scratch_of(rt.alloc(), &search)?;
+    assert!(rt; answers(&search, &mut scratch, &Asked("c/f", None, 0))?);
+    let (tested, compared) = (scratch.last_tested(), scratch.last_compared());
+    assert!(rt; tested as u128 != compared);
+    let shown = format!(in rt.alloc(); "{:?}", *scratch)?;
+    let wanted = format!(in rt.alloc();
+        "Scratch {{ last_tested: {tested}, last_compared: {compared} }}"
+    )?;
+    assert!(rt; shown.as_str() == wanted.as_str());
+    Ok(())
+}
+
 /// The words of the parts of a tree.
 const PARTS: &[&[&str]] = &[
     &["a/", "x", "t.c", "b/", "y", "..", ".."],
