@@ -6,6 +6,7 @@ mod WordRows
 pub mod InputProofs
 mod InputRows
 pub mod RowProofs
+pub mod RowNumberProofs
 pub mod EnvironmentProofs
 pub mod VariableProofs
 pub mod RequestProofs
@@ -25,6 +26,7 @@ pub mod SpanProofs
 pub mod SpanGrowProofs
 pub mod SpanCloseProofs
 pub mod OutlineProofs
+pub mod TreeCopyProofs
 pub mod OpenProofs
 pub mod AddingProofs
 pub mod FileProofs

@@ -20,6 +20,7 @@ pub mod OptionWords
 pub mod Environment
 pub mod Variables
 pub mod Rows
+pub mod RowNumbers
 pub mod Requests
 pub mod JobForms
 pub mod Refusals
@@ -32,4 +33,5 @@ pub mod Spans
 pub mod PackedSpans
 pub mod SpanLayout
 pub mod Outlines
+pub mod TreeCopies
 pub mod Index

@@ -1,6 +1,7 @@
 //! Listings of paths: records that a separator ends.
 
 mod contents;
+mod copy;
 mod entries;
 mod names;
 mod outline;

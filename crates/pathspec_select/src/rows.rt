@@ -9,6 +9,7 @@ ghost use Rattle.pathspec_select.specs.Options.{Options as OptionsView, with_set
 ghost use Rattle.pathspec_select.specs.Options.Setting.{HasList};
 ghost use Rattle.pathspec_select.specs.OptionWords.{setting_view};
 ghost use Rattle.pathspec_select.specs.Rows.{RowsContents, list_result, rows_of_options, rows_of_words, ComputesRows};
+ghost use Rattle.pathspec_select.specs.RowNumbers.{numbers_at, AreRowNumbers, HaveRowNumbers, AddsNumber, KeepsNumbers};
 
 use crate::Refusal;
 use crate::options::{self, Setting, Words};
@@ -16,15 +17,19 @@ use bstr::BStr;
 use gix_pathspec::{Error, parse};
 use pathspec_parts::attributes::{Assignment, Case, LookUp, Outcome};
 use std::alloc::{AllocError, Global};
+use std::collections::BTreeMap;
 use std::marker::Model;
 
 /// Rows of a path and the attributes that are assigned to it. As a look-up they answer every question: each row whose
 /// path is the question's sets its assignments, in the order of the rows.
 ///
-/// A question is compared with the path of each row.
+/// A [`BTreeMap`] finds the rows of a path. So the number of paths that a question is compared with grows as the logarithm of
+/// the number of rows, and so does that of a row that is added. A path is kept with each of its rows, and once more.
 #[derive(Debug, Drop)]
 pub struct Rows {
     rows: Vec<(Vec<u8>, Vec<Assignment>)>,
+    /// The numbers of the rows of each path, rising.
+    numbers: BTreeMap<Vec<u8>, Vec<usize>>,
     failed: u64,
 }
 
@@ -32,6 +37,8 @@ impl Model for Rows {
     ghost Value = { RowsContents };
 
     ghost view = { λ r. record { rows = rows_of r.rows.items; failures = r.failed } };
+
+    ghost invariant = { λ r. HaveRowNumbers (rows_of r.rows.items) r.numbers };
 }
 
 impl Rows {
@@ -41,6 +48,7 @@ impl Rows {
     {
         Rows {
             rows: Vec::new(alloc),
+            numbers: BTreeMap::new(alloc),
             failed: 0,
         }
     }
@@ -55,8 +63,11 @@ impl Rows {
         ensures err { OnErr result (self.new ≡ self.old) }
         ensures failures { self.new.failures ≡ self.old.failures }
     {
-        let path = Vec::from_slice(*self.rows.allocator(), path)?;
-        self.rows.push((path, assignments))?;
+        let alloc = *self.rows.allocator();
+        let row = (Vec::from_slice(alloc, path)?, assignments);
+        self.rows.reserve(1)?;
+        add_number(alloc, &mut self.numbers, path, self.rows.len())?;
+        self.rows.push(row)?;
         Ok(())
     }
 }
@@ -75,7 +86,8 @@ impl LookUp for Rows {
         _is_dir: bool,
         out: &mut Outcome,
     ) -> Result<bool, AllocError> {
-        match apply_rows(&self.rows, path.as_bytes(), out) {
+        let numbers = numbers_of(&self.numbers, path.as_bytes());
+        match apply_rows(&self.rows, numbers, path.as_bytes(), out) {
             Ok(()) => Ok(true),
             Err(refused) => {
                 self.failed = self.failed.saturating_add(1);
@@ -85,19 +97,52 @@ impl LookUp for Rows {
     }
 }
 
-/// Applies each row of this path.
+/// Puts a number after the others of a path.
+///
+/// # Errors
+/// Memory runs out. Each path then has the numbers that it had.
+fn add_number(
+    alloc: Global,
+    numbers: &mut BTreeMap<Vec<u8>, Vec<usize>>,
+    path: &[u8],
+    number: usize,
+) -> Result<(), AllocError>
+    ensures ok { OnOk result (AddsNumber numbers.old numbers.new path.now number) }
+    ensures err { OnErr result (KeepsNumbers numbers.old numbers.new) }
+{
+    if let Some(own) = numbers.get_mut(path) {
+        own.push(number)?;
+        return Ok(());
+    }
+    let mut own = Vec::new(alloc);
+    own.push(number)?;
+    numbers.insert(Vec::from_slice(alloc, path)?, own)?;
+    Ok(())
+}
+
+/// The numbers of a path.
+fn numbers_of<'a>(numbers: &'a BTreeMap<Vec<u8>, Vec<usize>>, path: &[u8]) -> &'a [usize]
+    ensures { result.now ≡ numbers_at numbers.now path.now }
+{
+    match numbers.get(path) {
+        Some(own) => own.as_slice(),
+        None => &[],
+    }
+}
+
+/// Applies the rows of a path, which have these numbers.
 fn apply_rows(
     rows: &[(Vec<u8>, Vec<Assignment>)],
+    numbers: &[usize],
     path: &[u8],
     out: &mut Outcome,
 ) -> Result<(), AllocError>
+    requires { AreRowNumbers (rows_of rows.now) path.now numbers.now }
     ensures ok { OnOk result (out.new ≡ apply_rows path.now out.old (rows_of rows.now)) }
     ensures names { names_of out.new ≡ names_of out.old }
 {
-    for row in rows {
-        if row.0.as_slice() == path {
-            apply(&row.1, out)?;
-        }
+    for number in numbers {
+        apply(&rows[*number].1, out)?;
     }
     Ok(())
 }

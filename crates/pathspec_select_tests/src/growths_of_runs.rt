@@ -151,7 +151,7 @@ fn a_walk_over_paths_takes_no_memory(rt: HostRuntime) -> Result<(), Fail> {
     assert_calls(rt.alloc(), CALLS)
 }
 
-/// The calls that read a listing and make a walk over it, which has so many entries.
+/// The calls that read a listing, make a walk over it and copy it as a tree, which has so many entries.
 struct ReadListing(&'static [u8], usize);
 
 impl Making for ReadListing {
@@ -167,8 +167,11 @@ impl Making for ReadListing {
 
     fn make(&self, alloc: Global, _: ()) -> Result<usize, ListingError> {
         let listing = listing::read(alloc, self.0, b'\n')?;
-        match listing.cursor(alloc) {
-            Ok(_) => Ok(listing.len()),
+        if listing.cursor(alloc).is_err() {
+            return Err(ListingError::Memory);
+        }
+        match listing.tree(alloc) {
+            Ok(tree) => Ok(tree.len()),
             Err(AllocError) => Err(ListingError::Memory),
         }
     }

@@ -1,5 +1,5 @@
 //! Listings that are read as trees.
-use pathspec_parts::tree::Walk as _;
+use pathspec_parts::tree::{Cursor, Walk};
 use pathspec_select::listing::{Listing, ListingError, read};
 use pathspec_test_support::support::{Row, assert_each};
 use std::alloc::Global;
@@ -8,35 +8,41 @@ use std::test::Fail;
 /// An entry: its path, whether it is a directory, and the record that it is made from, "" for none.
 type Entry = (&'static str, bool, &'static str);
 
-/// A listing, its separator, and its entries in order, where every directory is entered.
+/// A listing, its separator, and its entries in order, where every directory is entered: by a walk over the listing, and by
+/// one over its tree.
 struct Entries(&'static str, u8, &'static [Entry]);
 
 impl Row for Entries {
     fn holds(&self, alloc: Global) -> Result<bool, Fail> {
         let listing = read(alloc, self.0.as_bytes(), self.1)?;
-        has_entries(alloc, &listing, self.2)
+        let is_walked = gives_entries(&mut listing.cursor(alloc)?, &listing, self.2);
+        let tree = listing.tree(alloc)?;
+        Ok(is_walked && gives_entries(&mut Cursor::new(alloc, &tree)?, &listing, self.2))
     }
 }
 
-/// Whether a listing has these entries, where every directory is entered.
-fn has_entries(alloc: Global, listing: &Listing<'_>, entries: &[Entry]) -> Result<bool, Fail> {
-    let mut cursor = listing.cursor(alloc)?;
+/// Whether a walk gives these entries of a listing, where every directory is entered.
+fn gives_entries<W: Walk<Place = usize>>(
+    walk: &mut W,
+    listing: &Listing<'_>,
+    entries: &[Entry],
+) -> bool {
     for entry in entries {
         let (path, is_dir, record) = entry;
-        let Some(number) = cursor.next() else {
-            return Ok(false);
+        let Some(number) = walk.next() else {
+            return false;
         };
-        let is_same = cursor.path().as_bytes() == path.as_bytes() && cursor.is_dir() == *is_dir;
-        cursor.enter();
+        let is_same = walk.path().as_bytes() == path.as_bytes() && walk.is_dir() == *is_dir;
+        walk.enter();
         let is_right = match listing.record(number) {
             Some(found) => is_same && found.as_bytes() == record.as_bytes(),
             None => is_same && record.is_empty(),
         };
         if !is_right {
-            return Ok(false);
+            return false;
         }
     }
-    Ok(cursor.next().is_none() && listing.record(entries.len()).is_none())
+    walk.next().is_none() && listing.record(entries.len()).is_none()
 }
 
 #[test]

@@ -511,6 +511,7 @@ fn no_write_is_made_again_and_none_flushed(rt: HostRuntime) -> Result<(), Fail> 
         Accepted("", LISTING, &[BROKEN], ALL, 1, b"", WRITE),
         Accepted("", LISTING, &[INTERRUPTED], ALL, 1, b"", WRITE),
         Accepted("", LISTING, &[Ok(2), BROKEN], ALL, 2, b"a\n", WRITE),
+        Accepted("", LISTING, &[Ok(1), Ok(1), BROKEN], ALL, 3, b"a\n", WRITE),
         Accepted("", LISTING, &[Ok(3), INTERRUPTED], ALL, 2, b"a\nb", WRITE),
         Accepted("", LISTING, &[Ok(3), TIMED_OUT], ALL, 2, b"a\nb", WRITE),
         Accepted("", LISTING, &[Ok(2), Ok(0)], ALL, 2, b"a\n", WRITE),

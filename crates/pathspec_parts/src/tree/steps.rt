@@ -94,8 +94,8 @@ impl<'a, E: Entries> Steps<'a, E> {
         })
     }
 
-    /// What the walk is over.
-    pub fn entries(&self) -> &'a E
+    /// What the walk is over. Only a cursor is lent it: whoever holds a walk gets to the entries by the walk alone.
+    pub(super) fn entries(&self) -> &'a E
         ensures { E.list result.now ≡ self.now.entries }
     {
         self.entries

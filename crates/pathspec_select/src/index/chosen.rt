@@ -3,6 +3,7 @@ ghost use Rattle.std.specs.Prelude.{◌≡◌, false, map, filter, IfOk};
 ghost use Rattle.gix_pathspec.specs.Matching.{is_chosen};
 ghost use Rattle.gix_pathspec.specs.Search.{specs_of};
 ghost use Rattle.pathspec_select.specs.Index.{is_whole, AreNumbersOf};
+ghost use Rattle.pathspec_select.specs.SelectAnswers.{CountsFailure};
 
 use crate::index::paths::{IndexPlace, SortedPaths};
 use crate::index::walk::IndexWalk;
@@ -25,9 +26,11 @@ pub fn chosen_paths<L: LookUp>(
     search: &Search,
     look_up: &mut L,
 ) -> Result<Vec<usize>, SelectError<L::Fault>>
-    ensures { IfOk result (λ numbers. AreNumbersOf
+    ensures numbers { IfOk result (λ numbers. AreNumbersOf
         (λ path. is_chosen (L.table look_up.old) (specs_of search.now.specs) path false)
         paths.now numbers.items) }
+    ensures table_stays { L.table look_up.new ≡ L.table look_up.old }
+    ensures counts { CountsFailure (L.failures look_up.old) (L.failures look_up.new) result }
 {
     // The proof reads here that the paths are an index.
     let _ = paths.len();

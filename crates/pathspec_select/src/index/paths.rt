@@ -209,8 +209,6 @@ impl<'a> SortedPaths<'a> {
     }
 
     /// The number of the first path after the entry of a place and, if that is a directory, after what lies in it.
-    ///
-    /// Of a directory with `n` paths below it, it compares some `2 * log2(n)` of them with its path.
     pub(super) fn path_after(&self, place: IndexPlace) -> usize
         requires { IsPlace self.now place }
         ensures { result ≡ path_after self.now place }
@@ -219,13 +217,13 @@ impl<'a> SortedPaths<'a> {
         if place.length == path.len() {
             return place.path + 1;
         }
+        // The paths below it are one run. By doubling steps, and then by halves, few of them are compared.
         let front = &path[..=place.length];
         let (low, high) = self.gallop(place.path, front);
         self.search(low, high, front)
     }
 
-    /// Two numbers of paths, by doubling steps: the first path begins with these bytes, and at the second is one that
-    /// doesn't, or the end.
+    /// Two numbers of paths: the first path begins with these bytes, and at the second is one that doesn't, or the end.
     fn gallop(&self, number: usize, front: &[u8]) -> (usize, usize)
         requires within { number < length self.now }
         requires begins { begins_with (path_at self.now number) front.now ≡ true }

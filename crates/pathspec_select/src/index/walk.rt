@@ -87,8 +87,8 @@ impl<'a> Walk for IndexWalk<'a> {
 
     ghost contents = { λ it. it };
 
-    /// Into a directory that was entered it goes by a search for the next slash. After one that wasn't, it compares
-    /// some `2 * log2(n)` of the `n` paths below it. No call takes memory.
+    /// Into a directory that was entered it goes by a search for the next slash, and from one that wasn't to the first path
+    /// behind those below it. No call takes memory.
     fn next(&mut self) -> Option<IndexPlace> {
         self.at = onward(self.paths, self.at, self.is_entered, self.is_new);
         self.is_entered = false;

@@ -10,7 +10,7 @@ ghost use Rattle.pathspec_select.specs.Outlines.{listing_of_outline};
 use crate::listing::entries::{RecordError, add_first};
 use crate::listing::outline::Outline;
 use bstr::BStr;
-use pathspec_parts::tree::{Entries as _, Steps};
+use pathspec_parts::tree::{Entries as _, Steps, Tree};
 use std::alloc::{AllocError, Global};
 use std::fmt;
 use std::marker::Model;
@@ -75,6 +75,19 @@ impl<'a> Listing<'a> {
         ensures { IfOk result (λ cursor. cursor ≡ new_cursor self.now.entries) }
     {
         Steps::new(alloc, &self.outline)
+    }
+
+    /// The entries as a tree, with their names, kinds and order: a copy that needs the listing's bytes no longer. The
+    /// directories that the last entry lies in, or is, are open in it.
+    ///
+    /// A walk over the listing itself, [`Listing::cursor`], needs no copy.
+    ///
+    /// # Errors
+    /// Memory runs out.
+    pub fn tree(&self, alloc: Global) -> Result<Tree, AllocError>
+        ensures { IfOk result (λ tree. tree.entries ≡ self.now.entries) }
+    {
+        self.outline.tree(alloc)
     }
 
     /// The record that an entry is made from, without its separator. A directory that is only implied has none, nor

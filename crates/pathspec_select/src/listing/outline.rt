@@ -1,5 +1,5 @@
 //! A tree that lies over the bytes of a listing: no name is copied.
-ghost use Rattle.std.specs.Prelude.{◌≡◌, ◌≤◌, ◌<◌, ◌+◌, ◌&&◌, ◌==◌, ◌∷◌, ◌++◌, [], length, is_ok, nat_lt, if◌then◌else◌, Some, None, IfSome, OnOk, OnErr};
+ghost use Rattle.std.specs.Prelude.{◌≡◌, ◌≤◌, ◌<◌, ◌+◌, ◌&&◌, ◌==◌, ◌∷◌, ◌++◌, [], length, is_ok, nat_lt, if◌then◌else◌, Some, None, IfSome, IfOk, OnOk, OnErr};
 ghost use Rattle.std.specs.List.{before_first};
 ghost use Rattle.std.specs.Option.{option_map};
 ghost use Rattle.bstr.specs.BStr.{bstr_bytes};
@@ -7,9 +7,10 @@ ghost use Rattle.pathspec_parts.specs.TreeLayout.{open_end};
 ghost use Rattle.pathspec_select.specs.Listing.{mark_at};
 ghost use Rattle.pathspec_select.specs.Outlines.{part, empty_outline, outline_after, outline_closed, is_dir_span, mark_of_span, LiesInRecord, LiesOpen, IsPiece, IsRecordPiece, bytes_of};
 
+use crate::listing::copy;
 use crate::listing::spans::{Span, Spans};
 use bstr::BStr;
-use pathspec_parts::tree::{Entries, EntryPaths};
+use pathspec_parts::tree::{Entries, EntryPaths, Tree};
 use std::alloc::{AllocError, Global};
 use std::marker::Model;
 
@@ -118,6 +119,18 @@ impl<'a> Outline<'a> {
         } else {
             None
         }
+    }
+
+    /// The entries as a tree, whose names are copied.
+    ///
+    /// # Errors
+    /// Memory runs out.
+    pub(super) fn tree(&self, alloc: Global) -> Result<Tree, AllocError>
+        ensures { IfOk result (λ tree. tree.entries ≡ self.now.tree.entries) }
+    {
+        // The proof reads here that calls of a tree make the entries.
+        let _ = self.spans.len();
+        copy::tree_of(alloc, self)
     }
 
     /// The bytes of a piece.

@@ -13,8 +13,8 @@ use Rattle.pathspec_select.proofs.IndexNameProofs.{index-nested}
 use Rattle.pathspec_select.proofs.ChosenPathProofs.{wholes-are}
 use Rattle.pathspec_select.proofs.index.chosen.chosen_paths.Goals as goal
 
-pub returns-in-Ok-files_among : goal.returns-in-Ok-files_among
-returns-in-Ok-files_among g c =
+pub returns-in-Ok-files_among-clause-numbers : goal.returns-in-Ok-files_among-clause-numbers
+returns-in-Ok-files_among-clause-numbers g c =
     let table = g.L.LookUp.table c.args.look_up.now in
     let specs = specs_of c.args.search.now.specs in
     let ps = c.args.paths.now in

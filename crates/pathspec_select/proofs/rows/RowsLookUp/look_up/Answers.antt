@@ -13,4 +13,4 @@ replied rows given path question_of places new applied same_path same_rows reset
 
 pub returns-in-Ok-clause-answer : goal.returns-in-Ok-clause-answer
 returns-in-Ok-clause-answer c = λ reset.
-    replied _ _ _ _ _ _ c.in-Ok.ensures.ok c.as_bytes.ensures (ap rows_of c.deref.ensures.value ∙ ap (λ (held : RowsContents). held.rows) c.self.view_is) reset
+    replied _ _ _ _ _ _ c.in-Ok.ensures.ok c.as_bytes-2.ensures (ap rows_of c.deref.ensures.value ∙ ap (λ (held : RowsContents). held.rows) c.self.view_is) reset
