@@ -68,9 +68,9 @@ impl Job {
     ///
     /// # Errors
     /// The first fault, in this order: [`Refusal::Usage`]; [`Refusal::Environment`]; [`Refusal::Spec`] of the first spec
-    /// that can't be read, and then of the first that has no normal form. [`Refusal::Memory`] comes at its place among
-    /// them: an unknown option, a missing argument, a prefix that isn't clean and specs beside `--specs-first` are told
-    /// before any memory is taken, and a LIST that can't be read after that of the lists before it.
+    /// that can't be read, and then of the first that has no normal form. [`Refusal::Memory`] has no place among them:
+    /// it may come for any of them. But an unknown option, a missing argument, a prefix that isn't clean and specs beside
+    /// `--specs-first` are told before any memory is taken.
     pub fn from_words(
         alloc: Global,
         words: &[String],

@@ -32,8 +32,8 @@ use std::io::{Read, Write};
 /// # Errors
 /// The first fault, in this order: [`Refusal::Usage`]; [`Refusal::Environment`]; [`Refusal::Spec`] of a word;
 /// [`Refusal::Read`]; [`Refusal::Specs`], and [`Refusal::Spec`] of a line of the input; [`Refusal::Line`];
-/// [`Refusal::Write`]. [`Refusal::Memory`] comes at its place among them. Nothing is written before a fault, but for a
-/// write's.
+/// [`Refusal::Write`]. [`Refusal::Memory`] has no place among them: it may come for any of them, but not for wrong options.
+/// Nothing is written before a fault, but for a write's.
 pub fn run<R: Read, W: Write>(
     alloc: Global,
     words: &[String],
@@ -72,7 +72,7 @@ pub fn run<R: Read, W: Write>(
 /// # Errors
 /// The first fault, in this order: [`Refusal::Read`]; [`Refusal::Specs`] and [`Refusal::Spec`], where the specs stand in the
 /// input; [`Refusal::Line`], whose number counts the records of the listing alone; [`Refusal::Write`]. [`Refusal::Memory`]
-/// comes at its place among them, and where the look-up fails. Nothing is written before a fault, but for a write's.
+/// may come for any of them, and where the look-up fails. Nothing is written before a fault, but for a write's.
 pub fn run_with<R: Read, W: Write, L: LookUp<Fault = AllocError>>(
     alloc: Global,
     job: &Job,
@@ -107,7 +107,7 @@ pub fn run_with<R: Read, W: Write, L: LookUp<Fault = AllocError>>(
 /// Writes the records of a listing that a search chooses, in their order, each with the separator after it.
 ///
 /// # Errors
-/// The first fault, in this order: [`Refusal::Line`]; [`Refusal::Write`]; and [`Refusal::Memory`] at its place.
+/// The first fault, in this order: [`Refusal::Line`]; [`Refusal::Write`]. [`Refusal::Memory`] may come for either.
 fn write_chosen<W: Write, L: LookUp<Fault = AllocError>>(
     alloc: Global,
     search: &Search,

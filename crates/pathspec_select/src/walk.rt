@@ -34,10 +34,10 @@ pub enum SelectError<F> {
 /// The cursor must be new. It is any walk ([`Walk`]), as a [`pathspec_parts::tree::Cursor`] over a tree, whose places are the
 /// numbers of entries. It is the only way to the entries, so its trail, [`Walk::entered`], tells what was looked into:
 /// exactly the directories that the walk came to and that it may not skip ([`Search::may_skip`]). Nothing that is chosen is
-/// lost by that. Where all includes are plain (no wildcard, no attributes, no prefix directory without case), each of them is
-/// one at or below which an include matches. Where all specs are plain, they are exactly those at or below which something is
-/// chosen, unless an include without case stands beside an exclude with case. All this holds for all specs that parse and
-/// normalise, every tree and every steady look-up.
+/// lost by that. If there are includes and all are plain (no wildcard, no attributes, no prefix directory without case), each of
+/// them is one at or below which an include matches. Where all specs are plain, they are exactly those at or below which
+/// something is chosen, unless an include without case stands beside an exclude with case. All this holds for all specs that
+/// parse and normalise, every tree and every steady look-up.
 ///
 /// The walk visits each entry that it comes to once ([`Search::visit`]): a directory costs no match where tables tell that
 /// nothing at or below it is chosen, as of `node_modules` under `:!node_modules`. What lies in a directory that isn't entered
@@ -54,13 +54,13 @@ pub fn select<W: Walk, L: LookUp>(
     look_up: &mut L,
 ) -> Result<Vec<W::Place>, SelectError<L::Fault>>
     requires { IsNew (W.contents cursor.old) }
-    // Exactly the chosen entries, by a walk that enters only directories which can hold one.
+    // Exactly the chosen entries, by a walk that enters only directories which it may not skip.
     ensures walk { let es = (W.contents cursor.old).entries in
         IfOk result (λ given. IsWalk (L.table look_up.old) (specs_of search.now.specs)
         es (map (W.number es) given.items) (W.contents cursor.new).entered) }
     // They are one list, that of the definition.
     ensures given { GivenIsOne (L.table look_up.old) (specs_of search.now.specs) }
-    // Exactly the directories that it came to and that can hold a chosen path.
+    // Exactly the directories that it came to and may not skip.
     ensures entered { let es = (W.contents cursor.old).entries in
         OnOk result (HasWalked (specs_of search.now.specs)
         es (length es) (W.contents cursor.new).entered) }
