@@ -25,7 +25,7 @@ impl Row for Entries {
 fn gives_entries<W: Walk<Place = usize>>(
     walk: &mut W,
     listing: &Listing<'_>,
-    entries: &[Entry],
+    entries: &[(&str, bool, &str)],
 ) -> bool {
     for entry in entries {
         let (path, is_dir, record) = entry;
