@@ -2,27 +2,23 @@
 #![tactic(auto)]
 
 #[cfg(test)]
+mod asked;
+#[cfg(test)]
+mod callers;
+#[cfg(test)]
+mod devices;
+#[cfg(test)]
 mod environments;
 #[cfg(test)]
 mod growths_of_runs;
 #[cfg(test)]
-mod hostile;
-#[cfg(test)]
-mod indexes;
-#[cfg(test)]
 mod jobs;
-#[cfg(test)]
-mod lines;
 #[cfg(test)]
 mod listings;
 #[cfg(test)]
 mod program;
 #[cfg(test)]
 mod readme;
-#[cfg(test)]
-mod skipping_by_rule;
-#[cfg(test)]
-mod skipping_walks;
 #[cfg(test)]
 mod specs_first;
 #[cfg(test)]

@@ -4,7 +4,6 @@ use gix_pathspec::attributes::NoAttributes;
 use gix_pathspec::{BuildError, Defaults, Pattern, Search, search};
 use pathspec_parts::attributes::Case;
 use pathspec_parts::glob::{Glob, Mode, Scratch};
-use pathspec_test_support::support::{Row, assert_each};
 use std::alloc::Global;
 use std::test::Fail;
 
@@ -25,25 +24,14 @@ fn selects(search: &Search, scratch: &mut search::Scratch, path: &str) -> (bool,
     (answer == Ok(true), skips)
 }
 
-/// A path, and whether the specs of the README's program select it.
-struct Named(&'static str, bool);
-
-impl Row for Named {
-    fn holds(&self, alloc: Global) -> Result<bool, Fail> {
-        let search = Box::new(alloc, build(alloc, b"src/*.rs\n:!src/gen\n")?)?;
-        let mut scratch = search.new_scratch(alloc)?;
-        Ok(selects(&search, &mut scratch, self.0) == (self.1, true))
-    }
-}
-
 #[test]
 fn the_program_of_the_readme_selects(rt: HostRuntime) -> Result<(), Fail> {
-    const ROWS: &[Named] = &[
-        Named("src/lib.rs", true),
-        Named("src/gen/table.rs", false),
-        Named("docs/guide.md", false),
-    ];
-    assert_each(rt.alloc(), ROWS)
+    let search = Box::new(rt.alloc(), build(rt.alloc(), b"src/*.rs\n:!src/gen\n")?)?;
+    let mut scratch = Box::new(rt.alloc(), search.new_scratch(rt.alloc())?)?;
+    for (path, want) in [("src/lib.rs", true), ("src/gen/table.rs", false), ("docs/guide.md", false)] {
+        assert!(rt; selects(&search, &mut scratch, path) == (want, true), "{path}");
+    }
+    Ok(())
 }
 
 #[test]

@@ -2,10 +2,6 @@
 //!
 //! A test can't have `malloc` refuse a growth. `bench/growths` runs these tests with one that takes some sizes for commands.
 //! Elsewhere it refuses none, and each call is made once.
-use gix_pathspec::{BuildError, Error};
-use pathspec_parts::tree::TreeError;
-use pathspec_select::Refusal;
-use pathspec_select::listing::ListingError;
 use std::alloc::{AllocError, Global};
 use std::test::Fail;
 
@@ -26,48 +22,6 @@ pub fn refuse(alloc: Global, number: usize) {
     let _: Result<Vec<u8>, AllocError> = Vec::with_capacity(alloc, COMMAND | number);
 }
 
-/// A fault that may say that memory ran out.
-pub trait Memory {
-    /// Whether it says so.
-    fn is_memory(&self) -> bool;
-}
-
-impl Memory for AllocError {
-    fn is_memory(&self) -> bool {
-        true
-    }
-}
-
-impl Memory for Error {
-    fn is_memory(&self) -> bool {
-        matches!(self, Error::Memory)
-    }
-}
-
-impl Memory for BuildError {
-    fn is_memory(&self) -> bool {
-        matches!(self, BuildError::Memory)
-    }
-}
-
-impl Memory for TreeError {
-    fn is_memory(&self) -> bool {
-        matches!(self, TreeError::Memory)
-    }
-}
-
-impl Memory for ListingError {
-    fn is_memory(&self) -> bool {
-        matches!(self, ListingError::Memory)
-    }
-}
-
-impl Memory for Refusal {
-    fn is_memory(&self) -> bool {
-        matches!(self, Refusal::Memory)
-    }
-}
-
 /// How a call ended while one of its growths was refused.
 #[derive(Clone, Copy, PartialEq, Eq)]
 pub enum Ended {
@@ -81,19 +35,19 @@ pub enum Ended {
 
 impl Ended {
     /// This end where all is right, and else a wrong one.
-    pub fn if_right(self, is_right: bool) -> Ended {
+    fn if_right(self, is_right: bool) -> Ended {
         if is_right { self } else { Ended::Wrong }
     }
 }
 
-/// A call that takes memory.
-pub trait Call {
+/// A call that may be made while one of its growths is refused.
+pub trait Refusable {
     /// Makes the call while the growth with a number is refused.
     fn end(&self, alloc: Global, number: usize) -> Result<Ended, Fail>;
 }
 
 /// Whether a call ends rightly with its first growth refused, its second, and so on until none is.
-fn ends_rightly<C: Call>(alloc: Global, call: &C) -> Result<bool, Fail> {
+fn ends_rightly<C: Refusable>(alloc: Global, call: &C) -> Result<bool, Fail> {
     for number in 1..MOST {
         match call.end(alloc, number)? {
             Ended::Refused => {}
@@ -104,7 +58,7 @@ fn ends_rightly<C: Call>(alloc: Global, call: &C) -> Result<bool, Fail> {
 }
 
 /// Asserts that each call ends rightly, whichever of its growths is refused.
-pub fn assert_calls<C: Call>(alloc: Global, calls: &[C]) -> Result<(), Fail> {
+pub fn assert_calls<C: Refusable>(alloc: Global, calls: &[C]) -> Result<(), Fail> {
     for (number, call) in calls.iter().enumerate() {
         if !ends_rightly(alloc, call)? {
             return Err(Fail::new(format_args!("call {number}")));
@@ -113,55 +67,66 @@ pub fn assert_calls<C: Call>(alloc: Global, calls: &[C]) -> Result<(), Fail> {
     Ok(())
 }
 
-/// A call that makes a value.
-pub trait Making {
-    type Given;
+/// A call on something that stays as it is, for the call that is made again after a refusal.
+pub trait Call {
+    type Given: Drop;
 
-    type Value: Drop;
-
-    type Fault: Memory + Drop;
-
-    /// What the call is given.
+    /// What the call is made on.
     fn given(&self, alloc: Global) -> Result<Self::Given, Fail>;
 
-    fn make(&self, alloc: Global, given: Self::Given) -> Result<Self::Value, Self::Fault>;
-
-    /// Whether two values are the same.
-    fn is_same(&self, value: &Self::Value, other: &Self::Value) -> bool;
+    /// Whether the call answers what it has to; or memory ran out.
+    fn make(&self, alloc: Global, given: &mut Self::Given) -> Result<bool, AllocError>;
 }
 
-/// The value that a call makes with memory.
-fn made<M: Making>(alloc: Global, making: &M) -> Result<M::Value, Fail> {
-    let given = making.given(alloc)?;
-    match making.make(alloc, given) {
-        Ok(value) => Ok(value),
-        Err(_) => Err("a call is refused that has memory".into()),
+/// That call.
+#[derive(Clone, Copy)]
+pub struct Calls<C>(pub C);
+
+impl<C: Call> Refusable for Calls<C> {
+    fn end(&self, alloc: Global, number: usize) -> Result<Ended, Fail> {
+        end_of_call(alloc, number, &self.0)
     }
 }
 
-/// The call that makes this.
+/// How a call ends, which is made again where memory ran out.
+fn end_of_call<C: Call>(alloc: Global, number: usize, call: &C) -> Result<Ended, Fail> {
+    let mut given = call.given(alloc)?;
+    refuse(alloc, number);
+    let answer = call.make(alloc, &mut given);
+    refuse(alloc, NONE);
+    Ok(match answer {
+        Ok(is_right) => Ended::Answered.if_right(is_right),
+        Err(AllocError) => {
+            let again = call.make(alloc, &mut given);
+            Ended::Refused.if_right(again == Ok(true))
+        }
+    })
+}
+
+/// A call that makes a value.
+pub trait Making {
+    /// Whether the call makes what it has to; or memory ran out.
+    fn make(&self, alloc: Global) -> Result<bool, AllocError>;
+}
+
+/// That call.
 #[derive(Clone, Copy)]
 pub struct Makes<M>(pub M);
 
-impl<M: Making> Call for Makes<M> {
+impl<M: Making> Refusable for Makes<M> {
     fn end(&self, alloc: Global, number: usize) -> Result<Ended, Fail> {
-        end_of_making(alloc, number, &self.0)
+        Ok(end_of_making(alloc, number, &self.0))
     }
 }
 
-/// How a call ends that makes a value.
-fn end_of_making<M: Making>(alloc: Global, number: usize, making: &M) -> Result<Ended, Fail> {
-    let want = made(alloc, making)?;
-    let given = making.given(alloc)?;
+/// How a call ends that makes a value, which is made again where memory ran out.
+fn end_of_making<M: Making>(alloc: Global, number: usize, making: &M) -> Ended {
     refuse(alloc, number);
-    let answer = making.make(alloc, given);
+    let answer = making.make(alloc);
     refuse(alloc, NONE);
     match answer {
-        Ok(value) => Ok(Ended::Answered.if_right(making.is_same(&value, &want))),
-        Err(fault) => {
-            let again = made(alloc, making)?;
-            Ok(Ended::Refused.if_right(fault.is_memory() && making.is_same(&again, &want)))
-        }
+        Ok(is_right) => Ended::Answered.if_right(is_right),
+        Err(AllocError) => Ended::Refused.if_right(making.make(alloc) == Ok(true)),
     }
 }
 
@@ -169,12 +134,11 @@ fn end_of_making<M: Making>(alloc: Global, number: usize, making: &M) -> Result<
 pub trait Changing {
     type Value: Drop;
 
-    type Fault: Memory + Drop;
-
     /// The value before the call.
     fn before(&self, alloc: Global) -> Result<Self::Value, Fail>;
 
-    fn change(&self, value: &mut Self::Value) -> Result<(), Self::Fault>;
+    /// Makes the call: whether it has no fault; or memory ran out.
+    fn change(&self, alloc: Global, value: &mut Self::Value) -> Result<bool, AllocError>;
 
     /// Whether two values are the same. The first may be asked, and stays as it is.
     fn is_same(
@@ -189,17 +153,9 @@ pub trait Changing {
 #[derive(Clone, Copy)]
 pub struct Changes<C>(pub C);
 
-impl<C: Changing> Call for Changes<C> {
+impl<C: Changing> Refusable for Changes<C> {
     fn end(&self, alloc: Global, number: usize) -> Result<Ended, Fail> {
         end_of_changing(alloc, number, &self.0)
-    }
-}
-
-/// What a change of a value answers: None, or whether it is refused since memory ran out.
-fn refused<C: Changing>(changing: &C, value: &mut C::Value) -> Option<bool> {
-    match changing.change(value) {
-        Ok(()) => None,
-        Err(fault) => Some(fault.is_memory()),
     }
 }
 
@@ -211,7 +167,7 @@ fn stands<C: Changing>(
     is_after: bool,
 ) -> Result<bool, Fail> {
     let mut other = changing.before(alloc)?;
-    if is_after && refused(changing, &mut other).is_some() {
+    if is_after && changing.change(alloc, &mut other) != Ok(true) {
         return Err("a call is refused that has memory".into());
     }
     changing.is_same(alloc, value, &other)
@@ -221,12 +177,13 @@ fn stands<C: Changing>(
 fn end_of_changing<C: Changing>(alloc: Global, number: usize, changing: &C) -> Result<Ended, Fail> {
     let mut value = changing.before(alloc)?;
     refuse(alloc, number);
-    let refusal = refused(changing, &mut value);
+    let answer = changing.change(alloc, &mut value);
     refuse(alloc, NONE);
-    let Some(is_memory) = refusal else {
-        return Ok(Ended::Answered.if_right(stands(alloc, changing, &mut value, true)?));
-    };
-    let stays = is_memory && stands(alloc, changing, &mut value, false)?;
-    let goes = refused(changing, &mut value).is_none();
+    if let Ok(is_right) = answer {
+        let is_changed = stands(alloc, changing, &mut value, true)?;
+        return Ok(Ended::Answered.if_right(is_right && is_changed));
+    }
+    let stays = stands(alloc, changing, &mut value, false)?;
+    let goes = changing.change(alloc, &mut value) == Ok(true);
     Ok(Ended::Refused.if_right(stays && goes && stands(alloc, changing, &mut value, true)?))
 }

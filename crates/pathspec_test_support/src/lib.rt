@@ -1,8 +1,7 @@
-//! What the crates of tests share: tables of rows, searches of texts, look-ups, trees, and calls with each growth refused.
+//! What all crates of tests share: values in rising order, look-ups, trees, and calls with each growth refused.
 #![tactic(auto)]
 
 pub mod growths;
 pub mod look_ups;
-pub mod searches;
-pub mod support;
+pub mod orders;
 pub mod trees;

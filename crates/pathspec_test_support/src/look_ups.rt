@@ -5,7 +5,7 @@ ghost use Rattle.pathspec_parts.specs.Attributes.State.{Set};
 ghost use Rattle.pathspec_parts.specs.Outcomes.{names_of, states_of, unspecified, set_state};
 
 use bstr::BStr;
-use pathspec_parts::attributes::{Case, LookUp, Outcome, StateRef};
+use pathspec_parts::attributes::{Assignment, Case, LookUp, Name, Outcome, StateRef};
 use std::alloc::{AllocError, Global};
 
 /// A look-up that answers, says nothing of any name, and writes down each path that it is asked about.
@@ -130,6 +130,18 @@ fn mark(path: &[u8], out: &mut Outcome) -> Result<(), AllocError>
         out.set(b"gen", StateRef::Set)?;
     }
     Ok(())
+}
+
+/// The list of these states by their names.
+pub fn listed(alloc: Global, states: &[(&str, StateRef<'_>)]) -> Result<Vec<Assignment>, AllocError> {
+    let mut listed = Vec::new(alloc);
+    for (name, state) in states {
+        if let Some(name) = Name::from_bytes(alloc, name.as_bytes())? {
+            let state = state.to_state(alloc)?;
+            listed.push(Assignment { name, state })?;
+        }
+    }
+    Ok(listed)
 }
 
 /// Asks a look-up through its bound.

@@ -1,11 +1,7 @@
 //! Trees that are made by words.
-use crate::look_ups::Marks;
-use gix_pathspec::Search;
 use pathspec_parts::path;
-use pathspec_parts::tree::{Cursor, Tree, TreeError};
-use pathspec_select::select;
+use pathspec_parts::tree::{Tree, TreeError};
 use std::alloc::Global;
-use std::test::Fail;
 
 /// A word with a slash at its end opens a directory, `..` closes the open one, and any other is a file.
 pub fn add(tree: &mut Tree, word: &str) -> Result<(), TreeError> {
@@ -27,10 +23,4 @@ pub fn tree_of(alloc: Global, words: &[&str]) -> Result<Tree, TreeError> {
         add(&mut tree, word)?;
     }
     Ok(tree)
-}
-
-/// The numbers of the entries of a tree that a walk gives, by [`Marks`].
-pub fn given(alloc: Global, tree: &Tree, search: &Search) -> Result<Vec<usize>, Fail> {
-    let mut cursor = Cursor::new(alloc, tree)?;
-    Ok(select(alloc, &mut cursor, search, &mut Marks::new())?)
 }

@@ -1,0 +1,216 @@
+//! Scratches of searches that are shared: what matches in them answer and count, and which of them fit.
+use crate::searches::{Settled, scratch_of, settled_in};
+use bstr::BStr;
+use gix_pathspec::Search;
+use gix_pathspec::attributes::NoAttributes;
+use gix_pathspec::search::{MatchKind, Scratch};
+use pathspec_test_searches::{search_of, search_of_line};
+use pathspec_test_support::look_ups::Marks;
+use std::alloc::Global;
+use std::sync::Arc;
+use std::test::Fail;
+
+/// Specs with attributes, globs and excludes. The tests' look-up sets `gen` of the path `x`, and says nothing else.
+const TEXTS: &[&str] = &[
+    ":(attr:gen)x",
+    ":(exclude,attr:!gen)*.c",
+    ":(attr:!other)a",
+    ":(glob)**/y",
+    ":!a/b",
+    ":(exclude,attr:-gen)x",
+];
+
+/// A path, the number and the kind of the spec of [`TEXTS`] that settles it, and how many questions are asked for it.
+struct Asked(&'static str, Settled, u64);
+
+/// Excludes come first in search order, so that of `x` and what lies below it the last spec asks before the first does.
+const ASKED: &[Asked] = &[
+    Asked("x", Some((0, MatchKind::Verbatim)), 2),
+    Asked("x/z", None, 2),
+    Asked("a", Some((2, MatchKind::Verbatim)), 1),
+    Asked("a/t.c", Some((1, MatchKind::WildcardMatch)), 1),
+    Asked("a/x", Some((2, MatchKind::Prefix)), 1),
+    Asked("a/b/y", Some((4, MatchKind::Prefix)), 0),
+    Asked("c/d/y", Some((3, MatchKind::WildcardMatch)), 0),
+    Asked("q", None, 0),
+    Asked("", Some((0, MatchKind::Always)), 0),
+];
+
+/// Whether a match in a scratch answers what is wanted.
+fn answers(search: &Search, scratch: &mut Scratch, asked: &Asked) -> Result<bool, Fail> {
+    let mut marks = Marks::new();
+    let settled = settled_in(search, asked.0.as_bytes(), None, scratch, &mut marks)?;
+    Ok(settled == Some(asked.1) && marks.asked == asked.2)
+}
+
+/// Whether a look-up fails for a path after so many answers, and each match in the scratch then answers what is wanted.
+fn goes_on(search: &Search, scratch: &mut Scratch, path: &str, left: u64) -> Result<bool, Fail> {
+    let mut marks = Marks::failing_after(left);
+    let settled = settled_in(search, path.as_bytes(), None, scratch, &mut marks)?;
+    if settled.is_some() || marks.failed != 1 || scratch.last_tested() as u64 <= left {
+        return Ok(false);
+    }
+    for asked in ASKED {
+        if !answers(search, scratch, asked)? {
+            return Ok(false);
+        }
+    }
+    Ok(true)
+}
+
+/// Whether a match in a new scratch answers what is wanted.
+fn answers_anew(alloc: Global, search: &Search, asked: &Asked) -> Result<bool, Fail> {
+    answers(search, &mut *scratch_of(alloc, search)?, asked)
+}
+
+/// Whether the scratch goes on after each fault that the look-up may have for a path.
+fn goes_on_after_each(search: &Search, scratch: &mut Scratch, asked: &Asked) -> Result<bool, Fail> {
+    for left in 0..asked.2 {
+        if !goes_on(search, scratch, asked.0, left)? {
+            return Ok(false);
+        }
+    }
+    Ok(true)
+}
+
+#[test]
+fn a_fault_changes_no_later_answer_in_its_scratch(rt: HostRuntime) -> Result<(), Fail> {
+    let search = search_of(rt.alloc(), TEXTS, "")?;
+    let mut scratch = scratch_of(rt.alloc(), &search)?;
+    assert_goes_on(rt.alloc(), &search, &mut scratch)
+}
+
+/// Asserts of each path that a new scratch answers what is wanted, and that a scratch goes on after each fault.
+fn assert_goes_on(alloc: Global, search: &Search, scratch: &mut Scratch) -> Result<(), Fail> {
+    for asked in ASKED {
+        let is_answered = answers_anew(alloc, search, asked)?;
+        if !goes_on_after_each(search, scratch, asked)? || !is_answered {
+            return Err(Fail::new(format_args!("{}", asked.0)));
+        }
+    }
+    Ok(())
+}
+
+/// What a scratch counts.
+fn counts(scratch: &Scratch) -> (usize, u128, u128, u128) {
+    (
+        scratch.last_tested(),
+        scratch.last_compared(),
+        scratch.total_tested(),
+        scratch.total_compared(),
+    )
+}
+
+/// Whether a match in a scratch answers what is wanted, and leaves what another scratch counts.
+fn answers_beside(
+    search: &Search,
+    scratch: &mut Scratch,
+    other: &Scratch,
+    asked: &Asked,
+) -> Result<bool, Fail> {
+    let before = counts(other);
+    Ok(answers(search, scratch, asked)? && counts(other) == before)
+}
+
+/// Whether matches in two scratches answer what is wanted in turn. The second comes to each path from another one.
+fn answer_in_turn(
+    search: &Search,
+    first: &mut Scratch,
+    second: &mut Scratch,
+) -> Result<bool, Fail> {
+    for (asked, other) in ASKED.iter().zip(ASKED.iter().rev()) {
+        let is_answered = answers_beside(search, first, second, asked)?;
+        if !is_answered || !answers_beside(search, second, first, other)? {
+            return Ok(false);
+        }
+    }
+    Ok(search.total_tested() == 0 && search.total_compared() == 0)
+}
+
+#[test]
+fn scratches_that_are_used_in_turn_answer_alike(rt: HostRuntime) -> Result<(), Fail> {
+    let search = search_of(rt.alloc(), TEXTS, "")?;
+    let mut first = scratch_of(rt.alloc(), &search)?;
+    let mut second = scratch_of(rt.alloc(), &search)?;
+    assert!(rt; answer_in_turn(&search, &mut first, &mut second)?);
+    Ok(())
+}
+
+#[test]
+fn a_scratch_shows_what_its_last_match_looked_at(rt: HostRuntime) -> Result<(), Fail> {
+    let search = search_of(rt.alloc(), &["b", "c/d", "c/e"], "")?;
+    let mut scratch = scratch_of(rt.alloc(), &search)?;
+    assert!(rt; answers(&search, &mut scratch, &Asked("c/f", None, 0))?);
+    let (tested, compared) = (scratch.last_tested(), scratch.last_compared());
+    assert!(rt; tested as u128 != compared);
+    let shown = format!(in rt.alloc(); "{:?}", *scratch)?;
+    let wanted = format!(in rt.alloc();
+        "Scratch {{ last_tested: {tested}, last_compared: {compared} }}"
+    )?;
+    assert!(rt; shown.as_str() == wanted.as_str());
+    Ok(())
+}
+
+/// What threads may share by a reference, and hand to one another.
+fn may_be_shared<T: Send + Sync>(_: &T) -> bool {
+    true
+}
+
+#[test]
+fn threads_may_share_a_search_and_hand_on_scratches(rt: HostRuntime) -> Result<(), Fail> {
+    let search = search_of(rt.alloc(), TEXTS, "")?;
+    assert!(rt; may_be_shared(&scratch_of(rt.alloc(), &search)?));
+    assert!(rt; may_be_shared(&*search) && may_be_shared(&Arc::new(rt.alloc(), search)?));
+    Ok(())
+}
+
+/// Whether a scratch of a search fits another search and its copy, and their own fit both.
+fn fits(alloc: Global, texts: &[&str], others: &[&str]) -> Result<Option<bool>, Fail> {
+    let search = search_of(alloc, texts, "")?;
+    let copy = Box::new(alloc, search.try_clone()?)?;
+    let own = scratch_of(alloc, &search)?;
+    let of_copy = scratch_of(alloc, &copy)?;
+    let is_own = search.fits(&own) && search.fits(&of_copy) && copy.fits(&own);
+    let other = scratch_of(alloc, &*search_of(alloc, others, "")?)?;
+    let fits = search.fits(&other);
+    Ok(if is_own && copy.fits(&other) == fits { Some(fits) } else { None })
+}
+
+#[test]
+#[rattlefmt::skip]
+fn a_scratch_fits_what_wants_no_other_room(rt: HostRuntime) -> Result<(), Fail> {
+    const ROWS: &[(&[&str], &[&str], bool)] = &[
+        // Attributes are the same by their names and their places, whatever is wanted of them.
+        (&[":(attr:a)x"], &[":(attr:-a)y"], true),
+        (&[":(attr:a b)x"], &[":(attr:b a)x"], false),
+        // Specs stand in search order, excludes first.
+        (&[":(attr:a)x", "y"], &["y", ":(attr:a)x"], false),
+        (&[":(attr:a)x", ":!y"], &[":!y", ":(attr:a)x"], true),
+        // There are as many specs, and the largest glob is no shorter.
+        (&["x", "y"], &["x"], false),
+        (&["a*b"], &["a*bc"], true),
+        (&["a*bcd", "e*"], &["e*", "a*bc"], false),
+    ];
+    for (texts, others, want) in ROWS {
+        assert!(rt; fits(rt.alloc(), texts, others)? == Some(*want), "{texts:?}");
+    }
+    Ok(())
+}
+
+/// What settles a file where no attributes are known, and whether it is selected.
+fn unknown(alloc: Global, line: &str, path: &[u8]) -> Result<(Option<Settled>, bool), Fail> {
+    let search = search_of_line(alloc, line, "")?;
+    let mut scratch = scratch_of(alloc, &search)?;
+    let file = Some(false);
+    let is_selected = search.is_selected(BStr::new(path), file, &mut scratch, &mut NoAttributes)?;
+    Ok((settled_in(&search, path, file, &mut scratch, &mut NoAttributes)?, is_selected))
+}
+
+#[test]
+fn no_attributes_match_no_spec_that_lists_some(rt: HostRuntime) -> Result<(), Fail> {
+    let found = unknown(rt.alloc(), ":(attr:!gen)x x", b"x")?;
+    assert!(rt; found == (Some(Some((1, MatchKind::Verbatim))), true));
+    let found = unknown(rt.alloc(), ":!a", b"a/b")?;
+    assert!(rt; found == (Some(Some((0, MatchKind::Prefix))), false));
+    Ok(())
+}

@@ -1,0 +1,184 @@
+//! Searches that several tables of tests ask, and what settles a path in them.
+ghost use Rattle.std.specs.Prelude.{IfOk};
+ghost use Rattle.std.specs.Box.{box_value};
+ghost use Rattle.gix_pathspec.specs.Room.{Fits};
+
+use bstr::{BStr, BString};
+use gix_pathspec::attributes::LookUp;
+use gix_pathspec::search::{MatchKind, Scratch, Visit};
+use gix_pathspec::{Defaults, Error, Pattern, Search};
+use pathspec_test_searches::{build_from, pattern_of, search_of};
+use pathspec_test_support::look_ups::Marks;
+use std::alloc::{AllocError, Global};
+use std::test::Fail;
+
+/// The number and the kind of a match, if there is one.
+pub(super) type Settled = Option<(usize, MatchKind)>;
+
+/// What settles a path.
+pub(super) fn settled(search: &mut Search, path: &[u8], is_dir: Option<bool>) -> Result<Settled, Fail> {
+    let path = BStr::new(path);
+    match search.pattern_matching_relative_path(path, is_dir, &mut Marks::new())? {
+        Some(found) => Ok(Some((found.sequence_number, found.kind))),
+        None => Ok(None),
+    }
+}
+
+/// What settles a path in a scratch, or None where the look-up fails. The totals of the scratch grow by what it tells.
+pub(super) fn settled_in<L: LookUp>(
+    search: &Search,
+    path: &[u8],
+    is_dir: Option<bool>,
+    scratch: &mut Scratch,
+    look_up: &mut L,
+) -> Result<Option<Settled>, Fail> {
+    if !search.fits(scratch) {
+        return Err("the scratch doesn't fit the search".into());
+    }
+    let (tested, compared) = (scratch.total_tested(), scratch.total_compared());
+    let found = match search.settle(BStr::new(path), is_dir, scratch, look_up) {
+        Ok(Some(found)) => Some(Some((found.sequence_number, found.kind))),
+        Ok(None) => Some(None),
+        Err(_) => None,
+    };
+    let tested = tested.wrapping_add(scratch.last_tested() as u128);
+    let compared = compared.wrapping_add(scratch.last_compared());
+    if scratch.total_tested() != tested || scratch.total_compared() != compared {
+        return Err("a total of the scratch doesn't tell of the match".into());
+    }
+    Ok(found)
+}
+
+/// A scratch of a search, boxed as the searches of the tests are.
+pub(super) fn scratch_of(alloc: Global, search: &Search) -> Result<Box<Scratch>, AllocError>
+    ensures { IfOk result (λ scratch. Fits search.now.specs (box_value scratch)) }
+{
+    Ok(Box::new(alloc, search.new_scratch(alloc)?)?)
+}
+
+/// What a walk does with a path, in a scratch of the search's, by marks that no path has.
+pub(super) fn visited(
+    search: &Search,
+    path: &[u8],
+    is_dir: bool,
+    scratch: &mut Scratch,
+) -> Result<Visit, Fail> {
+    if !search.fits(scratch) {
+        return Err("the scratch doesn't fit the search".into());
+    }
+    Ok(search.visit(BStr::new(path), is_dir, scratch, &mut Marks::new())?)
+}
+
+/// Whether a path is selected, in a scratch of the search's, by [`Marks`].
+pub(super) fn is_selected(
+    search: &Search,
+    path: &[u8],
+    is_dir: bool,
+    scratch: &mut Scratch,
+) -> Result<bool, Fail> {
+    if !search.fits(scratch) {
+        return Err("the scratch doesn't fit the search".into());
+    }
+    Ok(search.is_selected(BStr::new(path), Some(is_dir), scratch, &mut Marks::new())?)
+}
+
+/// Whether a walk may skip what lies below a directory, in a scratch of the search's.
+pub(super) fn may_skip(search: &Search, path: &[u8], scratch: &mut Scratch) -> Result<bool, Fail> {
+    if !search.fits(scratch) {
+        return Err("the scratch doesn't fit the search".into());
+    }
+    Ok(search.may_skip(BStr::new(path), scratch))
+}
+
+/// Whether a pattern has this long text.
+pub(super) fn is_written(pattern: &Pattern, text: &str) -> Result<bool, Error> {
+    Ok(pattern.to_bstring()?.as_bytes() == text.as_bytes())
+}
+
+/// The search of these patterns, given in this directory of a repository at `/r`.
+pub(super) fn search_from(
+    alloc: Global,
+    patterns: Vec<Pattern>,
+    prefix: &str,
+) -> Result<Box<Search>, Fail> {
+    Ok(build_from(alloc, patterns, prefix)??)
+}
+
+/// The patterns of these specs.
+pub(super) fn patterns_of(alloc: Global, specs: &[&[u8]]) -> Result<Vec<Pattern>, Error> {
+    let mut patterns = Vec::new(alloc);
+    for spec in specs {
+        patterns.push(Pattern::from_bytes(alloc, spec, Defaults::default())?)?;
+    }
+    Ok(patterns)
+}
+
+/// The search of specs of any bytes, given in this directory of a repository at `/r`.
+pub(super) fn search_of_bytes(alloc: Global, specs: &[&[u8]], prefix: &str) -> Result<Box<Search>, Fail> {
+    search_from(alloc, patterns_of(alloc, specs)?, prefix)
+}
+
+/// The search of these texts, which comes from a list.
+pub(super) fn search_of_list(alloc: Global, texts: &[&str], prefix: &str) -> Result<Box<Search>, Fail> {
+    let mut search = search_of(alloc, texts, prefix)?;
+    search.source = Some(BString::from_slice(alloc, "list")?);
+    Ok(search)
+}
+
+/// The texts of many specs.
+#[derive(Clone, Copy)]
+pub(super) enum Texts {
+    /// The file `f` in a directory that has the number of the spec.
+    Files,
+    /// A number from 10,000 on, between two texts.
+    Between(&'static str, &'static str),
+    /// One text.
+    Same(&'static str),
+    /// The first at even numbers, and the second at odd ones.
+    InTurn(&'static str, &'static str),
+    /// A text in directories `a`, each in the one before it: in so many for the first spec, and in one less for each other.
+    Nested(u32, &'static str),
+}
+
+impl Texts {
+    /// The text of the spec with a number.
+    fn at(self, alloc: Global, number: u32) -> Result<String, AllocError> {
+        match self {
+            Texts::Files => format!(in alloc; "d{number}/f"),
+            Texts::Between(before, after) => {
+                let number = number.saturating_add(10_000);
+                format!(in alloc; "{before}{number}{after}")
+            }
+            Texts::Same(text) => String::from_str(alloc, text),
+            Texts::InTurn(even, odd) => {
+                String::from_str(alloc, if number % 2 == 0 { even } else { odd })
+            }
+            Texts::Nested(depth, text) => nested(alloc, depth.saturating_sub(number), text),
+        }
+    }
+}
+
+/// Directories `a`, each in the one before it, and behind the last of so many the text.
+pub(super) fn nested(alloc: Global, depth: u32, text: &str) -> Result<String, AllocError> {
+    let mut path = String::new(alloc);
+    for _ in 0..depth {
+        path.push_str("a/")?;
+    }
+    path.push_str(text)?;
+    Ok(path)
+}
+
+/// The patterns of so many specs.
+fn many(alloc: Global, count: u32, texts: Texts) -> Result<Vec<Pattern>, Error> {
+    let mut patterns = Vec::new(alloc);
+    for number in 0..count {
+        let text = texts.at(alloc, number)?;
+        patterns.push(pattern_of(alloc, text.as_str())?)?;
+    }
+    Ok(patterns)
+}
+
+/// The search of so many specs.
+pub(super) fn search_of_many(alloc: Global, count: u32, texts: Texts) -> Result<Box<Search>, Fail> {
+    search_from(alloc, many(alloc, count, texts)?, "")
+}

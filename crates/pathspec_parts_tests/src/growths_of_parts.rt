@@ -1,0 +1,337 @@
+//! Each growth refused in turn, of calls on globs, heads, attributes, stacks and trees.
+use crate::globs::boxed_room;
+use crate::heads::{next_of, path_table, reaches, stem_table, takes};
+use bstr::BStr;
+use pathspec_heads::places::PlacesByHead;
+use pathspec_parts::attributes::{Assignment, Case, Name, Outcome, StateRef};
+use pathspec_parts::glob::{DirectoryGlob, Glob, Mode};
+use pathspec_parts::path::Stack;
+use pathspec_parts::tree::{Cursor, Tree, TreeError, Walk as _};
+use pathspec_test_support::growths::{
+    Call, Calls, Changes, Changing, Makes, Making, assert_calls,
+};
+use pathspec_test_support::look_ups::listed;
+use pathspec_test_support::trees::{add, tree_of};
+use std::alloc::{AllocError, Global};
+use std::test::Fail;
+
+/// The calls that compile a glob and make the room for its matches, and a text that it matches.
+struct Compile(&'static str, &'static str);
+
+impl Making for Compile {
+    fn make(&self, alloc: Global) -> Result<bool, AllocError> {
+        let glob = Glob::compile(alloc, self.0.as_bytes(), Mode::Shell)?;
+        let mut scratch = boxed_room(alloc, glob.tokens())?;
+        let text = self.1.as_bytes();
+        Ok(glob.fits(&scratch) && glob.matches(text, Case::Sensitive, &mut scratch))
+    }
+}
+
+#[test]
+fn a_glob_is_compiled_or_memory_ran_out(rt: HostRuntime) -> Result<(), Fail> {
+    const CALLS: &[Makes<Compile>] = &[
+        Makes(Compile("", "")),
+        Makes(Compile("a", "a")),
+        Makes(Compile("*.rs", "x.rs")),
+        Makes(Compile("a*[b-d]*e", "abe")),
+        Makes(Compile("a*[!b-d]?[x]*e", "abeexe")),
+        Makes(Compile("*[[:alpha:]]*\\*", "a*")),
+        Makes(Compile(
+            "*aaaaaaaaaaaaaaaaaaaaaaaaaaaaaaaaaaaaaaaaaaaaaaaaaaaaaaaaaaaaaaa*b",
+            "aaaaaaaaaaaaaaaaaaaaaaaaaaaaaaaaaaaaaaaaaaaaaaaaaaaaaaaaaaaaaaaab",
+        )),
+    ];
+    assert_calls(rt.alloc(), CALLS)
+}
+
+/// The calls that compile a glob for directories and make the room for its matches, and a directory that it matches.
+struct CompileDirectory(&'static str, Mode, &'static str);
+
+impl Making for CompileDirectory {
+    fn make(&self, alloc: Global) -> Result<bool, AllocError> {
+        let glob = DirectoryGlob::compile(alloc, self.0.as_bytes(), self.1)?;
+        let mut scratch = boxed_room(alloc, glob.tokens())?;
+        let directory = self.2.as_bytes();
+        Ok(glob.fits(&scratch) && glob.matches(directory, Case::Sensitive, &mut scratch))
+    }
+}
+
+#[test]
+fn a_glob_for_directories_is_compiled_or_memory_ran_out(rt: HostRuntime) -> Result<(), Fail> {
+    const CALLS: &[Makes<CompileDirectory>] = &[
+        Makes(CompileDirectory("/", Mode::Shell, "")),
+        Makes(CompileDirectory("a*", Mode::Shell, "ab")),
+        Makes(CompileDirectory("**/b/**", Mode::PathAware, "a/b/c")),
+        Makes(CompileDirectory("a*[!b-d]?[x]*", Mode::Shell, "abeexe")),
+        Makes(CompileDirectory(
+            "*aaaaaaaaaaaaaaaaaaaaaaaaaaaaaaaaaaaaaaaaaaaaaaaaaaaaaaaaaaaaaaa/**",
+            Mode::PathAware,
+            "aaaaaaaaaaaaaaaaaaaaaaaaaaaaaaaaaaaaaaaaaaaaaaaaaaaaaaaaaaaaaaaa",
+        )),
+    ];
+    assert_calls(rt.alloc(), CALLS)
+}
+
+/// A call that sorts heads, stems or paths.
+#[derive(Clone, Copy)]
+enum Sorting {
+    /// Heads, the first of which that begins `a/b/c` is at a place.
+    Heads(&'static [&'static [u8]], usize),
+    Stems,
+    Paths,
+}
+
+impl Making for Sorting {
+    fn make(&self, alloc: Global) -> Result<bool, AllocError> {
+        match *self {
+            Sorting::Heads(heads, place) => {
+                let places = PlacesByHead::new(alloc, heads)?;
+                Ok(next_of(&places, b"a/b/c", 0) == Some(place))
+            }
+            Sorting::Stems => Ok(reaches(&stem_table(alloc)?)),
+            Sorting::Paths => Ok(takes(&path_table(alloc)?)),
+        }
+    }
+}
+
+#[test]
+fn heads_and_stems_are_sorted_or_memory_ran_out(rt: HostRuntime) -> Result<(), Fail> {
+    const CALLS: &[Makes<Sorting>] = &[
+        Makes(Sorting::Heads(&[b"x", b"a", b"a/b", b"a", b"", b"a/"], 1)),
+        Makes(Sorting::Heads(&[b""], 0)),
+        Makes(Sorting::Stems),
+        Makes(Sorting::Paths),
+    ];
+    assert_calls(rt.alloc(), CALLS)
+}
+
+/// A call that copies an assignment or a part of it.
+#[derive(Clone, Copy)]
+enum CopyCall {
+    Name,
+    CloneName,
+    CloneState,
+    ToState,
+    CloneAssignment,
+}
+
+impl Call for CopyCall {
+    type Given = Vec<Assignment>;
+
+    fn given(&self, alloc: Global) -> Result<Vec<Assignment>, Fail> {
+        Ok(listed(alloc, &[("name", StateRef::Value(b"value"))])?)
+    }
+
+    fn make(&self, alloc: Global, given: &mut Vec<Assignment>) -> Result<bool, AllocError> {
+        match given.first() {
+            Some(assignment) => is_copied(alloc, *self, assignment),
+            None => Ok(false),
+        }
+    }
+}
+
+/// Whether a copy is the same.
+fn is_copied(alloc: Global, call: CopyCall, given: &Assignment) -> Result<bool, AllocError> {
+    Ok(match call {
+        CopyCall::Name => Name::from_bytes(alloc, b"name")?.is_some_and(|name| name == given.name),
+        CopyCall::CloneName => given.name.try_clone()? == given.name,
+        CopyCall::CloneState => given.state.try_clone()? == given.state,
+        CopyCall::ToState => given.state.as_ref().to_state(alloc)? == given.state,
+        CopyCall::CloneAssignment => given.try_clone()? == *given,
+    })
+}
+
+#[test]
+fn an_assignment_is_copied_or_memory_ran_out(rt: HostRuntime) -> Result<(), Fail> {
+    const CALLS: &[Calls<CopyCall>] = &[
+        Calls(CopyCall::Name),
+        Calls(CopyCall::CloneName),
+        Calls(CopyCall::CloneState),
+        Calls(CopyCall::ToState),
+        Calls(CopyCall::CloneAssignment),
+    ];
+    assert_calls(rt.alloc(), CALLS)
+}
+
+/// An outcome for a list of attributes, in which `b` has a value.
+fn outcome(alloc: Global) -> Result<Outcome, AllocError> {
+    const SET: StateRef<'static> = StateRef::Set;
+    let listed = listed(alloc, &[("a", SET), ("b", SET), ("a", SET), ("c", SET)])?;
+    let mut outcome = Outcome::for_assignments(alloc, &listed)?;
+    outcome.set(b"b", StateRef::Value(b"old"))?;
+    Ok(outcome)
+}
+
+/// The call that gives a name a state.
+struct Set(&'static str, StateRef<'static>);
+
+impl Changing for Set {
+    type Value = Outcome;
+
+    fn before(&self, alloc: Global) -> Result<Outcome, Fail> {
+        Ok(outcome(alloc)?)
+    }
+
+    fn change(&self, _: Global, value: &mut Outcome) -> Result<bool, AllocError> {
+        value.set(self.0.as_bytes(), self.1)?;
+        Ok(true)
+    }
+
+    fn is_same(&self, _: Global, value: &mut Outcome, other: &Outcome) -> Result<bool, Fail> {
+        if value.len() != other.len() {
+            return Ok(false);
+        }
+        for place in 0..value.len() {
+            let is_same_name = value.name(place) == other.name(place);
+            if !is_same_name || value.state(place) != other.state(place) {
+                return Ok(false);
+            }
+        }
+        Ok(true)
+    }
+}
+
+/// The call that makes an outcome.
+struct ForAssignments;
+
+impl Making for ForAssignments {
+    fn make(&self, alloc: Global) -> Result<bool, AllocError> {
+        let found = outcome(alloc)?;
+        Ok(found.len() == 4 && found.state(1) == StateRef::Value(b"old"))
+    }
+}
+
+#[test]
+fn an_outcome_is_set_or_as_before(rt: HostRuntime) -> Result<(), Fail> {
+    const CALLS: &[Changes<Set>] = &[
+        Changes(Set("a", StateRef::Value(b"new"))),
+        Changes(Set("b", StateRef::Value(b"new"))),
+        Changes(Set("b", StateRef::Unset)),
+        Changes(Set("x", StateRef::Value(b"new"))),
+    ];
+    assert_calls(rt.alloc(), CALLS)?;
+    assert_calls(rt.alloc(), &[Makes(ForAssignments)])
+}
+
+/// The call that puts a component on a stack of so many.
+struct Push(usize);
+
+impl Changing for Push {
+    type Value = Stack<'static>;
+
+    fn before(&self, alloc: Global) -> Result<Stack<'static>, Fail> {
+        let mut stack = Stack::new(alloc);
+        for _ in 0..self.0 {
+            stack.push(BStr::new(b"a"))?;
+        }
+        Ok(stack)
+    }
+
+    fn change(&self, _: Global, value: &mut Stack<'static>) -> Result<bool, AllocError> {
+        value.push(BStr::new(b"b"))?;
+        Ok(true)
+    }
+
+    fn is_same(
+        &self,
+        _: Global,
+        value: &mut Stack<'static>,
+        other: &Stack<'static>,
+    ) -> Result<bool, Fail> {
+        for index in 0..value.len().max(other.len()) {
+            if value.get(index) != other.get(index) {
+                return Ok(false);
+            }
+        }
+        Ok(value.least() == other.least())
+    }
+}
+
+#[test]
+fn a_stack_is_pushed_on_or_as_before(rt: HostRuntime) -> Result<(), Fail> {
+    const CALLS: &[Changes<Push>] = &[
+        Changes(Push(0)),
+        Changes(Push(1)),
+        Changes(Push(4)),
+        Changes(Push(8)),
+        Changes(Push(1000)),
+    ];
+    assert_calls(rt.alloc(), CALLS)
+}
+
+/// Whether two cursors come to the same entry, and enter it or not.
+fn are_at_same(cursor: &mut Cursor<'_>, other: &mut Cursor<'_>) -> bool {
+    let is_there = cursor.next().is_some() && other.next().is_some();
+    is_there && cursor.path() == other.path() && cursor.enter() == other.enter()
+}
+
+/// Whether a walk that enters all comes to the same entries of two trees.
+fn has_same_entries(alloc: Global, tree: &Tree, other: &Tree) -> Result<bool, AllocError> {
+    let mut cursor = Cursor::new(alloc, tree)?;
+    let mut beside = Cursor::new(alloc, other)?;
+    for _ in 0..tree.len() {
+        if !are_at_same(&mut cursor, &mut beside) {
+            return Ok(false);
+        }
+    }
+    Ok(cursor.next().is_none() && beside.next().is_none())
+}
+
+/// The call that adds the entry of a word to the tree of these.
+struct Add(&'static [&'static str], &'static str);
+
+impl Changing for Add {
+    type Value = Tree;
+
+    fn before(&self, alloc: Global) -> Result<Tree, Fail> {
+        Ok(tree_of(alloc, self.0)?)
+    }
+
+    fn change(&self, _: Global, value: &mut Tree) -> Result<bool, AllocError> {
+        match add(value, self.1) {
+            Ok(()) => Ok(true),
+            Err(TreeError::Memory) => Err(AllocError),
+            Err(_) => Ok(false),
+        }
+    }
+
+    fn is_same(&self, alloc: Global, value: &mut Tree, other: &Tree) -> Result<bool, Fail> {
+        Ok(has_same_entries(alloc, value, other)?)
+    }
+}
+
+#[test]
+#[rattlefmt::skip]
+fn an_entry_is_added_or_the_tree_is_as_before(rt: HostRuntime) -> Result<(), Fail> {
+    const DIRECTORY: &str = "a long name of a directory/";
+    const FILE: &str = "a long name of a file";
+    const CALLS: &[Changes<Add>] = &[
+        Changes(Add(&[], DIRECTORY)),
+        Changes(Add(&["directory/", "file", "file"], DIRECTORY)),
+        Changes(Add(&["directory/", "file", "file", "file", "file"], DIRECTORY)),
+        Changes(Add(&[], FILE)),
+        Changes(Add(&["directory/", "file"], FILE)),
+        Changes(Add(&["directory/", "file", "file", "file", "file", "file", "file", "file"], FILE)),
+    ];
+    assert_calls(rt.alloc(), CALLS)
+}
+
+/// The call that makes a cursor.
+struct NewCursor;
+
+impl Call for NewCursor {
+    type Given = Tree;
+
+    fn given(&self, alloc: Global) -> Result<Tree, Fail> {
+        Ok(tree_of(alloc, &["directory/", "file", "file", "file"])?)
+    }
+
+    fn make(&self, alloc: Global, given: &mut Tree) -> Result<bool, AllocError> {
+        has_same_entries(alloc, given, given)
+    }
+}
+
+#[test]
+fn a_cursor_is_made_or_memory_ran_out(rt: HostRuntime) -> Result<(), Fail> {
+    assert_calls(rt.alloc(), &[Calls(NewCursor)])
+}

@@ -1,0 +1,61 @@
+//! What the tests of searches, walks and the program share: the search of texts.
+#![tactic(auto)]
+
+use bstr::BStr;
+use gix_pathspec::{BuildError, Defaults, Error, Pattern, Search};
+use pathspec_parts::path::is_clean_prefix;
+use std::alloc::Global;
+use std::test::Fail;
+
+/// The pattern of a text.
+pub fn pattern_of(alloc: Global, text: &str) -> Result<Pattern, Error> {
+    Pattern::from_bytes(alloc, text.as_bytes(), Defaults::default())
+}
+
+/// What is built from these patterns, given in this directory of a repository at `/r`. It is boxed, as all searches of
+/// the tests are: then a test is proved without a look at what a search is made of.
+pub fn build_from(
+    alloc: Global,
+    patterns: Vec<Pattern>,
+    prefix: &str,
+) -> Result<Result<Box<Search>, BuildError>, Fail> {
+    let prefix = BStr::new(prefix.as_bytes());
+    if !is_clean_prefix(prefix) {
+        return Err("the prefix isn't clean".into());
+    }
+    match Search::from_specs(alloc, patterns, Some(prefix), BStr::new(b"/r")) {
+        Ok(search) => Ok(Ok(Box::new(alloc, search)?)),
+        Err(error) => Ok(Err(error)),
+    }
+}
+
+/// The patterns of these texts.
+pub fn patterns_of(alloc: Global, texts: &[&str]) -> Result<Vec<Pattern>, Error> {
+    let mut patterns = Vec::new(alloc);
+    for text in texts {
+        patterns.push(pattern_of(alloc, text)?)?;
+    }
+    Ok(patterns)
+}
+
+/// The search of these texts, given in this directory of a repository at `/r`.
+pub fn search_of(alloc: Global, texts: &[&str], prefix: &str) -> Result<Box<Search>, Fail> {
+    Ok(build_from(alloc, patterns_of(alloc, texts)?, prefix)??)
+}
+
+/// The patterns of the words of a line, between spaces.
+fn patterns_of_line(alloc: Global, line: &str) -> Result<Vec<Pattern>, Error> {
+    let mut patterns = Vec::new(alloc);
+    for word in line.split(' ') {
+        if !word.is_empty() {
+            patterns.push(pattern_of(alloc, word)?)?;
+        }
+    }
+    Ok(patterns)
+}
+
+/// The search of the words of a line, given in this directory of a repository at `/r`. A table whose rows have one text for
+/// all specs is proved sooner than one with a list in each row.
+pub fn search_of_line(alloc: Global, line: &str, prefix: &str) -> Result<Box<Search>, Fail> {
+    Ok(build_from(alloc, patterns_of_line(alloc, line)?, prefix)??)
+}
