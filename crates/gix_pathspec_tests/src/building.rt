@@ -76,7 +76,9 @@ fn no_specs_stand_for_the_prefix(rt: HostRuntime) -> Result<(), Fail> {
     let search = search_of(rt.alloc(), &[], "a")?;
     assert!(rt; search.patterns().len() == 1 && search.source.is_none());
     for pattern in search.patterns() {
-        assert!(rt; pattern.path() == BStr::new(b"a") && pattern.prefix_directory() == BStr::new(b"a"));
+        assert!(rt;
+            pattern.path() == BStr::new(b"a") && pattern.prefix_directory() == BStr::new(b"a")
+        );
         assert!(rt; pattern.signature == MagicSignature::MUST_BE_DIR);
         assert!(rt; pattern.search_mode == SearchMode::Literal);
     }

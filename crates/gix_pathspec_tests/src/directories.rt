@@ -1,7 +1,7 @@
 //! What a search tells before any path is matched, a row a call.
 use bstr::BStr;
-use gix_pathspec::search::{IntoPatterns, Patterns};
 use gix_pathspec::Pattern;
+use gix_pathspec::search::{IntoPatterns, Patterns};
 use pathspec_test_searches::search_of_line;
 use std::test::Fail;
 
@@ -18,8 +18,14 @@ fn prefixes_and_directories_are_told(rt: HostRuntime) -> Result<(), Fail> {
     ];
     for (line, prefix, common, directory, longest) in ROWS {
         let search = search_of_line(rt.alloc(), line, prefix)?;
-        assert!(rt; search.common_prefix().as_bytes() == common.as_bytes(), "{line}");
-        assert!(rt; search.prefix_directory().as_bytes() == directory.as_bytes(), "{line}");
+        assert!(rt;
+            search.common_prefix().as_bytes() == common.as_bytes(),
+            "{line}"
+        );
+        assert!(rt;
+            search.prefix_directory().as_bytes() == directory.as_bytes(),
+            "{line}"
+        );
         let found = search.longest_common_directory().unwrap_or(BStr::new(b""));
         assert!(rt; found.as_bytes() == longest.as_bytes(), "{line}");
     }

@@ -177,7 +177,12 @@ fn specs_of_one_head_are_compared_once(rt: HostRuntime) -> Result<(), Fail> {
     ];
     assert_tells(rt.alloc(), 10_000, Texts::Same("a/b*c"), ROWS)?;
     // A word of places has 64.
-    assert_tells(rt.alloc(), 65, Texts::Same("*.rs"), &[(0, "a.c", (None, 65), None)])
+    assert_tells(
+        rt.alloc(),
+        65,
+        Texts::Same("*.rs"),
+        &[(0, "a.c", (None, 65), None)],
+    )
 }
 
 #[test]

@@ -29,7 +29,11 @@ fn asked(alloc: Global, variables: Variables<'_>) -> Asked {
         text_of(variables, name)
     };
     let found = match Defaults::from_environment(alloc, &mut var) {
-        Ok(defaults) => Ok((defaults.signature.bits(), defaults.search_mode, defaults.literal)),
+        Ok(defaults) => Ok((
+            defaults.signature.bits(),
+            defaults.search_mode,
+            defaults.literal,
+        )),
         Err(error) => Err(error.kind()),
     };
     (found, count)

@@ -1,9 +1,7 @@
 //! Each growth refused in turn, of calls that read, write, normalise and build specs.
 use crate::building::{are_same, is_cloned};
 use crate::environments::text_of;
-use crate::searches::{
-    Settled, scratch_of, search_of_list, settled, settled_in, visited,
-};
+use crate::searches::{Settled, scratch_of, search_of_list, settled, settled_in, visited};
 use bstr::BStr;
 use gix_pathspec::search::{Scratch, Visit};
 use gix_pathspec::{BuildError, Defaults, Error, MagicSignature, Pattern, Search, parse};
@@ -214,7 +212,14 @@ fn is_resolved(alloc: Global, text: &str) -> Result<bool, Error> {
 
 #[test]
 fn a_clean_path_on_the_top_takes_no_memory(rt: HostRuntime) -> Result<(), Fail> {
-    for text in ["a", "a/b.c/d", ":(top,icase,attr:g)p/", ":(prefix:1)a/*", "::", ":"] {
+    for text in [
+        "a",
+        "a/b.c/d",
+        ":(top,icase,attr:g)p/",
+        ":(prefix:1)a/*",
+        "::",
+        ":",
+    ] {
         assert!(rt; is_resolved(rt.alloc(), text)?, "{text}");
     }
     Ok(())
@@ -311,25 +316,18 @@ fn a_scratch_is_made_or_memory_ran_out(rt: HostRuntime) -> Result<(), Fail> {
         Calls(NewScratch(&[])),
         Calls(NewScratch(&["x", ":!y"])),
         Calls(NewScratch(&["*[!b-d]?x*", ":!**/x"])),
-        Calls(NewScratch(&[":(attr:a -b !c d=e)*.c", ":(exclude,attr:a)x", ":(glob)**/y"])),
+        Calls(NewScratch(&[
+            ":(attr:a -b !c d=e)*.c",
+            ":(exclude,attr:a)x",
+            ":(glob)**/y",
+        ])),
     ];
     assert_calls(rt.alloc(), CALLS)
 }
 
-/// What a search tells of a path and of itself, without memory.
-#[derive(Clone, Copy, PartialEq, Eq)]
-struct Told {
-    found: Settled,
-    found_in_scratch: Settled,
-    visit: Visit,
-    can_match: bool,
-    directory_matches: bool,
-    common: usize,
-    prefix: usize,
-    directory: Option<usize>,
-    count: usize,
-    bytes: usize,
-}
+/// What a search tells of a path and of itself, without memory: what settles the path, in the search's scratch and in another;
+/// what a walk does; two questions about directories; and lengths.
+type Told = (Settled, Option<Settled>, Visit, (bool, bool), [usize; 5]);
 
 /// How many bytes the paths of a search's specs have.
 fn bytes_of(search: &Search) -> usize {
@@ -340,48 +338,44 @@ fn bytes_of(search: &Search) -> usize {
     bytes
 }
 
-/// How many bytes the longest common directory has.
-fn directory_of(search: &Search) -> Option<usize> {
-    search
-        .longest_common_directory()
-        .map(|directory| directory.as_bytes().len())
+/// How many specs a search has and how many bytes their paths have, and how many bytes its directories have.
+fn lengths_of(search: &Search) -> [usize; 5] {
+    let longest = search.longest_common_directory();
+    [
+        search.patterns().len(),
+        bytes_of(search),
+        search.common_prefix().as_bytes().len(),
+        search.prefix_directory().as_bytes().len(),
+        longest.map_or(usize::MAX, |directory| directory.as_bytes().len()),
+    ]
 }
 
 /// Asks a search all that takes no memory.
-fn answers_of(search: &mut Search, scratch: &mut Scratch, path: &str) -> Result<Told, Fail> {
-    let found = settled(search, path.as_bytes(), Some(true))?;
-    let found_in_scratch = settled_in(
-        search,
-        path.as_bytes(),
-        Some(true),
-        scratch,
-        &mut Marks::new(),
-    )?;
-    let visit = visited(search, path.as_bytes(), true, scratch)?;
-    let path = BStr::new(path.as_bytes());
-    Ok(Told {
-        visit,
+fn answers_of(search: &mut Search, scratch: &mut Scratch, path: &[u8]) -> Result<Told, Fail> {
+    let found = settled(search, path, Some(true))?;
+    let found_in_scratch = settled_in(search, path, Some(true), scratch, &mut Marks::new())?;
+    let visit = visited(search, path, true, scratch)?;
+    let path = BStr::new(path);
+    let can_match = search.can_match_relative_path(path, Some(true));
+    let directories = (can_match, search.directory_matches_prefix(path, true));
+    Ok((
         found,
-        found_in_scratch: found_in_scratch.ok_or("the look-up fails")?,
-        can_match: search.can_match_relative_path(path, Some(true)),
-        directory_matches: search.directory_matches_prefix(path, true),
-        common: search.common_prefix().as_bytes().len(),
-        prefix: search.prefix_directory().as_bytes().len(),
-        directory: directory_of(search),
-        count: search.patterns().len(),
-        bytes: bytes_of(search),
-    })
+        found_in_scratch,
+        visit,
+        directories,
+        lengths_of(search),
+    ))
 }
 
 /// Whether a search of these texts, given in `a/b`, answers of a path with all growths refused what it answers with memory.
 fn asks_alike(alloc: Global, texts: &[&str], path: &str) -> Result<bool, Fail> {
     let mut search = search_of(alloc, texts, "a/b")?;
     let mut scratch = scratch_of(alloc, &search)?;
-    let want = answers_of(&mut search, &mut scratch, path)?;
+    let want = answers_of(&mut search, &mut scratch, path.as_bytes())?;
     refuse(alloc, ALL);
-    let answer = answers_of(&mut search, &mut scratch, path);
+    let answer = answers_of(&mut search, &mut scratch, path.as_bytes());
     refuse(alloc, NONE);
-    Ok(answer? == want && want.found == want.found_in_scratch)
+    Ok(answer? == want && Some(want.0) == want.1)
 }
 
 #[test]

@@ -29,7 +29,12 @@ fn is_matched(
 }
 
 /// Whether the search of a spec, which is any bytes, matches a file so.
-fn is_match(alloc: Global, spec: &[u8], path: &[u8], want: Option<MatchKind>) -> Result<bool, Fail> {
+fn is_match(
+    alloc: Global,
+    spec: &[u8],
+    path: &[u8],
+    want: Option<MatchKind>,
+) -> Result<bool, Fail> {
     let mut search = search_of_bytes(alloc, &[spec], "")?;
     is_matched(&mut search, path, want, false)
 }
@@ -55,7 +60,12 @@ fn brackets_may_stay_open_and_bytes_be_no_text(rt: HostRuntime) -> Result<(), Fa
 type Attribute = (&'static str, StateRef<'static>);
 
 /// The pattern of a text, with these bits of its signature and this attribute.
-fn by_hand(alloc: Global, text: &str, bits: u32, attribute: Option<Attribute>) -> Result<Pattern, Error> {
+fn by_hand(
+    alloc: Global,
+    text: &str,
+    bits: u32,
+    attribute: Option<Attribute>,
+) -> Result<Pattern, Error> {
     let mut pattern = pattern_of(alloc, text)?;
     pattern.signature = MagicSignature::from_bits_retain(bits);
     if let Some(attribute) = attribute {

@@ -29,5 +29,3 @@ mod scratches;
 mod searches;
 #[cfg(test)]
 mod skipping;
-#[cfg(test)]
-mod values;

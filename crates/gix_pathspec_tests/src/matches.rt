@@ -55,12 +55,20 @@ fn the_first_spec_that_matches_settles_a_path(rt: HostRuntime) -> Result<(), Fai
 
 #[test]
 fn many_double_stars_match_as_a_spec(rt: HostRuntime) -> Result<(), Fail> {
-    const ROWS: &[(&str, Settled)] = &[("x", WILDCARD), ("y", None), ("a/b/x", WILDCARD), ("a/b/y", None)];
+    const ROWS: &[(&str, Settled)] = &[
+        ("x", WILDCARD),
+        ("y", None),
+        ("a/b/x", WILDCARD),
+        ("a/b/y", None),
+    ];
     let chain = "**/".repeat(rt.alloc(), 500)?;
     let spec = format!(in rt.alloc(); ":(glob){chain}x")?;
     let mut search = search_of_line(rt.alloc(), &spec, "")?;
     for (path, want) in ROWS {
-        assert!(rt; settled(&mut search, path.as_bytes(), Some(false))? == *want, "{path}");
+        assert!(rt;
+            settled(&mut search, path.as_bytes(), Some(false))? == *want,
+            "{path}"
+        );
     }
     Ok(())
 }
@@ -108,7 +116,11 @@ fn is_verbatim(found: Option<Match<'_>>, want: Option<usize>) -> bool {
 type Asked<'a> = (&'a str, Option<usize>, u64, usize);
 
 /// Whether a search of these texts asks so, by a match that it lends and by one in a scratch.
-fn asks(alloc: Global, texts: &[&str], (path, want, asked, tested): Asked<'_>) -> Result<bool, Fail> {
+fn asks(
+    alloc: Global,
+    texts: &[&str],
+    (path, want, asked, tested): Asked<'_>,
+) -> Result<bool, Fail> {
     let mut search = search_of(alloc, texts, "")?;
     let is_asked = is_asked(&mut search, path, want, asked)?;
     let mut scratch = scratch_of(alloc, &search)?;

@@ -132,7 +132,9 @@ fn defaults_fill_in(rt: HostRuntime) -> Result<(), Fail> {
     };
     let pattern = parse(rt.alloc(), b":/a", defaults)?;
     assert!(rt; pattern.signature.bits() == 3 && pattern.search_mode == SearchMode::PathAwareGlob);
-    assert!(rt; pattern.path().as_bytes() == b"a".as_slice() && pattern.prefix_directory().is_empty());
+    assert!(rt;
+        pattern.path().as_bytes() == b"a".as_slice() && pattern.prefix_directory().is_empty()
+    );
     Ok(())
 }
 
@@ -149,7 +151,9 @@ fn asks_for(alloc: Global, digit: &str, directory: Option<&str>) -> Result<bool,
     let digits = digit.repeat(alloc, 1_000_000)?;
     let text = format!(in alloc; ":(prefix:{digits}1)a/b")?;
     match (pattern_of(alloc, &text), directory) {
-        (Ok(pattern), Some(directory)) => Ok(pattern.prefix_directory().as_bytes() == directory.as_bytes()),
+        (Ok(pattern), Some(directory)) => Ok(
+            pattern.prefix_directory().as_bytes() == directory.as_bytes(),
+        ),
         (Err(error), None) => Ok(error.kind() == "InvalidPrefix"),
         _ => Ok(false),
     }

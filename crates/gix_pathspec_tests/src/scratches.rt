@@ -173,7 +173,11 @@ fn fits(alloc: Global, texts: &[&str], others: &[&str]) -> Result<Option<bool>, 
     let is_own = search.fits(&own) && search.fits(&of_copy) && copy.fits(&own);
     let other = scratch_of(alloc, &*search_of(alloc, others, "")?)?;
     let fits = search.fits(&other);
-    Ok(if is_own && copy.fits(&other) == fits { Some(fits) } else { None })
+    Ok(if is_own && copy.fits(&other) == fits {
+        Some(fits)
+    } else {
+        None
+    })
 }
 
 #[test]
@@ -203,7 +207,10 @@ fn unknown(alloc: Global, line: &str, path: &[u8]) -> Result<(Option<Settled>, b
     let mut scratch = scratch_of(alloc, &search)?;
     let file = Some(false);
     let is_selected = search.is_selected(BStr::new(path), file, &mut scratch, &mut NoAttributes)?;
-    Ok((settled_in(&search, path, file, &mut scratch, &mut NoAttributes)?, is_selected))
+    Ok((
+        settled_in(&search, path, file, &mut scratch, &mut NoAttributes)?,
+        is_selected,
+    ))
 }
 
 #[test]

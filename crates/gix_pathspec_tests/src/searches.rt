@@ -16,7 +16,11 @@ use std::test::Fail;
 pub(super) type Settled = Option<(usize, MatchKind)>;
 
 /// What settles a path.
-pub(super) fn settled(search: &mut Search, path: &[u8], is_dir: Option<bool>) -> Result<Settled, Fail> {
+pub(super) fn settled(
+    search: &mut Search,
+    path: &[u8],
+    is_dir: Option<bool>,
+) -> Result<Settled, Fail> {
     let path = BStr::new(path);
     match search.pattern_matching_relative_path(path, is_dir, &mut Marks::new())? {
         Some(found) => Ok(Some((found.sequence_number, found.kind))),
@@ -41,11 +45,7 @@ pub(super) fn settled_in<L: LookUp>(
         Ok(None) => Some(None),
         Err(_) => None,
     };
-    let tested = tested.wrapping_add(scratch.last_tested() as u128);
-    let compared = compared.wrapping_add(scratch.last_compared());
-    if scratch.total_tested() != tested || scratch.total_compared() != compared {
-        return Err("a total of the scratch doesn't tell of the match".into());
-    }
+    assert_counted(scratch, tested, compared)?;
     Ok(found)
 }
 
@@ -82,12 +82,25 @@ pub(super) fn is_selected(
     Ok(search.is_selected(BStr::new(path), Some(is_dir), scratch, &mut Marks::new())?)
 }
 
-/// Whether a walk may skip what lies below a directory, in a scratch of the search's.
+/// Whether a walk may skip what lies below a directory, in a scratch of the search's. Its totals grow by what it tells.
 pub(super) fn may_skip(search: &Search, path: &[u8], scratch: &mut Scratch) -> Result<bool, Fail> {
     if !search.fits(scratch) {
         return Err("the scratch doesn't fit the search".into());
     }
-    Ok(search.may_skip(BStr::new(path), scratch))
+    let (tested, compared) = (scratch.total_tested(), scratch.total_compared());
+    let answer = search.may_skip(BStr::new(path), scratch);
+    assert_counted(scratch, tested, compared)?;
+    Ok(answer)
+}
+
+/// Asserts that the totals of a scratch have grown by what it tells, from these on.
+fn assert_counted(scratch: &Scratch, tested: u128, compared: u128) -> Result<(), Fail> {
+    let tested = tested.wrapping_add(scratch.last_tested() as u128);
+    let compared = compared.wrapping_add(scratch.last_compared());
+    if scratch.total_tested() != tested || scratch.total_compared() != compared {
+        return Err("a total of the scratch doesn't tell of the match".into());
+    }
+    Ok(())
 }
 
 /// Whether a pattern has this long text.
@@ -114,12 +127,20 @@ pub(super) fn patterns_of(alloc: Global, specs: &[&[u8]]) -> Result<Vec<Pattern>
 }
 
 /// The search of specs of any bytes, given in this directory of a repository at `/r`.
-pub(super) fn search_of_bytes(alloc: Global, specs: &[&[u8]], prefix: &str) -> Result<Box<Search>, Fail> {
+pub(super) fn search_of_bytes(
+    alloc: Global,
+    specs: &[&[u8]],
+    prefix: &str,
+) -> Result<Box<Search>, Fail> {
     search_from(alloc, patterns_of(alloc, specs)?, prefix)
 }
 
 /// The search of these texts, which comes from a list.
-pub(super) fn search_of_list(alloc: Global, texts: &[&str], prefix: &str) -> Result<Box<Search>, Fail> {
+pub(super) fn search_of_list(
+    alloc: Global,
+    texts: &[&str],
+    prefix: &str,
+) -> Result<Box<Search>, Fail> {
     let mut search = search_of(alloc, texts, prefix)?;
     search.source = Some(BString::from_slice(alloc, "list")?);
     Ok(search)

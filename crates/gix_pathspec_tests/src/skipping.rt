@@ -98,116 +98,64 @@ fn signatures_may_be_set_by_hand(rt: HostRuntime) -> Result<(), Fail> {
     Ok(())
 }
 
-/// What a scratch counts: of the last question and of all.
-#[derive(Clone, Copy, PartialEq, Eq)]
-struct Counted {
-    tested: usize,
-    compared: u128,
-    total_tested: u128,
-    total_compared: u128,
-}
-
-fn counts_of(scratch: &Scratch) -> Counted {
-    Counted {
-        tested: scratch.last_tested(),
-        compared: scratch.last_compared(),
-        total_tested: scratch.total_tested(),
-        total_compared: scratch.total_compared(),
-    }
-}
-
-impl Counted {
-    /// Whether the totals have grown by the counts of the last question.
-    fn follows(self, before: Counted) -> bool {
-        self.total_tested == before.total_tested.wrapping_add(self.tested as u128)
-            && self.total_compared == before.total_compared.wrapping_add(self.compared)
-    }
-}
-
-/// A question in a scratch.
-#[derive(Clone, Copy)]
-enum Question {
-    /// Whether a walk may skip a directory.
-    MaySkip,
-    /// Whether a file is selected.
-    IsSelected,
-}
-
-use Question::{IsSelected, MaySkip};
-
-/// A question, its path, the answer, how many specs are asked, and how many so far.
-#[derive(Clone, Copy)]
-struct Step(Question, &'static str, bool, usize, u128);
-
-/// Asks the question of a step.
-fn ask(search: &Search, scratch: &mut Scratch, step: Step) -> Result<bool, Fail> {
-    match step.0 {
-        MaySkip => may_skip(search, step.1.as_bytes(), scratch),
-        IsSelected => is_selected(search, step.1.as_bytes(), false, scratch),
-    }
-}
-
-/// Whether a step has its answer and its counts.
-fn goes(search: &Search, scratch: &mut Scratch, step: Step) -> Result<bool, Fail> {
-    let before = counts_of(scratch);
-    let answer = ask(search, scratch, step)?;
-    let after = counts_of(scratch);
-    Ok(
-        answer == step.2
-            && after.follows(before)
-            && after.tested == step.3
-            && after.total_tested == step.4
-            && after.compared <= 4,
-    )
-}
-
 #[test]
 #[rattlefmt::skip]
 fn both_questions_are_counted_in_a_scratch(rt: HostRuntime) -> Result<(), Fail> {
-    const STEPS: &[Step] = &[
-        Step(MaySkip, "a", true, 1, 1),
-        Step(IsSelected, "x.c", true, 1, 2),
+    // A path, whether it is asked for skipping, the answer, how many specs are asked, and how many so far.
+    const STEPS: &[(&str, bool, bool, usize, u128)] = &[
+        ("a", true, true, 1, 1),
+        ("x.c", false, true, 1, 2),
         // The tables answer, and nothing is asked.
-        Step(MaySkip, "b", true, 0, 2),
-        Step(IsSelected, "a/x.c", false, 1, 3),
-        Step(MaySkip, "", false, 0, 3),
-        Step(MaySkip, "c", false, 0, 3),
-        Step(IsSelected, "b", false, 1, 4),
-        Step(MaySkip, "ab", false, 1, 5),
-        Step(MaySkip, "a/b", true, 1, 6),
+        ("b", true, true, 0, 2),
+        ("a/x.c", false, false, 1, 3),
+        ("", true, false, 0, 3),
+        ("c", true, false, 0, 3),
+        ("b", false, false, 1, 4),
+        ("ab", true, false, 1, 5),
+        ("a/b", true, true, 1, 6),
     ];
     let search = search_of_line(rt.alloc(), ":(exclude,glob)a/** :!b *.c", "")?;
     let mut scratch = scratch_of(rt.alloc(), &search)?;
-    for (number, step) in STEPS.iter().enumerate() {
-        assert!(rt; goes(&search, &mut scratch, *step)?, "step {number}");
+    for (path, is_skipping, want, tested, total) in STEPS {
+        let answer = ask(&search, &mut scratch, path.as_bytes(), *is_skipping)?;
+        assert!(rt; answer == *want && scratch.last_tested() == *tested && scratch.total_tested() == *total, "{path}");
+        assert!(rt; scratch.last_compared() <= 4, "{path}");
     }
     Ok(())
 }
 
-/// A directory, whether a walk may skip what lies below it, and how many excludes are asked.
-#[derive(Clone, Copy)]
-struct Asked(&'static str, bool, usize);
-
-/// Whether a search answers so, and compares no more heads than ten thousand excludes allow, which are fewer than 2^14.
-fn answers(search: &Search, scratch: &mut Scratch, asked: Asked) -> Result<bool, Fail> {
-    let question = Step(MaySkip, asked.0, asked.1, asked.2, 0);
-    let answer = ask(search, scratch, question)?;
-    let is_counted = scratch.last_tested() == asked.2 && scratch.last_compared() <= 16;
-    Ok(answer == asked.1 && is_counted)
+/// Whether a walk may skip a directory, or whether a file is selected.
+fn ask(
+    search: &Search,
+    scratch: &mut Scratch,
+    path: &[u8],
+    is_skipping: bool,
+) -> Result<bool, Fail> {
+    if is_skipping {
+        may_skip(search, path, scratch)
+    } else {
+        is_selected(search, path, false, scratch)
+    }
 }
 
-/// Asserts what a search answers of so many excludes, with these texts before and behind a number.
+/// A directory, whether a walk may skip what lies below it, and how many excludes are asked.
+type Asked<'a> = (&'a str, bool, usize);
+
+/// Asserts what a search answers of so many excludes, with these texts before and behind a number. It compares no more heads than
+/// ten thousand excludes allow, which are fewer than 2^14.
 fn assert_answers(
     alloc: Global,
     count: u32,
     (before, behind): (&'static str, &'static str),
-    rows: &[Asked],
+    rows: &[Asked<'_>],
 ) -> Result<(), Fail> {
     let search = search_of_many(alloc, count, Texts::Between(before, behind))?;
     let mut scratch = scratch_of(alloc, &search)?;
-    for asked in rows {
-        if !answers(&search, &mut scratch, *asked)? {
-            return Err(Fail::new(format_args!("{}", asked.0)));
+    for (path, want, tested) in rows {
+        let answer = may_skip(&search, path.as_bytes(), &mut scratch)?;
+        let is_counted = scratch.last_tested() == *tested && scratch.last_compared() <= 16;
+        if answer != *want || !is_counted {
+            return Err(Fail::new(format_args!("{path}")));
         }
     }
     Ok(())
@@ -215,24 +163,24 @@ fn assert_answers(
 
 #[test]
 fn ten_thousand_excludes_ask_one_or_none(rt: HostRuntime) -> Result<(), Fail> {
-    const IN_ONE: &[Asked] = &[
-        Asked("x/19999", true, 1),
-        Asked("x/15000/a/b", true, 1),
-        Asked("x/150001", false, 1),
-        Asked("x/20000", false, 0),
-        Asked("x", false, 0),
-        Asked("", false, 0),
+    const IN_ONE: &[Asked<'_>] = &[
+        ("x/19999", true, 1),
+        ("x/15000/a/b", true, 1),
+        ("x/150001", false, 1),
+        ("x/20000", false, 0),
+        ("x", false, 0),
+        ("", false, 0),
     ];
-    const OF_MANY: &[Asked] = &[
-        Asked("d10000/x", true, 1),
-        Asked("d15000/x/y", true, 1),
-        Asked("d15000", false, 0),
-        Asked("d20000/x", false, 0),
+    const OF_MANY: &[Asked<'_>] = &[
+        ("d10000/x", true, 1),
+        ("d15000/x/y", true, 1),
+        ("d15000", false, 0),
+        ("d20000/x", false, 0),
     ];
-    const PLAIN: &[Asked] = &[
-        Asked("x/19999/y", true, 0),
-        Asked("x/199990", false, 0),
-        Asked("x", false, 0),
+    const PLAIN: &[Asked<'_>] = &[
+        ("x/19999/y", true, 0),
+        ("x/199990", false, 0),
+        ("x", false, 0),
     ];
     assert_answers(rt.alloc(), 10_000, (":(exclude,glob)x/", "/**"), IN_ONE)?;
     assert_answers(rt.alloc(), 10_000, (":(exclude,glob)d", "/x/**"), OF_MANY)?;
@@ -241,12 +189,12 @@ fn ten_thousand_excludes_ask_one_or_none(rt: HostRuntime) -> Result<(), Fail> {
 
 #[test]
 fn a_thousand_excludes_of_one_head_are_asked_in_turn(rt: HostRuntime) -> Result<(), Fail> {
-    const ROWS: &[Asked] = &[
-        Asked("x/a10000", true, 1),
-        Asked("x/10001/b", true, 2),
-        Asked("x/a10999", true, 1000),
-        Asked("x/y", false, 1000),
-        Asked("y/a10000", false, 0),
+    const ROWS: &[Asked<'_>] = &[
+        ("x/a10000", true, 1),
+        ("x/10001/b", true, 2),
+        ("x/a10999", true, 1000),
+        ("x/y", false, 1000),
+        ("y/a10000", false, 0),
     ];
     assert_answers(rt.alloc(), 1000, (":(exclude,glob)x/*", "/**"), ROWS)
 }

@@ -7,7 +7,14 @@ use std::test::Fail;
 
 #[test]
 fn names_are_letters_digits_and_three_marks(rt: HostRuntime) -> Result<(), Fail> {
-    const ROWS: &[(&str, bool)] = &[("a-b", true), ("", true), ("._1", true), ("-a", false), ("é", false), ("a!", false)];
+    const ROWS: &[(&str, bool)] = &[
+        ("a-b", true),
+        ("", true),
+        ("._1", true),
+        ("-a", false),
+        ("é", false),
+        ("a!", false),
+    ];
     for (text, is_name) in ROWS {
         let is_same = match Name::from_bytes(rt.alloc(), text.as_bytes())? {
             Some(name) => *is_name && name.as_bytes().as_bytes() == text.as_bytes(),
@@ -85,7 +92,10 @@ fn assignments_are_compared_by_name_and_then_by_state(rt: HostRuntime) -> Result
 /// An outcome for `a`, `b` and `a`.
 fn outcome(alloc: Global) -> Result<Outcome, AllocError> {
     const SET: StateRef<'static> = StateRef::Set;
-    Outcome::for_assignments(alloc, &listed(alloc, &[("a", SET), ("b", SET), ("a", SET)])?)
+    Outcome::for_assignments(
+        alloc,
+        &listed(alloc, &[("a", SET), ("b", SET), ("a", SET)])?,
+    )
 }
 
 /// Whether an outcome has these names.
@@ -105,7 +115,16 @@ fn a_name_is_set_at_each_of_its_places(rt: HostRuntime) -> Result<(), Fail> {
     found.reset();
     found.set(b"a", StateRef::Value(b"x"))?;
     found.set(b"c", StateRef::Set)?;
-    assert!(rt; has_states(&found, &[StateRef::Value(b"x"), StateRef::Unspecified, StateRef::Value(b"x")]));
+    assert!(rt;
+        has_states(
+            &found,
+            &[
+                StateRef::Value(b"x"),
+                StateRef::Unspecified,
+                StateRef::Value(b"x")
+            ]
+        )
+    );
     assert!(rt; has_names(&found, &["a", "b", "a"]));
     Ok(())
 }

@@ -60,7 +60,10 @@ fn the_last_token_may_take_any_bytes(rt: HostRuntime) -> Result<(), Fail> {
     ];
     for (mode, pattern, tokens, is_open) in ROWS {
         let glob = glob_of(rt.alloc(), *mode, pattern)?;
-        assert!(rt; glob.tokens() == *tokens && glob.has_open_end() == *is_open, "{pattern}");
+        assert!(rt;
+            glob.tokens() == *tokens && glob.has_open_end() == *is_open,
+            "{pattern}"
+        );
         assert!(rt; glob.fits(&*boxed_room(rt.alloc(), *tokens)?), "{pattern}");
     }
     Ok(())
@@ -69,13 +72,21 @@ fn the_last_token_may_take_any_bytes(rt: HostRuntime) -> Result<(), Fail> {
 #[test]
 fn steps_of_directories_are_counted(rt: HostRuntime) -> Result<(), Fail> {
     // A directory, whether `a/**` matches it, and the most steps: (4 + 1) × (path bytes + 2), by the bytes of the pattern.
-    const ROWS: &[(&str, bool, u128)] = &[("a", true, 15), ("a/bcd", true, 35), ("b", false, 15), ("", false, 10)];
+    const ROWS: &[(&str, bool, u128)] = &[
+        ("a", true, 15),
+        ("a/bcd", true, 35),
+        ("b", false, 15),
+        ("", false, 10),
+    ];
     for (directory, want, most) in ROWS {
         let glob = glob_of(rt.alloc(), PathAware, "a/**")?;
         let mut scratch = boxed_room(rt.alloc(), glob.tokens())?;
         let found = glob.matches(directory.as_bytes(), Sensitive, &mut scratch);
         let steps = scratch.last_steps();
-        assert!(rt; found == *want && steps <= *most && scratch.total_steps() == steps, "{directory}");
+        assert!(rt;
+            found == *want && steps <= *most && scratch.total_steps() == steps,
+            "{directory}"
+        );
     }
     Ok(())
 }

@@ -148,7 +148,12 @@ fn brackets_hold_what_they_list(rt: HostRuntime) -> Result<(), Fail> {
 }
 
 /// Whether the glob of a pattern takes two texts, and not a third.
-fn takes_alike(alloc: Global, pattern: &str, texts: [&str; 2], other: &str) -> Result<bool, AllocError> {
+fn takes_alike(
+    alloc: Global,
+    pattern: &str,
+    texts: [&str; 2],
+    other: &str,
+) -> Result<bool, AllocError> {
     let glob = (PathAware, Sensitive, pattern);
     Ok(are_all(alloc, glob, &texts, true)? && are_all(alloc, glob, &[other], false)?)
 }

@@ -7,102 +7,104 @@ use pathspec_parts::attributes::{Assignment, Case, Name, Outcome, StateRef};
 use pathspec_parts::glob::{DirectoryGlob, Glob, Mode};
 use pathspec_parts::path::Stack;
 use pathspec_parts::tree::{Cursor, Tree, TreeError, Walk as _};
-use pathspec_test_support::growths::{
-    Call, Calls, Changes, Changing, Makes, Making, assert_calls,
-};
+use pathspec_test_support::growths::{Call, Calls, Changes, Changing, Makes, Making, assert_calls};
 use pathspec_test_support::look_ups::listed;
 use pathspec_test_support::trees::{add, tree_of};
 use std::alloc::{AllocError, Global};
 use std::test::Fail;
 
-/// The calls that compile a glob and make the room for its matches, and a text that it matches.
-struct Compile(&'static str, &'static str);
-
-impl Making for Compile {
-    fn make(&self, alloc: Global) -> Result<bool, AllocError> {
-        let glob = Glob::compile(alloc, self.0.as_bytes(), Mode::Shell)?;
-        let mut scratch = boxed_room(alloc, glob.tokens())?;
-        let text = self.1.as_bytes();
-        Ok(glob.fits(&scratch) && glob.matches(text, Case::Sensitive, &mut scratch))
-    }
-}
-
-#[test]
-fn a_glob_is_compiled_or_memory_ran_out(rt: HostRuntime) -> Result<(), Fail> {
-    const CALLS: &[Makes<Compile>] = &[
-        Makes(Compile("", "")),
-        Makes(Compile("a", "a")),
-        Makes(Compile("*.rs", "x.rs")),
-        Makes(Compile("a*[b-d]*e", "abe")),
-        Makes(Compile("a*[!b-d]?[x]*e", "abeexe")),
-        Makes(Compile("*[[:alpha:]]*\\*", "a*")),
-        Makes(Compile(
-            "*aaaaaaaaaaaaaaaaaaaaaaaaaaaaaaaaaaaaaaaaaaaaaaaaaaaaaaaaaaaaaaa*b",
-            "aaaaaaaaaaaaaaaaaaaaaaaaaaaaaaaaaaaaaaaaaaaaaaaaaaaaaaaaaaaaaaaab",
-        )),
-    ];
-    assert_calls(rt.alloc(), CALLS)
-}
-
-/// The calls that compile a glob for directories and make the room for its matches, and a directory that it matches.
-struct CompileDirectory(&'static str, Mode, &'static str);
-
-impl Making for CompileDirectory {
-    fn make(&self, alloc: Global) -> Result<bool, AllocError> {
-        let glob = DirectoryGlob::compile(alloc, self.0.as_bytes(), self.1)?;
-        let mut scratch = boxed_room(alloc, glob.tokens())?;
-        let directory = self.2.as_bytes();
-        Ok(glob.fits(&scratch) && glob.matches(directory, Case::Sensitive, &mut scratch))
-    }
-}
-
-#[test]
-fn a_glob_for_directories_is_compiled_or_memory_ran_out(rt: HostRuntime) -> Result<(), Fail> {
-    const CALLS: &[Makes<CompileDirectory>] = &[
-        Makes(CompileDirectory("/", Mode::Shell, "")),
-        Makes(CompileDirectory("a*", Mode::Shell, "ab")),
-        Makes(CompileDirectory("**/b/**", Mode::PathAware, "a/b/c")),
-        Makes(CompileDirectory("a*[!b-d]?[x]*", Mode::Shell, "abeexe")),
-        Makes(CompileDirectory(
-            "*aaaaaaaaaaaaaaaaaaaaaaaaaaaaaaaaaaaaaaaaaaaaaaaaaaaaaaaaaaaaaaa/**",
-            Mode::PathAware,
-            "aaaaaaaaaaaaaaaaaaaaaaaaaaaaaaaaaaaaaaaaaaaaaaaaaaaaaaaaaaaaaaaa",
-        )),
-    ];
-    assert_calls(rt.alloc(), CALLS)
-}
-
-/// A call that sorts heads, stems or paths.
-#[derive(Clone, Copy)]
-enum Sorting {
-    /// Heads, the first of which that begins `a/b/c` is at a place.
+/// Calls that make a value.
+enum Made {
+    /// A glob and the room for its matches, and a text that it matches.
+    Glob(&'static str, &'static str),
+    /// A glob for directories and the room, and a directory that it matches.
+    DirectoryGlob(&'static str, Mode, &'static str),
+    /// Heads that are sorted, the first of which that begins `a/b/c` is at a place.
     Heads(&'static [&'static [u8]], usize),
     Stems,
     Paths,
+    Outcome,
 }
 
-impl Making for Sorting {
+use Made::{DirectoryGlob as Directories, Heads};
+
+/// Whether a glob matches a text once it is compiled.
+fn matches(alloc: Global, pattern: &str, text: &str) -> Result<bool, AllocError> {
+    let glob = Glob::compile(alloc, pattern.as_bytes(), Mode::Shell)?;
+    let mut scratch = boxed_room(alloc, glob.tokens())?;
+    let text = text.as_bytes();
+    Ok(glob.fits(&scratch) && glob.matches(text, Case::Sensitive, &mut scratch))
+}
+
+/// Whether a glob matches a directory once it is compiled.
+fn matches_directory(
+    alloc: Global,
+    pattern: &str,
+    mode: Mode,
+    directory: &str,
+) -> Result<bool, AllocError> {
+    let glob = DirectoryGlob::compile(alloc, pattern.as_bytes(), mode)?;
+    let mut scratch = boxed_room(alloc, glob.tokens())?;
+    let directory = directory.as_bytes();
+    Ok(glob.fits(&scratch) && glob.matches(directory, Case::Sensitive, &mut scratch))
+}
+
+impl Making for Made {
     fn make(&self, alloc: Global) -> Result<bool, AllocError> {
         match *self {
-            Sorting::Heads(heads, place) => {
+            Made::Glob(pattern, text) => matches(alloc, pattern, text),
+            Directories(pattern, mode, directory) => {
+                matches_directory(alloc, pattern, mode, directory)
+            }
+            Heads(heads, place) => {
                 let places = PlacesByHead::new(alloc, heads)?;
                 Ok(next_of(&places, b"a/b/c", 0) == Some(place))
             }
-            Sorting::Stems => Ok(reaches(&stem_table(alloc)?)),
-            Sorting::Paths => Ok(takes(&path_table(alloc)?)),
+            Made::Stems => Ok(reaches(&stem_table(alloc)?)),
+            Made::Paths => Ok(takes(&path_table(alloc)?)),
+            Made::Outcome => {
+                let found = outcome(alloc)?;
+                Ok(found.len() == 4 && found.state(1) == StateRef::Value(b"old"))
+            }
         }
     }
 }
 
 #[test]
-fn heads_and_stems_are_sorted_or_memory_ran_out(rt: HostRuntime) -> Result<(), Fail> {
-    const CALLS: &[Makes<Sorting>] = &[
-        Makes(Sorting::Heads(&[b"x", b"a", b"a/b", b"a", b"", b"a/"], 1)),
-        Makes(Sorting::Heads(&[b""], 0)),
-        Makes(Sorting::Stems),
-        Makes(Sorting::Paths),
+#[rattlefmt::skip]
+fn a_glob_is_compiled_or_memory_ran_out(rt: HostRuntime) -> Result<(), Fail> {
+    const CALLS: &[Makes<Made>] = &[
+        Makes(Made::Glob("", "")),
+        Makes(Made::Glob("a", "a")),
+        Makes(Made::Glob("*.rs", "x.rs")),
+        Makes(Made::Glob("a*[b-d]*e", "abe")),
+        Makes(Made::Glob("a*[!b-d]?[x]*e", "abeexe")),
+        Makes(Made::Glob("*[[:alpha:]]*\\*", "a*")),
+        Makes(Made::Glob("*aaaaaaaaaaaaaaaaaaaaaaaaaaaaaaaaaaaaaaaaaaaaaaaaaaaaaaaaaaaaaaa*b",
+            "aaaaaaaaaaaaaaaaaaaaaaaaaaaaaaaaaaaaaaaaaaaaaaaaaaaaaaaaaaaaaaaab")),
     ];
     assert_calls(rt.alloc(), CALLS)
+}
+
+#[test]
+#[rattlefmt::skip]
+fn a_glob_for_directories_is_compiled_or_memory_ran_out(rt: HostRuntime) -> Result<(), Fail> {
+    const CALLS: &[Makes<Made>] = &[
+        Makes(Directories("/", Mode::Shell, "")),
+        Makes(Directories("a*", Mode::Shell, "ab")),
+        Makes(Directories("**/b/**", Mode::PathAware, "a/b/c")),
+        Makes(Directories("a*[!b-d]?[x]*", Mode::Shell, "abeexe")),
+        Makes(Directories("*aaaaaaaaaaaaaaaaaaaaaaaaaaaaaaaaaaaaaaaaaaaaaaaaaaaaaaaaaaaaaaa/**", Mode::PathAware,
+            "aaaaaaaaaaaaaaaaaaaaaaaaaaaaaaaaaaaaaaaaaaaaaaaaaaaaaaaaaaaaaaaa")),
+    ];
+    assert_calls(rt.alloc(), CALLS)
+}
+
+#[test]
+#[rattlefmt::skip]
+fn heads_and_stems_are_sorted_or_memory_ran_out(rt: HostRuntime) -> Result<(), Fail> {
+    const HEADS: &[&[u8]] = &[b"x", b"a", b"a/b", b"a", b"", b"a/"];
+    assert_calls(rt.alloc(), &[Makes(Heads(HEADS, 1)), Makes(Heads(&[b""], 0)), Makes(Made::Stems), Makes(Made::Paths)])
 }
 
 /// A call that copies an assignment or a part of it.
@@ -191,16 +193,6 @@ impl Changing for Set {
     }
 }
 
-/// The call that makes an outcome.
-struct ForAssignments;
-
-impl Making for ForAssignments {
-    fn make(&self, alloc: Global) -> Result<bool, AllocError> {
-        let found = outcome(alloc)?;
-        Ok(found.len() == 4 && found.state(1) == StateRef::Value(b"old"))
-    }
-}
-
 #[test]
 fn an_outcome_is_set_or_as_before(rt: HostRuntime) -> Result<(), Fail> {
     const CALLS: &[Changes<Set>] = &[
@@ -210,7 +202,7 @@ fn an_outcome_is_set_or_as_before(rt: HostRuntime) -> Result<(), Fail> {
         Changes(Set("x", StateRef::Value(b"new"))),
     ];
     assert_calls(rt.alloc(), CALLS)?;
-    assert_calls(rt.alloc(), &[Makes(ForAssignments)])
+    assert_calls(rt.alloc(), &[Makes(Made::Outcome)])
 }
 
 /// The call that puts a component on a stack of so many.

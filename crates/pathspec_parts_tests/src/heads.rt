@@ -20,7 +20,12 @@ fn the_next_place_is_found_below_64_and_behind(rt: HostRuntime) -> Result<(), Fa
     let few = PlacesByHead::new(rt.alloc(), &[b"a/", b"", b"a/b", b"c", b"a/"])?;
     assert!(rt; next_of(&few, b"a/x", 2) == Some(4) && next_of(&few, b"", 2).is_none());
     let many = PlacesByHead::new(rt.alloc(), &[b"a".as_slice(); 65])?;
-    for (from, next) in [(63, Some(63)), (64, Some(64)), (65, None), (usize::MAX, None)] {
+    for (from, next) in [
+        (63, Some(63)),
+        (64, Some(64)),
+        (65, None),
+        (usize::MAX, None),
+    ] {
         assert!(rt; next_of(&many, b"ab", from) == next, "{from}");
     }
     Ok(())
@@ -45,7 +50,9 @@ pub(super) fn stem_table(alloc: Global) -> Result<StemTable, AllocError> {
 
 /// Whether that table reaches what it has to.
 pub(super) fn reaches(table: &StemTable) -> bool {
-    table.reaches(b"Src/a", None) && table.reaches(b"dOCs", Some(true)) && !table.reaches(b"src", None)
+    table.reaches(b"Src/a", None)
+        && table.reaches(b"dOCs", Some(true))
+        && !table.reaches(b"src", None)
 }
 
 /// The table of the paths `Src` and, without case and of a directory, `Doc`.

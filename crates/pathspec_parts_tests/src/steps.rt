@@ -59,7 +59,10 @@ fn a_step_is_a_token_tested_on_a_byte(rt: HostRuntime) -> Result<(), Fail> {
     ];
     for (pattern, mode, text, want, steps) in ROWS {
         let glob = (*pattern, *mode, *text);
-        assert!(rt; takes_steps(rt.alloc(), glob, *want, *steps, false)?, "{pattern} {text}");
+        assert!(rt;
+            takes_steps(rt.alloc(), glob, *want, *steps, false)?,
+            "{pattern} {text}"
+        );
     }
     Ok(())
 }
@@ -92,7 +95,10 @@ fn all_steps_of_a_scratch_are_counted(rt: HostRuntime) -> Result<(), Fail> {
     let mut scratch = boxed_room(rt.alloc(), 3)?;
     assert!(rt; scratch.last_steps() == 0 && scratch.total_steps() == 0);
     for (pattern, text, steps) in ROWS {
-        assert!(rt; counts(rt.alloc(), &mut scratch, pattern, text, *steps)?, "{pattern}");
+        assert!(rt;
+            counts(rt.alloc(), &mut scratch, pattern, text, *steps)?,
+            "{pattern}"
+        );
     }
     Ok(())
 }
@@ -101,7 +107,10 @@ fn all_steps_of_a_scratch_are_counted(rt: HostRuntime) -> Result<(), Fail> {
 fn a_scratch_fits_globs_of_at_most_its_tokens(rt: HostRuntime) -> Result<(), Fail> {
     let glob = Glob::compile(rt.alloc(), b"a?c", Shell)?;
     for (tokens, fits) in [(0, false), (2, false), (3, true), (4, true)] {
-        assert!(rt; glob.fits(&*boxed_room(rt.alloc(), tokens)?) == fits, "{tokens}");
+        assert!(rt;
+            glob.fits(&*boxed_room(rt.alloc(), tokens)?) == fits,
+            "{tokens}"
+        );
     }
     assert_eq!(rt; glob.tokens(), 3);
     Ok(())

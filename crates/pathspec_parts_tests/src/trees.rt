@@ -61,14 +61,32 @@ fn a_walk_comes_to_what_lies_in_directories_that_it_entered(rt: HostRuntime) -> 
 fn a_refused_call_changes_nothing_and_has_a_text(rt: HostRuntime) -> Result<(), Fail> {
     // Words that make a tree, a word that it then refuses, the error, and its text.
     const ROWS: &[(&[&str], &str, TreeError, &str)] = &[
-        (&["a/", "b", ".."], "..", TreeError::NotOpen, "no directory is open"),
-        (&["a/"], "", TreeError::EmptyName, "name of an entry is empty"),
-        (&["a/"], "/", TreeError::EmptyName, "name of an entry is empty"),
+        (
+            &["a/", "b", ".."],
+            "..",
+            TreeError::NotOpen,
+            "no directory is open",
+        ),
+        (
+            &["a/"],
+            "",
+            TreeError::EmptyName,
+            "name of an entry is empty",
+        ),
+        (
+            &["a/"],
+            "/",
+            TreeError::EmptyName,
+            "name of an entry is empty",
+        ),
     ];
     for (words, word, error, text) in ROWS {
         let mut tree = tree_of(rt.alloc(), words)?;
         let len = tree.len();
-        assert!(rt; add(&mut tree, word) == Err(*error) && tree.len() == len && !tree.is_empty(), "{word}");
+        assert!(rt;
+            add(&mut tree, word) == Err(*error) && tree.len() == len && !tree.is_empty(),
+            "{word}"
+        );
         assert!(rt; error.to_string(rt.alloc())?.as_str() == *text, "{word}");
     }
     assert!(rt; TreeError::Memory.to_string(rt.alloc())?.as_str() == "out of memory");

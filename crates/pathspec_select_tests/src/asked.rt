@@ -42,7 +42,10 @@ fn owned_text_of(
 }
 
 /// The environment in which these variables are set, which have the names of its fields.
-pub(super) fn environment_of(alloc: Global, variables: Variables<'_>) -> Result<Environment, AllocError> {
+pub(super) fn environment_of(
+    alloc: Global,
+    variables: Variables<'_>,
+) -> Result<Environment, AllocError> {
     Ok(Environment {
         literal: owned_text_of(alloc, variables, "literal")?,
         icase: owned_text_of(alloc, variables, "icase")?,

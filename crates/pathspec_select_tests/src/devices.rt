@@ -3,7 +3,7 @@ use crate::asked::{UNSET, environment_of, job_of, words_of};
 use crate::program::{add_end, writes_for};
 use pathspec_parts::attributes::LookUp;
 use pathspec_select::{Job, run, run_with};
-use pathspec_test_support::look_ups::{Marks, Recorder};
+use pathspec_test_support::look_ups::Marks;
 use std::alloc::{AllocError, Global};
 use std::io::{self, ErrorKind, Read, Write};
 use std::test::Fail;
@@ -79,10 +79,21 @@ fn no_read_is_made_again_nor_after_the_end(rt: HostRuntime) -> Result<(), Fail> 
 }
 
 /// Whether a run is refused by a reader that fails before its first answer, its second, and so on, and after its last.
-fn is_unread(alloc: Global, line: &str, answers: &[Given<'_>], fault: ErrorKind) -> Result<bool, Fail> {
+fn is_unread(
+    alloc: Global,
+    line: &str,
+    answers: &[Given<'_>],
+    fault: ErrorKind,
+) -> Result<bool, Fail> {
     for count in 0..=answers.len() {
         let script = (&answers[..count], Some(fault));
-        if !reads(alloc, line, script, count.saturating_add(1), b"status 5: read")? {
+        if !reads(
+            alloc,
+            line,
+            script,
+            count.saturating_add(1),
+            b"status 5: read",
+        )? {
             return Ok(false);
         }
     }
@@ -247,23 +258,12 @@ fn does<L: LookUp<Fault = AllocError>>(
     Ok(written.as_slice() == want)
 }
 
-/// Whether a job writes just this, and asks about just these paths, each with a line feed after it.
-fn asks(
-    alloc: Global,
-    job: &Job,
-    listing: &[u8],
-    want: &[u8],
-    asked: &[u8],
-) -> Result<bool, AllocError> {
-    let mut recorder = Recorder::new(alloc);
-    let is_written = does(alloc, job, listing, &mut recorder, want)?;
-    Ok(is_written && recorder.asked.as_slice() == asked)
-}
-
+// Of `a`, `a/b`, `c` and `c/d` the first two.
 #[test]
 fn what_cannot_be_chosen_is_not_asked_about(rt: HostRuntime) -> Result<(), Fail> {
     let (job, _) = job_of(rt.alloc(), "a/b b/c :(exclude,attr:g).", UNSET)??;
-    assert!(rt; asks(rt.alloc(), &job, b"a/b\nc/d\n", b"a/b\n", b"a\na/b\n")?);
+    let mut marks = Marks::new();
+    assert!(rt; does(rt.alloc(), &job, b"a/b\nc/d\n", &mut marks, b"a/b\n")? && marks.asked == 2);
     Ok(())
 }
 
@@ -289,7 +289,14 @@ fn a_failed_look_up_is_refused_and_leaves_the_job(rt: HostRuntime) -> Result<(),
     const MEMORY: &[u8] = b"status 6: memory";
     // The look-up fails at one of the three questions of a run, or of the two.
     for left in 0..3 {
-        assert!(rt; does_each(rt.alloc(), ":(attr:gen).", left, &[(LISTING, MEMORY), (LISTING, b"x\n")])?);
+        assert!(rt;
+            does_each(
+                rt.alloc(),
+                ":(attr:gen).",
+                left,
+                &[(LISTING, MEMORY), (LISTING, b"x\n")]
+            )?
+        );
     }
     for left in 0..2 {
         assert!(rt; does_each(rt.alloc(), FIRST, left, &[(INPUT, MEMORY), (INPUT, b"x\n")])?);

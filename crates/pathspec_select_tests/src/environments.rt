@@ -39,7 +39,10 @@ impl SetVariables<'_> {
 }
 
 /// The environment that is read where these variables are set, and how many of them were asked for.
-pub(super) fn read(alloc: Global, variables: Variables<'_>) -> (Result<Environment, Refusal>, usize) {
+pub(super) fn read(
+    alloc: Global,
+    variables: Variables<'_>,
+) -> (Result<Environment, Refusal>, usize) {
     let mut set = SetVariables {
         alloc,
         variables,

@@ -7,9 +7,7 @@ use pathspec_parts::tree::{Cursor, Tree};
 use pathspec_select::listing::{self, ListingError};
 use pathspec_select::{Environment, Job, Refusal, Rows, SelectError, run, run_with, select};
 use pathspec_test_searches::search_of_line;
-use pathspec_test_support::growths::{
-    Call, Calls, Changes, Changing, Makes, Making, assert_calls,
-};
+use pathspec_test_support::growths::{Call, Calls, Changes, Changing, Makes, Making, assert_calls};
 use pathspec_test_support::look_ups::{Marks, ask, has_states, listed};
 use pathspec_test_support::trees::tree_of;
 use std::alloc::{AllocError, Global};
@@ -95,7 +93,9 @@ impl Changing for PushRow {
     }
 
     fn change(&self, alloc: Global, value: &mut (Rows, bool)) -> Result<bool, AllocError> {
-        value.0.push(b"x", listed(alloc, &[("a", StateRef::Value(b"x"))])?)?;
+        value
+            .0
+            .push(b"x", listed(alloc, &[("a", StateRef::Value(b"x"))])?)?;
         value.1 = true;
         Ok(true)
     }
@@ -152,7 +152,11 @@ impl Call for Run {
         Ok((words_of(alloc, self.0)?, environment_of(alloc, self.1)?))
     }
 
-    fn make(&self, alloc: Global, given: &mut (Vec<String>, Environment)) -> Result<bool, AllocError> {
+    fn make(
+        &self,
+        alloc: Global,
+        given: &mut (Vec<String>, Environment),
+    ) -> Result<bool, AllocError> {
         let mut reader = self.2.as_bytes();
         let mut written = Vec::with_capacity(alloc, 64)?;
         let answer = run(alloc, &given.0, &given.1, &mut reader, &mut written);
@@ -219,7 +223,11 @@ impl Call for FromWords {
         Ok((words_of(alloc, self.0)?, environment_of(alloc, self.1)?))
     }
 
-    fn make(&self, alloc: Global, given: &mut (Vec<String>, Environment)) -> Result<bool, AllocError> {
+    fn make(
+        &self,
+        alloc: Global,
+        given: &mut (Vec<String>, Environment),
+    ) -> Result<bool, AllocError> {
         match Job::from_words(alloc, &given.0, &given.1) {
             Ok(_) => Ok(true),
             Err(Refusal::Memory) => Err(AllocError),
@@ -243,7 +251,10 @@ struct ReadEnvironment;
 
 impl Making for ReadEnvironment {
     fn make(&self, alloc: Global) -> Result<bool, AllocError> {
-        const SET: Variables<'static> = &[("GIT_LITERAL_PATHSPECS", "0"), ("GIT_GLOB_PATHSPECS", "on")];
+        const SET: Variables<'static> = &[
+            ("GIT_LITERAL_PATHSPECS", "0"),
+            ("GIT_GLOB_PATHSPECS", "on"),
+        ];
         match read(alloc, SET).0 {
             Ok(found) => Ok(has_words(&found, &[("literal", "0"), ("glob", "on")])),
             Err(Refusal::Memory) => Err(AllocError),

@@ -146,7 +146,10 @@ fn a_word_may_be_empty_and_hold_a_space(rt: HostRuntime) -> Result<(), Fail> {
 fn refusals_have_a_line_each(rt: HostRuntime) -> Result<(), Fail> {
     let refusals = [
         (Refusal::Read, "status 5: read"),
-        (Refusal::Line(usize::MAX), "status 4: line 18446744073709551615"),
+        (
+            Refusal::Line(usize::MAX),
+            "status 4: line 18446744073709551615",
+        ),
         (Refusal::Write, "status 5: write"),
         (Refusal::Memory, "status 6: memory"),
     ];

@@ -28,8 +28,15 @@ fn selects(search: &Search, scratch: &mut search::Scratch, path: &str) -> (bool,
 fn the_program_of_the_readme_selects(rt: HostRuntime) -> Result<(), Fail> {
     let search = Box::new(rt.alloc(), build(rt.alloc(), b"src/*.rs\n:!src/gen\n")?)?;
     let mut scratch = Box::new(rt.alloc(), search.new_scratch(rt.alloc())?)?;
-    for (path, want) in [("src/lib.rs", true), ("src/gen/table.rs", false), ("docs/guide.md", false)] {
-        assert!(rt; selects(&search, &mut scratch, path) == (want, true), "{path}");
+    for (path, want) in [
+        ("src/lib.rs", true),
+        ("src/gen/table.rs", false),
+        ("docs/guide.md", false),
+    ] {
+        assert!(rt;
+            selects(&search, &mut scratch, path) == (want, true),
+            "{path}"
+        );
     }
     Ok(())
 }

@@ -58,7 +58,10 @@ fn specs_may_be_many_or_long(rt: HostRuntime) -> Result<(), Fail> {
         ((":!", ("a", 1_000_000), "z\n--\nb\n"), "b\n"),
     ];
     for (number, (input, want)) in ROWS.iter().enumerate() {
-        assert!(rt; writes_large(rt.alloc(), FIRST, *input, Some(*want))?, "{number}");
+        assert!(rt;
+            writes_large(rt.alloc(), FIRST, *input, Some(*want))?,
+            "{number}"
+        );
     }
     Ok(())
 }

@@ -22,36 +22,18 @@ pub fn refuse(alloc: Global, number: usize) {
     let _: Result<Vec<u8>, AllocError> = Vec::with_capacity(alloc, COMMAND | number);
 }
 
-/// How a call ended while one of its growths was refused.
-#[derive(Clone, Copy, PartialEq, Eq)]
-pub enum Ended {
-    /// It answered what it answers with memory, since it has fewer growths.
-    Answered,
-    /// It told that memory ran out, left what it was given, and answered when it was made again.
-    Refused,
-    /// Neither.
-    Wrong,
-}
-
-impl Ended {
-    /// This end where all is right, and else a wrong one.
-    fn if_right(self, is_right: bool) -> Ended {
-        if is_right { self } else { Ended::Wrong }
-    }
-}
-
 /// A call that may be made while one of its growths is refused.
 pub trait Refusable {
-    /// Makes the call while the growth with a number is refused.
-    fn end(&self, alloc: Global, number: usize) -> Result<Ended, Fail>;
+    /// Makes the call while the growth with a number is refused: None where it tells that memory ran out, leaves what it was
+    /// given, and answers when it is made again; and else whether it answers what it answers with memory.
+    fn end(&self, alloc: Global, number: usize) -> Result<Option<bool>, Fail>;
 }
 
 /// Whether a call ends rightly with its first growth refused, its second, and so on until none is.
 fn ends_rightly<C: Refusable>(alloc: Global, call: &C) -> Result<bool, Fail> {
     for number in 1..MOST {
-        match call.end(alloc, number)? {
-            Ended::Refused => {}
-            ended => return Ok(ended == Ended::Answered),
+        if let Some(is_right) = call.end(alloc, number)? {
+            return Ok(is_right);
         }
     }
     Ok(false)
@@ -83,24 +65,26 @@ pub trait Call {
 pub struct Calls<C>(pub C);
 
 impl<C: Call> Refusable for Calls<C> {
-    fn end(&self, alloc: Global, number: usize) -> Result<Ended, Fail> {
+    fn end(&self, alloc: Global, number: usize) -> Result<Option<bool>, Fail> {
         end_of_call(alloc, number, &self.0)
     }
 }
 
 /// How a call ends, which is made again where memory ran out.
-fn end_of_call<C: Call>(alloc: Global, number: usize, call: &C) -> Result<Ended, Fail> {
+fn end_of_call<C: Call>(alloc: Global, number: usize, call: &C) -> Result<Option<bool>, Fail> {
     let mut given = call.given(alloc)?;
     refuse(alloc, number);
     let answer = call.make(alloc, &mut given);
     refuse(alloc, NONE);
-    Ok(match answer {
-        Ok(is_right) => Ended::Answered.if_right(is_right),
-        Err(AllocError) => {
-            let again = call.make(alloc, &mut given);
-            Ended::Refused.if_right(again == Ok(true))
-        }
-    })
+    match answer {
+        Ok(is_right) => Ok(Some(is_right)),
+        Err(AllocError) => Ok(wrong_unless(call.make(alloc, &mut given) == Ok(true))),
+    }
+}
+
+/// How a call ends that told that memory ran out, if all is right then.
+fn wrong_unless(is_right: bool) -> Option<bool> {
+    if is_right { None } else { Some(false) }
 }
 
 /// A call that makes a value.
@@ -114,19 +98,19 @@ pub trait Making {
 pub struct Makes<M>(pub M);
 
 impl<M: Making> Refusable for Makes<M> {
-    fn end(&self, alloc: Global, number: usize) -> Result<Ended, Fail> {
+    fn end(&self, alloc: Global, number: usize) -> Result<Option<bool>, Fail> {
         Ok(end_of_making(alloc, number, &self.0))
     }
 }
 
 /// How a call ends that makes a value, which is made again where memory ran out.
-fn end_of_making<M: Making>(alloc: Global, number: usize, making: &M) -> Ended {
+fn end_of_making<M: Making>(alloc: Global, number: usize, making: &M) -> Option<bool> {
     refuse(alloc, number);
     let answer = making.make(alloc);
     refuse(alloc, NONE);
     match answer {
-        Ok(is_right) => Ended::Answered.if_right(is_right),
-        Err(AllocError) => Ended::Refused.if_right(making.make(alloc) == Ok(true)),
+        Ok(is_right) => Some(is_right),
+        Err(AllocError) => wrong_unless(making.make(alloc) == Ok(true)),
     }
 }
 
@@ -154,7 +138,7 @@ pub trait Changing {
 pub struct Changes<C>(pub C);
 
 impl<C: Changing> Refusable for Changes<C> {
-    fn end(&self, alloc: Global, number: usize) -> Result<Ended, Fail> {
+    fn end(&self, alloc: Global, number: usize) -> Result<Option<bool>, Fail> {
         end_of_changing(alloc, number, &self.0)
     }
 }
@@ -174,16 +158,19 @@ fn stands<C: Changing>(
 }
 
 /// How a call ends that changes a value.
-fn end_of_changing<C: Changing>(alloc: Global, number: usize, changing: &C) -> Result<Ended, Fail> {
+fn end_of_changing<C: Changing>(
+    alloc: Global,
+    number: usize,
+    changing: &C,
+) -> Result<Option<bool>, Fail> {
     let mut value = changing.before(alloc)?;
     refuse(alloc, number);
     let answer = changing.change(alloc, &mut value);
     refuse(alloc, NONE);
     if let Ok(is_right) = answer {
-        let is_changed = stands(alloc, changing, &mut value, true)?;
-        return Ok(Ended::Answered.if_right(is_right && is_changed));
+        return Ok(Some(is_right && stands(alloc, changing, &mut value, true)?));
     }
     let stays = stands(alloc, changing, &mut value, false)?;
     let goes = changing.change(alloc, &mut value) == Ok(true);
-    Ok(Ended::Refused.if_right(stays && goes && stands(alloc, changing, &mut value, true)?))
+    Ok(wrong_unless(stays && goes && stands(alloc, changing, &mut value, true)?))
 }

@@ -8,55 +8,6 @@ use bstr::BStr;
 use pathspec_parts::attributes::{Assignment, Case, LookUp, Name, Outcome, StateRef};
 use std::alloc::{AllocError, Global};
 
-/// A look-up that answers, says nothing of any name, and writes down each path that it is asked about.
-#[derive(Drop)]
-pub struct Recorder {
-    /// The paths, each with a line feed after it.
-    pub asked: Vec<u8>,
-    failed: u64,
-}
-
-impl Recorder {
-    /// One that was asked nothing yet.
-    pub fn new(alloc: Global) -> Recorder {
-        Recorder {
-            asked: Vec::new(alloc),
-            failed: 0,
-        }
-    }
-}
-
-impl LookUp for Recorder {
-    type Fault = AllocError;
-
-    ghost table = { λ _ q. record { found = true; states = states_of (unspecified q.names) } };
-
-    ghost failures = { λ it. it.failed };
-
-    fn look_up(
-        &mut self,
-        path: BStr<'_>,
-        _case: Case,
-        _is_dir: bool,
-        _out: &mut Outcome,
-    ) -> Result<bool, AllocError> {
-        match write_down(&mut self.asked, path.as_bytes()) {
-            Ok(()) => Ok(true),
-            Err(refused) => {
-                self.failed = self.failed.saturating_add(1);
-                Err(refused)
-            }
-        }
-    }
-}
-
-/// Writes a path after others, with a line feed after it.
-fn write_down(paths: &mut Vec<u8>, path: &[u8]) -> Result<(), AllocError> {
-    paths.extend_from_slice(path)?;
-    paths.push(b'\n')?;
-    Ok(())
-}
-
 /// A look-up that sets the attribute `gen` of the path `x`, and counts what it is asked.
 #[derive(Drop)]
 pub struct Marks {
@@ -133,7 +84,10 @@ fn mark(path: &[u8], out: &mut Outcome) -> Result<(), AllocError>
 }
 
 /// The list of these states by their names.
-pub fn listed(alloc: Global, states: &[(&str, StateRef<'_>)]) -> Result<Vec<Assignment>, AllocError> {
+pub fn listed(
+    alloc: Global,
+    states: &[(&str, StateRef<'_>)],
+) -> Result<Vec<Assignment>, AllocError> {
     let mut listed = Vec::new(alloc);
     for (name, state) in states {
         if let Some(name) = Name::from_bytes(alloc, name.as_bytes())? {
