@@ -199,14 +199,3 @@ fn heads_may_begin_one_another_a_thousand_times(rt: HostRuntime) -> Result<(), F
     assert_tells(rt.alloc(), 1000, Texts::Nested(999, "a"), NAMES)?;
     assert_tells(rt.alloc(), 1000, Texts::Nested(999, "*.c"), GLOBS)
 }
-
-#[test]
-fn specs_behind_the_64th_are_asked_too(rt: HostRuntime) -> Result<(), Fail> {
-    const ROWS: &[Telling<'_>] = &[
-        (0, "d10063/a.c", (None, 1), None),
-        (0, "d10064/a.c", (None, 1), None),
-        (0, "d10069/a.rs", (Some((69, WILDCARD)), 1), None),
-        (0, "d10069/*.rs/a.c", (Some((69, PREFIX)), 1), None),
-    ];
-    assert_tells(rt.alloc(), 70, Texts::Between("d", "/*.rs"), ROWS)
-}

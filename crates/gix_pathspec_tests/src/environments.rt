@@ -1,21 +1,12 @@
 //! The defaults that the environment asks for.
 use bitflags::Flags;
 use gix_pathspec::{Defaults, SearchMode};
+use pathspec_test_support::look_ups::text_of;
 use std::alloc::Global;
 use std::test::Fail;
 
 /// Variables by their names, with their texts.
 type Variables<'v> = &'v [(&'v str, &'v str)];
-
-/// The text of the variable with this name, if it is set.
-pub(super) fn text_of<'e>(variables: &'e [(&'e str, &'e str)], name: &str) -> Option<&'e str> {
-    for (other, text) in variables {
-        if *other == name {
-            return Some(*text);
-        }
-    }
-    None
-}
 
 /// The bits, the mode and the literalness of the defaults that variables ask for, or the kind of an error; and how many of
 /// the variables of pathspecs were asked for.

@@ -4,7 +4,7 @@ use std::alloc::{AllocError, Global};
 use std::test::Fail;
 
 /// The error of a kind that carries these bytes, or their first.
-fn error_of(alloc: Global, kind: &str, carried: &[u8]) -> Result<Error, AllocError> {
+pub(super) fn error_of(alloc: Global, kind: &str, carried: &[u8]) -> Result<Error, AllocError> {
     let bytes = Vec::from_slice(alloc, carried)?;
     let byte = carried.first().copied().unwrap_or(0);
     Ok(match kind {

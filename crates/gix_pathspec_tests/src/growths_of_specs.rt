@@ -1,6 +1,5 @@
 //! Each growth refused in turn, of calls that read, write, normalise and build specs.
 use crate::building::{are_same, is_cloned};
-use crate::environments::text_of;
 use crate::searches::{Settled, scratch_of, search_of_list, settled, settled_in, visited};
 use bstr::BStr;
 use gix_pathspec::search::{Scratch, Visit};
@@ -10,7 +9,7 @@ use pathspec_test_searches::{pattern_of, patterns_of, search_of};
 use pathspec_test_support::growths::{
     ALL, Call, Calls, Changes, Changing, NONE, assert_calls, refuse,
 };
-use pathspec_test_support::look_ups::Marks;
+use pathspec_test_support::look_ups::{Marks, text_of};
 use std::alloc::{AllocError, Global};
 use std::test::Fail;
 
@@ -68,14 +67,10 @@ impl Call for PatternCall {
 }
 
 #[test]
+#[rattlefmt::skip]
 fn a_pattern_is_made_or_memory_ran_out(rt: HostRuntime) -> Result<(), Fail> {
-    const CALLS: &[Calls<PatternCall>] = &[
-        Calls(PatternCall::Parse),
-        Calls(PatternCall::FromBytes),
-        Calls(PatternCall::FromLiteral),
-        Calls(PatternCall::TryClone),
-    ];
-    assert_calls(rt.alloc(), CALLS)
+    use PatternCall::{FromBytes, FromLiteral, Parse, TryClone};
+    assert_calls(rt.alloc(), &[Calls(Parse), Calls(FromBytes), Calls(FromLiteral), Calls(TryClone)])
 }
 
 #[test]
@@ -126,17 +121,13 @@ impl Call for FaultCall {
 }
 
 #[test]
+#[rattlefmt::skip]
 fn a_fault_is_told_or_memory_ran_out(rt: HostRuntime) -> Result<(), Fail> {
+    use FaultCall::{Environment, Normalize, Text};
     const CALLS: &[Calls<FaultCall>] = &[
-        Calls(FaultCall::Text(":(foo)x")),
-        Calls(FaultCall::Text(":(top")),
-        Calls(FaultCall::Text(":(attr:a=x\\)p")),
-        Calls(FaultCall::Text(":(attr:a b/c)p")),
-        Calls(FaultCall::Text(":(attr:a,attr:b)p")),
-        Calls(FaultCall::Text(":(prefix:9)a/b")),
-        Calls(FaultCall::Environment),
-        Calls(FaultCall::Normalize("../../x")),
-        Calls(FaultCall::Normalize("/q/x")),
+        Calls(Text(":(foo)x")), Calls(Text(":(top")), Calls(Text(":(attr:a=x\\)p")), Calls(Text(":(attr:a b/c)p")),
+        Calls(Text(":(attr:a,attr:b)p")), Calls(Text(":(prefix:9)a/b")), Calls(Environment), Calls(Normalize("../../x")),
+        Calls(Normalize("/q/x")),
     ];
     assert_calls(rt.alloc(), CALLS)
 }
@@ -211,15 +202,9 @@ fn is_resolved(alloc: Global, text: &str) -> Result<bool, Error> {
 }
 
 #[test]
+#[rattlefmt::skip]
 fn a_clean_path_on_the_top_takes_no_memory(rt: HostRuntime) -> Result<(), Fail> {
-    for text in [
-        "a",
-        "a/b.c/d",
-        ":(top,icase,attr:g)p/",
-        ":(prefix:1)a/*",
-        "::",
-        ":",
-    ] {
+    for text in ["a", "a/b.c/d", ":(top,icase,attr:g)p/", ":(prefix:1)a/*", "::", ":"] {
         assert!(rt; is_resolved(rt.alloc(), text)?, "{text}");
     }
     Ok(())
@@ -266,13 +251,10 @@ impl Call for SearchCall {
 }
 
 #[test]
+#[rattlefmt::skip]
 fn a_search_is_built_or_memory_ran_out(rt: HostRuntime) -> Result<(), Fail> {
-    const CALLS: &[Calls<SearchCall>] = &[
-        Calls(SearchCall::FromSpecs(TEXTS)),
-        Calls(SearchCall::FromSpecs(&[])),
-        Calls(SearchCall::FromLines),
-    ];
-    assert_calls(rt.alloc(), CALLS)
+    use SearchCall::{FromLines, FromSpecs};
+    assert_calls(rt.alloc(), &[Calls(FromSpecs(TEXTS)), Calls(FromSpecs(&[])), Calls(FromLines)])
 }
 
 /// The call that copies a search.
@@ -311,16 +293,12 @@ impl Call for NewScratch {
 }
 
 #[test]
+#[rattlefmt::skip]
 fn a_scratch_is_made_or_memory_ran_out(rt: HostRuntime) -> Result<(), Fail> {
     const CALLS: &[Calls<NewScratch>] = &[
         Calls(NewScratch(&[])),
-        Calls(NewScratch(&["x", ":!y"])),
         Calls(NewScratch(&["*[!b-d]?x*", ":!**/x"])),
-        Calls(NewScratch(&[
-            ":(attr:a -b !c d=e)*.c",
-            ":(exclude,attr:a)x",
-            ":(glob)**/y",
-        ])),
+        Calls(NewScratch(&[":(attr:a -b !c d=e)*.c", ":(exclude,attr:a)x", ":(glob)**/y"])),
     ];
     assert_calls(rt.alloc(), CALLS)
 }

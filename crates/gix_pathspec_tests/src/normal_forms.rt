@@ -23,7 +23,7 @@ fn is_normalised(alloc: Global, text: &str, prefix: &str, want: &[u8]) -> Result
     let before = pattern.try_clone()?;
     match normalise(&mut pattern, prefix) {
         Ok(()) => Ok(is_its_own(&pattern)? && is_normal(alloc, &pattern, want)?),
-        Err(error) => Ok(is_fault(&error, want) && pattern == before),
+        Err(error) => Ok(is_fault(alloc, &error, want)? && pattern == before),
     }
 }
 

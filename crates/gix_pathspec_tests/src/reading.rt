@@ -1,49 +1,19 @@
 //! What texts and lists of attributes say, how they are written again, and how they are refused.
+use crate::errors::error_of;
 use bitflags::Flags;
 use gix_pathspec::parse::{attributes, parse};
 use gix_pathspec::{Defaults, Error, MagicSignature, Pattern, SearchMode};
+use pathspec_parts::split::at_first;
 use pathspec_test_searches::pattern_of;
-use std::alloc::Global;
-use std::slice;
+use std::alloc::{AllocError, Global};
 use std::test::Fail;
 
-/// The bytes that an error carries, or the one byte, if it carries some.
-fn carried(error: &Error) -> Option<&[u8]> {
-    match error {
-        Error::UnimplementedShort(byte) | Error::InvalidValueByte(byte) => {
-            Some(slice::from_ref(byte))
-        }
-        Error::MissingParen(bytes)
-        | Error::InvalidKeyword(bytes)
-        | Error::LiteralWithGlob(bytes)
-        | Error::SecondAttributes(bytes)
-        | Error::InvalidPrefix(bytes)
-        | Error::InvalidName(bytes)
-        | Error::TrailingEscape(bytes)
-        | Error::OutsideRoot(bytes)
-        | Error::LeavesRepository(bytes)
-        | Error::NotTruth(bytes) => Some(bytes.as_slice()),
-        _ => None,
-    }
-}
-
 /// Whether an error is of this kind and carries what stands in parentheses, as `InvalidKeyword(foo)`.
-pub(super) fn is_fault(error: &Error, want: &[u8]) -> bool {
-    let Some(rest) = want.strip_prefix(error.kind().as_bytes()) else {
-        return false;
-    };
-    match carried(error) {
-        Some(bytes) => is_in_parentheses(rest, bytes),
-        None => rest.is_empty(),
-    }
-}
-
-/// Whether a text is these bytes in parentheses.
-fn is_in_parentheses(text: &[u8], bytes: &[u8]) -> bool {
-    match text.strip_prefix(b"(") {
-        Some(rest) => rest.strip_suffix(b")") == Some(bytes),
-        None => false,
-    }
+pub(super) fn is_fault(alloc: Global, error: &Error, want: &[u8]) -> Result<bool, AllocError> {
+    let (kind, rest) = at_first(want, b'(');
+    let carried = rest.strip_suffix(b")").unwrap_or(rest);
+    let is_kind = kind == error.kind().as_bytes();
+    Ok(is_kind && *error == error_of(alloc, error.kind(), carried)?)
 }
 
 /// Whether a pattern has this long text, which is printed and reads back as the pattern.
@@ -61,7 +31,7 @@ fn is_written(alloc: Global, pattern: &Pattern, want: &[u8]) -> Result<bool, Err
 fn reads(alloc: Global, text: &str, want: &[u8]) -> Result<bool, Fail> {
     match pattern_of(alloc, text) {
         Ok(pattern) => has_long_text(alloc, &pattern, want),
-        Err(error) => Ok(is_fault(&error, want)),
+        Err(error) => Ok(is_fault(alloc, &error, want)?),
     }
 }
 
@@ -104,7 +74,7 @@ fn lists(alloc: Global, list: &str, want: &[u8]) -> Result<bool, Fail> {
             pattern.attributes = found;
             Ok(pattern.to_bstring()?.as_bytes() == want)
         }
-        Err(error) => Ok(is_fault(&error, want)),
+        Err(error) => Ok(is_fault(alloc, &error, want)?),
     }
 }
 

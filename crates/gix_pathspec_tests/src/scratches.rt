@@ -91,51 +91,6 @@ fn assert_goes_on(alloc: Global, search: &Search, scratch: &mut Scratch) -> Resu
     Ok(())
 }
 
-/// What a scratch counts.
-fn counts(scratch: &Scratch) -> (usize, u128, u128, u128) {
-    (
-        scratch.last_tested(),
-        scratch.last_compared(),
-        scratch.total_tested(),
-        scratch.total_compared(),
-    )
-}
-
-/// Whether a match in a scratch answers what is wanted, and leaves what another scratch counts.
-fn answers_beside(
-    search: &Search,
-    scratch: &mut Scratch,
-    other: &Scratch,
-    asked: &Asked,
-) -> Result<bool, Fail> {
-    let before = counts(other);
-    Ok(answers(search, scratch, asked)? && counts(other) == before)
-}
-
-/// Whether matches in two scratches answer what is wanted in turn. The second comes to each path from another one.
-fn answer_in_turn(
-    search: &Search,
-    first: &mut Scratch,
-    second: &mut Scratch,
-) -> Result<bool, Fail> {
-    for (asked, other) in ASKED.iter().zip(ASKED.iter().rev()) {
-        let is_answered = answers_beside(search, first, second, asked)?;
-        if !is_answered || !answers_beside(search, second, first, other)? {
-            return Ok(false);
-        }
-    }
-    Ok(search.total_tested() == 0 && search.total_compared() == 0)
-}
-
-#[test]
-fn scratches_that_are_used_in_turn_answer_alike(rt: HostRuntime) -> Result<(), Fail> {
-    let search = search_of(rt.alloc(), TEXTS, "")?;
-    let mut first = scratch_of(rt.alloc(), &search)?;
-    let mut second = scratch_of(rt.alloc(), &search)?;
-    assert!(rt; answer_in_turn(&search, &mut first, &mut second)?);
-    Ok(())
-}
-
 #[test]
 fn a_scratch_shows_what_its_last_match_looked_at(rt: HostRuntime) -> Result<(), Fail> {
     let search = search_of(rt.alloc(), &["b", "c/d", "c/e"], "")?;
@@ -164,20 +119,12 @@ fn threads_may_share_a_search_and_hand_on_scratches(rt: HostRuntime) -> Result<(
     Ok(())
 }
 
-/// Whether a scratch of a search fits another search and its copy, and their own fit both.
-fn fits(alloc: Global, texts: &[&str], others: &[&str]) -> Result<Option<bool>, Fail> {
+/// Whether a scratch of a search of the second texts fits one of the first, which its own fits.
+fn fits(alloc: Global, texts: &[&str], others: &[&str]) -> Result<bool, Fail> {
     let search = search_of(alloc, texts, "")?;
-    let copy = Box::new(alloc, search.try_clone()?)?;
-    let own = scratch_of(alloc, &search)?;
-    let of_copy = scratch_of(alloc, &copy)?;
-    let is_own = search.fits(&own) && search.fits(&of_copy) && copy.fits(&own);
-    let other = scratch_of(alloc, &*search_of(alloc, others, "")?)?;
-    let fits = search.fits(&other);
-    Ok(if is_own && copy.fits(&other) == fits {
-        Some(fits)
-    } else {
-        None
-    })
+    let other = search_of(alloc, others, "")?;
+    let is_own = search.fits(&*scratch_of(alloc, &search)?);
+    Ok(is_own && search.fits(&*scratch_of(alloc, &other)?))
 }
 
 #[test]
@@ -196,7 +143,7 @@ fn a_scratch_fits_what_wants_no_other_room(rt: HostRuntime) -> Result<(), Fail> 
         (&["a*bcd", "e*"], &["e*", "a*bc"], false),
     ];
     for (texts, others, want) in ROWS {
-        assert!(rt; fits(rt.alloc(), texts, others)? == Some(*want), "{texts:?}");
+        assert!(rt; fits(rt.alloc(), texts, others)? == *want, "{texts:?}");
     }
     Ok(())
 }

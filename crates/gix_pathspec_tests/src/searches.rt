@@ -28,7 +28,7 @@ pub(super) fn settled(
     }
 }
 
-/// What settles a path in a scratch, or None where the look-up fails. The totals of the scratch grow by what it tells.
+/// What settles a path in a scratch, or None where the look-up fails.
 pub(super) fn settled_in<L: LookUp>(
     search: &Search,
     path: &[u8],
@@ -39,14 +39,13 @@ pub(super) fn settled_in<L: LookUp>(
     if !search.fits(scratch) {
         return Err("the scratch doesn't fit the search".into());
     }
-    let (tested, compared) = (scratch.total_tested(), scratch.total_compared());
-    let found = match search.settle(BStr::new(path), is_dir, scratch, look_up) {
-        Ok(Some(found)) => Some(Some((found.sequence_number, found.kind))),
-        Ok(None) => Some(None),
-        Err(_) => None,
-    };
-    assert_counted(scratch, tested, compared)?;
-    Ok(found)
+    Ok(
+        match search.settle(BStr::new(path), is_dir, scratch, look_up) {
+            Ok(Some(found)) => Some(Some((found.sequence_number, found.kind))),
+            Ok(None) => Some(None),
+            Err(_) => None,
+        },
+    )
 }
 
 /// A scratch of a search, boxed as the searches of the tests are.
@@ -82,25 +81,12 @@ pub(super) fn is_selected(
     Ok(search.is_selected(BStr::new(path), Some(is_dir), scratch, &mut Marks::new())?)
 }
 
-/// Whether a walk may skip what lies below a directory, in a scratch of the search's. Its totals grow by what it tells.
+/// Whether a walk may skip what lies below a directory, in a scratch of the search's.
 pub(super) fn may_skip(search: &Search, path: &[u8], scratch: &mut Scratch) -> Result<bool, Fail> {
     if !search.fits(scratch) {
         return Err("the scratch doesn't fit the search".into());
     }
-    let (tested, compared) = (scratch.total_tested(), scratch.total_compared());
-    let answer = search.may_skip(BStr::new(path), scratch);
-    assert_counted(scratch, tested, compared)?;
-    Ok(answer)
-}
-
-/// Asserts that the totals of a scratch have grown by what it tells, from these on.
-fn assert_counted(scratch: &Scratch, tested: u128, compared: u128) -> Result<(), Fail> {
-    let tested = tested.wrapping_add(scratch.last_tested() as u128);
-    let compared = compared.wrapping_add(scratch.last_compared());
-    if scratch.total_tested() != tested || scratch.total_compared() != compared {
-        return Err("a total of the scratch doesn't tell of the match".into());
-    }
-    Ok(())
+    Ok(search.may_skip(BStr::new(path), scratch))
 }
 
 /// Whether a pattern has this long text.

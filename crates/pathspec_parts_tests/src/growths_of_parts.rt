@@ -144,15 +144,10 @@ fn is_copied(alloc: Global, call: CopyCall, given: &Assignment) -> Result<bool, 
 }
 
 #[test]
+#[rattlefmt::skip]
 fn an_assignment_is_copied_or_memory_ran_out(rt: HostRuntime) -> Result<(), Fail> {
-    const CALLS: &[Calls<CopyCall>] = &[
-        Calls(CopyCall::Name),
-        Calls(CopyCall::CloneName),
-        Calls(CopyCall::CloneState),
-        Calls(CopyCall::ToState),
-        Calls(CopyCall::CloneAssignment),
-    ];
-    assert_calls(rt.alloc(), CALLS)
+    use CopyCall::{CloneAssignment, CloneName, CloneState, ToState};
+    assert_calls(rt.alloc(), &[Calls(CopyCall::Name), Calls(CloneName), Calls(CloneState), Calls(ToState), Calls(CloneAssignment)])
 }
 
 /// An outcome for a list of attributes, in which `b` has a value.
@@ -240,15 +235,9 @@ impl Changing for Push {
 }
 
 #[test]
+#[rattlefmt::skip]
 fn a_stack_is_pushed_on_or_as_before(rt: HostRuntime) -> Result<(), Fail> {
-    const CALLS: &[Changes<Push>] = &[
-        Changes(Push(0)),
-        Changes(Push(1)),
-        Changes(Push(4)),
-        Changes(Push(8)),
-        Changes(Push(1000)),
-    ];
-    assert_calls(rt.alloc(), CALLS)
+    assert_calls(rt.alloc(), &[Changes(Push(0)), Changes(Push(1)), Changes(Push(4)), Changes(Push(8)), Changes(Push(1000))])
 }
 
 /// Whether two cursors come to the same entry, and enter it or not.

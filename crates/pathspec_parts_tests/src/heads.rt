@@ -31,21 +31,16 @@ fn the_next_place_is_found_below_64_and_behind(rt: HostRuntime) -> Result<(), Fa
     Ok(())
 }
 
-/// The table of the stems `Src` and, without case and with a wildcard behind it, `Doc`.
+/// The stems `Src` and, without case and with a wildcard behind it, `Doc`.
+#[rattlefmt::skip]
+const STEMS: &[SpecStem<'_>] = &[
+    SpecStem { text: b"Src", ignores_case: false, has_wildcard: false, wants_directory: false },
+    SpecStem { text: b"Doc", ignores_case: true, has_wildcard: true, wants_directory: false },
+];
+
+/// The table of these stems.
 pub(super) fn stem_table(alloc: Global) -> Result<StemTable, AllocError> {
-    let stem = SpecStem {
-        text: b"Src",
-        ignores_case: false,
-        has_wildcard: false,
-        wants_directory: false,
-    };
-    let folded = SpecStem {
-        text: b"Doc",
-        ignores_case: true,
-        has_wildcard: true,
-        wants_directory: false,
-    };
-    StemTable::new(alloc, &[stem, folded])
+    StemTable::new(alloc, STEMS)
 }
 
 /// Whether that table reaches what it has to.
@@ -55,19 +50,16 @@ pub(super) fn reaches(table: &StemTable) -> bool {
         && !table.reaches(b"src", None)
 }
 
-/// The table of the paths `Src` and, without case and of a directory, `Doc`.
+/// The paths `Src` and, without case and of a directory, `Doc`.
+#[rattlefmt::skip]
+const PATHS: &[SpecPath<'_>] = &[
+    SpecPath { text: b"Src", ignores_case: false, wants_directory: false },
+    SpecPath { text: b"Doc", ignores_case: true, wants_directory: true },
+];
+
+/// The table of these paths.
 pub(super) fn path_table(alloc: Global) -> Result<PathTable, AllocError> {
-    let path = SpecPath {
-        text: b"Src",
-        ignores_case: false,
-        wants_directory: false,
-    };
-    let folded = SpecPath {
-        text: b"Doc",
-        ignores_case: true,
-        wants_directory: true,
-    };
-    PathTable::new(alloc, &[path, folded])
+    PathTable::new(alloc, PATHS)
 }
 
 /// Whether that table takes what it has to.

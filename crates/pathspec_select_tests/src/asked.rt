@@ -1,5 +1,6 @@
 //! What the words of a line and variables ask for, which several tables of tests run.
 use pathspec_select::{Environment, Job, Refusal, Rows};
+use pathspec_test_support::look_ups::text_of;
 use std::alloc::{AllocError, Global};
 
 /// The words of a line, between spaces.
@@ -18,16 +19,6 @@ pub(super) type Variables<'v> = &'v [(&'v str, &'v str)];
 
 /// No variables.
 pub(super) const UNSET: Variables<'static> = &[];
-
-/// The text of the variable with this name, if it is set.
-pub(super) fn text_of<'e>(variables: &'e [(&'e str, &'e str)], name: &str) -> Option<&'e str> {
-    for (other, text) in variables {
-        if *other == name {
-            return Some(*text);
-        }
-    }
-    None
-}
 
 /// A text of its own for the variable with this name, if it is set.
 fn owned_text_of(

@@ -124,12 +124,14 @@ fn state_if(has_value: bool, value: &[u8]) -> StateRef<'_> {
 
 #[test]
 fn a_row_is_added_or_the_rows_are_as_before(rt: HostRuntime) -> Result<(), Fail> {
-    const CALLS: &[Changes<PushRow>] = &[
-        Changes(PushRow(0)),
-        Changes(PushRow(3)),
-        Changes(PushRow(4)),
-    ];
-    assert_calls(rt.alloc(), CALLS)
+    assert_calls(
+        rt.alloc(),
+        &[
+            Changes(PushRow(0)),
+            Changes(PushRow(3)),
+            Changes(PushRow(4)),
+        ],
+    )
 }
 
 /// Words, variables, an input, and what is written for them.

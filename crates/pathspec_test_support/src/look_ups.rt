@@ -1,4 +1,4 @@
-//! Look-ups for tests, and what they set.
+//! Look-ups for tests, of attributes and of variables, and what they set.
 ghost use Rattle.std.specs.Prelude.{◌≡◌, true, bytes_eq, codes, if◌then◌else◌, OnOk};
 ghost use Rattle.pathspec_parts.specs.Attributes.{next_count};
 ghost use Rattle.pathspec_parts.specs.Attributes.State.{Set};
@@ -81,6 +81,16 @@ fn mark(path: &[u8], out: &mut Outcome) -> Result<(), AllocError>
         out.set(b"gen", StateRef::Set)?;
     }
     Ok(())
+}
+
+/// The text of the variable with this name, if it is set.
+pub fn text_of<'e>(variables: &'e [(&'e str, &'e str)], name: &str) -> Option<&'e str> {
+    for (other, text) in variables {
+        if *other == name {
+            return Some(*text);
+        }
+    }
+    None
 }
 
 /// The list of these states by their names.
