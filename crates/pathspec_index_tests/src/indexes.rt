@@ -134,7 +134,7 @@ fn chosen(alloc: Global, search: &Search, left: u64) -> Result<Option<bool>, Fai
     let paths = bytes_of(alloc, &["a", "x"])?;
     let mut marks = Marks::failing_after(left);
     match chosen_paths(alloc, &SortedPaths::new(&paths)?, search, &mut marks) {
-        Ok(numbers) => Ok(Some(numbers.as_slice() == [1])),
+        Ok(numbers) => Ok(Some(numbers.as_slice() == [1].as_slice())),
         Err(SelectError::LookUp(AllocError)) if marks.failed == 1 => Ok(None),
         Err(_) => Ok(Some(false)),
     }

@@ -1,6 +1,7 @@
 //! What is read of the environment.
-use crate::asked::{Variables, text_of};
+use crate::asked::Variables;
 use pathspec_select::{Environment, Refusal};
+use pathspec_test_support::look_ups::text_of;
 use std::alloc::Global;
 use std::env::VarError;
 use std::test::Fail;
