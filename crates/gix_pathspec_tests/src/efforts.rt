@@ -133,7 +133,12 @@ fn the_text_of_a_glob_is_found_whatever_its_end(rt: HostRuntime) -> Result<(), F
 type Telling<'a> = (u32, &'a str, Told, Option<u128>);
 
 /// Asserts what matches tell, one after the other, in a search of so many specs.
-fn assert_tells(alloc: Global, count: u32, texts: Texts, rows: &[Telling<'_>]) -> Result<(), Fail> {
+fn assert_tells(
+    alloc: Global,
+    count: u32,
+    texts: Texts<'_>,
+    rows: &[Telling<'_>],
+) -> Result<(), Fail> {
     let mut search = search_of_many(alloc, count, texts)?;
     for (number, telling) in rows.iter().enumerate() {
         if !is_told(alloc, &mut search, telling)? {

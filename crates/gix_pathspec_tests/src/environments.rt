@@ -8,43 +8,42 @@ use std::test::Fail;
 /// Variables by their names, with their texts.
 type Variables<'v> = &'v [(&'v str, &'v str)];
 
-/// The bits, the mode and the literalness of the defaults that variables ask for, or the kind of an error; and how many of
-/// the variables of pathspecs were asked for.
-type Asked = (Result<(u32, SearchMode, bool), &'static str>, usize);
+/// The bits, the mode and the literalness of defaults, or the kind of an error.
+type Wanted<'a> = Result<(u32, SearchMode, bool), &'a str>;
 
-/// What variables ask for.
-fn asked(alloc: Global, variables: Variables<'_>) -> Asked {
-    let mut count: usize = 0;
+/// Whether variables ask for this, and so many of the variables of pathspecs are asked for.
+fn ask_for(alloc: Global, variables: Variables<'_>, want: Wanted<'_>, count: usize) -> bool {
+    let mut asked: usize = 0;
     let mut var = |name: &str| -> Option<&str> {
-        count = count.saturating_add(1);
+        asked = asked.saturating_add(1);
         text_of(variables, name)
     };
-    let found = match Defaults::from_environment(alloc, &mut var) {
-        Ok(defaults) => Ok((
-            defaults.signature.bits(),
-            defaults.search_mode,
-            defaults.literal,
-        )),
-        Err(error) => Err(error.kind()),
+    let is_found = match Defaults::from_environment(alloc, &mut var) {
+        Ok(defaults) => {
+            let bits = defaults.signature.bits();
+            want == Ok((bits, defaults.search_mode, defaults.literal))
+        }
+        Err(error) => want == Err(error.kind()),
     };
-    (found, count)
+    is_found && asked == count
 }
 
 // What git(1) says of these variables.
 #[test]
 #[rattlefmt::skip]
 fn variables_set_the_defaults(rt: HostRuntime) -> Result<(), Fail> {
-    const ROWS: &[(Variables<'_>, Asked)] = &[
-        (&[], (Ok((0, SearchMode::ShellGlob, false)), 4)),
-        (&[("GIT_NOGLOB_PATHSPECS", "1")], (Ok((0, SearchMode::Literal, false)), 4)),
-        (&[("GIT_GLOB_PATHSPECS", "on")], (Ok((0, SearchMode::PathAwareGlob, false)), 4)),
-        (&[("GIT_LITERAL_PATHSPECS", "1"), ("GIT_ICASE_PATHSPECS", "on"), ("GIT_NOGLOB_PATHSPECS", "x")], (Ok((2, SearchMode::Literal, true)), 2)),
-        (&[("git_icase_pathspecs", "1"), ("GIT_ICASE", "1")], (Ok((0, SearchMode::ShellGlob, false)), 4)),
-        (&[("GIT_GLOB_PATHSPECS", "x"), ("GIT_NOGLOB_PATHSPECS", "y")], (Err("NotTruth"), 3)),
-        (&[("GIT_GLOB_PATHSPECS", "1"), ("GIT_NOGLOB_PATHSPECS", "1")], (Err("GlobAndNoGlob"), 4)),
+    const ROWS: &[(Variables<'_>, Wanted<'_>, usize)] = &[
+        (&[], Ok((0, SearchMode::ShellGlob, false)), 4),
+        (&[("GIT_NOGLOB_PATHSPECS", "1")], Ok((0, SearchMode::Literal, false)), 4),
+        (&[("GIT_GLOB_PATHSPECS", "on")], Ok((0, SearchMode::PathAwareGlob, false)), 4),
+        (&[("GIT_LITERAL_PATHSPECS", "1"), ("GIT_ICASE_PATHSPECS", "on"), ("GIT_NOGLOB_PATHSPECS", "x")],
+            Ok((2, SearchMode::Literal, true)), 2),
+        (&[("git_icase_pathspecs", "1"), ("GIT_ICASE", "1")], Ok((0, SearchMode::ShellGlob, false)), 4),
+        (&[("GIT_GLOB_PATHSPECS", "x"), ("GIT_NOGLOB_PATHSPECS", "y")], Err("NotTruth"), 3),
+        (&[("GIT_GLOB_PATHSPECS", "1"), ("GIT_NOGLOB_PATHSPECS", "1")], Err("GlobAndNoGlob"), 4),
     ];
-    for (number, (variables, want)) in ROWS.iter().enumerate() {
-        assert!(rt; asked(rt.alloc(), variables) == *want, "{number}");
+    for (number, (variables, want, count)) in ROWS.iter().enumerate() {
+        assert!(rt; ask_for(rt.alloc(), variables, *want, *count), "{number}");
     }
     Ok(())
 }

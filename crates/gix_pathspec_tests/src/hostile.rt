@@ -1,9 +1,9 @@
 //! Hostile texts and fields: all of these are answered as the definitions say, and none is a new refusal.
-use crate::searches::{is_written, search_from, search_of_bytes};
+use crate::searches::{is_written, search_of_one};
 use bitflags::Flags;
 use bstr::BStr;
 use gix_pathspec::search::MatchKind;
-use gix_pathspec::{Error, MagicSignature, Pattern, Search, parse};
+use gix_pathspec::{Defaults, Error, MagicSignature, Pattern, Search, parse};
 use pathspec_parts::attributes::StateRef;
 use pathspec_test_searches::pattern_of;
 use pathspec_test_support::look_ups::{Marks, listed};
@@ -35,7 +35,10 @@ fn is_match(
     path: &[u8],
     want: Option<MatchKind>,
 ) -> Result<bool, Fail> {
-    let mut search = search_of_bytes(alloc, &[spec], "")?;
+    let mut search = search_of_one(
+        alloc,
+        Pattern::from_bytes(alloc, spec, Defaults::default())?,
+    )?;
     is_matched(&mut search, path, want, false)
 }
 
@@ -57,14 +60,14 @@ fn brackets_may_stay_open_and_bytes_be_no_text(rt: HostRuntime) -> Result<(), Fa
 }
 
 /// An attribute by its name, with the state that it has to have.
-type Attribute = (&'static str, StateRef<'static>);
+type Attribute<'a> = (&'a str, StateRef<'a>);
 
 /// The pattern of a text, with these bits of its signature and this attribute.
 fn by_hand(
     alloc: Global,
     text: &str,
     bits: u32,
-    attribute: Option<Attribute>,
+    attribute: Option<Attribute<'_>>,
 ) -> Result<Pattern, Error> {
     let mut pattern = pattern_of(alloc, text)?;
     pattern.signature = MagicSignature::from_bits_retain(bits);
@@ -85,9 +88,7 @@ type Found<'a> = (&'a str, bool, Option<MatchKind>);
 /// Whether a search of a pattern alone answers so.
 fn is_found(alloc: Global, pattern: Pattern, (path, can, want): Found<'_>) -> Result<bool, Fail> {
     let is_excluded = pattern.is_excluded();
-    let mut patterns = Vec::new(alloc);
-    patterns.push(pattern)?;
-    let mut search = search_from(alloc, patterns, "")?;
+    let mut search = search_of_one(alloc, pattern)?;
     let can_match = search.can_match_relative_path(BStr::new(path.as_bytes()), Some(true));
     Ok(can_match == can && is_matched(&mut search, path.as_bytes(), want, is_excluded)?)
 }
@@ -98,16 +99,16 @@ const EXCLUDE: u32 = 4;
 const UNKNOWN: u32 = 256;
 
 /// The attribute that a look-up of the tests gives to the path `x`.
-const GEN: Option<Attribute> = Some(("gen", StateRef::Set));
+const GEN: Option<Attribute<'_>> = Some(("gen", StateRef::Set));
 
 /// A value with a space, which no list can say.
-const SPACED: Option<Attribute> = Some(("a", StateRef::Value(b"x y")));
+const SPACED: Option<Attribute<'_>> = Some(("a", StateRef::Value(b"x y")));
 
 #[test]
 #[rattlefmt::skip]
 fn fields_may_be_set_by_hand(rt: HostRuntime) -> Result<(), Fail> {
     // A text, the bits of its signature, an attribute, the long text, and what a search answers.
-    const ROWS: &[(&str, u32, Option<Attribute>, &str, Found<'_>)] = &[
+    const ROWS: &[(&str, u32, Option<Attribute<'_>>, &str, Found<'_>)] = &[
         // A nil spec may be an exclude, and have attributes.
         (":", EXCLUDE, None, ":", ("x", false, Some(MatchKind::Always))),
         (":", 0, GEN, ":", ("x", true, Some(MatchKind::Always))),

@@ -1,11 +1,9 @@
 //! Which spec settles a path, how, and what a match asks of a look-up.
-use crate::searches::{
-    Settled, is_written, patterns_of, scratch_of, search_of_list, settled, settled_in,
-};
+use crate::searches::{Settled, is_written, scratch_of, search_of_list, settled, settled_in};
 use bstr::BStr;
 use gix_pathspec::search::{Match, MatchKind, Scratch};
 use gix_pathspec::{Pattern, Search};
-use pathspec_test_searches::{search_of, search_of_line};
+use pathspec_test_searches::{patterns_of, search_of, search_of_line};
 use pathspec_test_support::look_ups::Marks;
 use pathspec_test_support::orders::assert_rising;
 use std::alloc::{AllocError, Global};
@@ -265,7 +263,7 @@ fn are_equal_to_clones(values: &[Match<'_>]) -> Result<bool, AllocError> {
 
 #[test]
 fn matches_are_compared_field_by_field(rt: HostRuntime) -> Result<(), Fail> {
-    let patterns = patterns_of(rt.alloc(), &[b"a", b"a", b"b"])?;
+    let patterns = patterns_of(rt.alloc(), &["a", "a", "b"])?;
     if let [low, copy, high] = patterns.as_slice() {
         let values = rising(low, high);
         assert_rising(&values, &rising(copy, high))?;

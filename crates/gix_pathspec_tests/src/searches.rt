@@ -6,7 +6,7 @@ ghost use Rattle.gix_pathspec.specs.Room.{Fits};
 use bstr::{BStr, BString};
 use gix_pathspec::attributes::LookUp;
 use gix_pathspec::search::{MatchKind, Scratch, Visit};
-use gix_pathspec::{Defaults, Error, Pattern, Search};
+use gix_pathspec::{Error, Pattern, Search};
 use pathspec_test_searches::{build_from, pattern_of, search_of};
 use pathspec_test_support::look_ups::Marks;
 use std::alloc::{AllocError, Global};
@@ -94,31 +94,11 @@ pub(super) fn is_written(pattern: &Pattern, text: &str) -> Result<bool, Error> {
     Ok(pattern.to_bstring()?.as_bytes() == text.as_bytes())
 }
 
-/// The search of these patterns, given in this directory of a repository at `/r`.
-pub(super) fn search_from(
-    alloc: Global,
-    patterns: Vec<Pattern>,
-    prefix: &str,
-) -> Result<Box<Search>, Fail> {
-    Ok(build_from(alloc, patterns, prefix)??)
-}
-
-/// The patterns of these specs.
-pub(super) fn patterns_of(alloc: Global, specs: &[&[u8]]) -> Result<Vec<Pattern>, Error> {
+/// The search of one pattern.
+pub(super) fn search_of_one(alloc: Global, pattern: Pattern) -> Result<Box<Search>, Fail> {
     let mut patterns = Vec::new(alloc);
-    for spec in specs {
-        patterns.push(Pattern::from_bytes(alloc, spec, Defaults::default())?)?;
-    }
-    Ok(patterns)
-}
-
-/// The search of specs of any bytes, given in this directory of a repository at `/r`.
-pub(super) fn search_of_bytes(
-    alloc: Global,
-    specs: &[&[u8]],
-    prefix: &str,
-) -> Result<Box<Search>, Fail> {
-    search_from(alloc, patterns_of(alloc, specs)?, prefix)
+    patterns.push(pattern)?;
+    Ok(build_from(alloc, patterns, "")??)
 }
 
 /// The search of these texts, which comes from a list.
@@ -134,20 +114,18 @@ pub(super) fn search_of_list(
 
 /// The texts of many specs.
 #[derive(Clone, Copy)]
-pub(super) enum Texts {
+pub(super) enum Texts<'t> {
     /// The file `f` in a directory that has the number of the spec.
     Files,
     /// A number from 10,000 on, between two texts.
-    Between(&'static str, &'static str),
+    Between(&'t str, &'t str),
     /// One text.
-    Same(&'static str),
-    /// The first at even numbers, and the second at odd ones.
-    InTurn(&'static str, &'static str),
+    Same(&'t str),
     /// A text in directories `a`, each in the one before it: in so many for the first spec, and in one less for each other.
-    Nested(u32, &'static str),
+    Nested(u32, &'t str),
 }
 
-impl Texts {
+impl Texts<'_> {
     /// The text of the spec with a number.
     fn at(self, alloc: Global, number: u32) -> Result<String, AllocError> {
         match self {
@@ -157,9 +135,6 @@ impl Texts {
                 format!(in alloc; "{before}{number}{after}")
             }
             Texts::Same(text) => String::from_str(alloc, text),
-            Texts::InTurn(even, odd) => {
-                String::from_str(alloc, if number % 2 == 0 { even } else { odd })
-            }
             Texts::Nested(depth, text) => nested(alloc, depth.saturating_sub(number), text),
         }
     }
@@ -175,17 +150,16 @@ pub(super) fn nested(alloc: Global, depth: u32, text: &str) -> Result<String, Al
     Ok(path)
 }
 
-/// The patterns of so many specs.
-fn many(alloc: Global, count: u32, texts: Texts) -> Result<Vec<Pattern>, Error> {
+/// The search of so many specs.
+pub(super) fn search_of_many(
+    alloc: Global,
+    count: u32,
+    texts: Texts<'_>,
+) -> Result<Box<Search>, Fail> {
     let mut patterns = Vec::new(alloc);
     for number in 0..count {
         let text = texts.at(alloc, number)?;
         patterns.push(pattern_of(alloc, text.as_str())?)?;
     }
-    Ok(patterns)
-}
-
-/// The search of so many specs.
-pub(super) fn search_of_many(alloc: Global, count: u32, texts: Texts) -> Result<Box<Search>, Fail> {
-    search_from(alloc, many(alloc, count, texts)?, "")
+    Ok(build_from(alloc, patterns, "")??)
 }

@@ -1,11 +1,9 @@
 //! Directories that a walk may skip, what a visit answers, and what both count.
-use crate::searches::{
-    Texts, is_selected, may_skip, scratch_of, search_from, search_of_many, visited,
-};
+use crate::searches::{Texts, is_selected, may_skip, scratch_of, search_of_many, visited};
 use bitflags::Flags;
 use gix_pathspec::search::{Scratch, Visit};
 use gix_pathspec::{Error, MagicSignature, Pattern, Search};
-use pathspec_test_searches::{pattern_of, search_of_line};
+use pathspec_test_searches::{build_from, pattern_of, search_of_line};
 use std::alloc::Global;
 use std::test::Fail;
 
@@ -91,7 +89,7 @@ fn signatures_may_be_set_by_hand(rt: HostRuntime) -> Result<(), Fail> {
         ("A", EXCLUDE + UNKNOWN + ICASE, "", "a", true),
     ];
     for (text, bits, beside, directory, want) in ROWS {
-        let search = search_from(rt.alloc(), by_hand(rt.alloc(), text, *bits, beside)?, "")?;
+        let search = build_from(rt.alloc(), by_hand(rt.alloc(), text, *bits, beside)?, "")??;
         let mut scratch = scratch_of(rt.alloc(), &search)?;
         assert!(rt; may_skip(&search, directory.as_bytes(), &mut scratch)? == *want, "{text} {bits}");
     }
@@ -146,7 +144,7 @@ type Asked<'a> = (&'a str, bool, usize);
 fn assert_answers(
     alloc: Global,
     count: u32,
-    (before, behind): (&'static str, &'static str),
+    (before, behind): (&str, &str),
     rows: &[Asked<'_>],
 ) -> Result<(), Fail> {
     let search = search_of_many(alloc, count, Texts::Between(before, behind))?;

@@ -31,16 +31,12 @@ fn the_next_place_is_found_below_64_and_behind(rt: HostRuntime) -> Result<(), Fa
     Ok(())
 }
 
-/// The stems `Src` and, without case and with a wildcard behind it, `Doc`.
+/// The table of the stems `Src` and, without case and with a wildcard behind it, `Doc`.
 #[rattlefmt::skip]
-const STEMS: &[SpecStem<'_>] = &[
-    SpecStem { text: b"Src", ignores_case: false, has_wildcard: false, wants_directory: false },
-    SpecStem { text: b"Doc", ignores_case: true, has_wildcard: true, wants_directory: false },
-];
-
-/// The table of these stems.
 pub(super) fn stem_table(alloc: Global) -> Result<StemTable, AllocError> {
-    StemTable::new(alloc, STEMS)
+    let stem = SpecStem { text: b"Src", ignores_case: false, has_wildcard: false, wants_directory: false };
+    let folded = SpecStem { text: b"Doc", ignores_case: true, has_wildcard: true, wants_directory: false };
+    StemTable::new(alloc, &[stem, folded])
 }
 
 /// Whether that table reaches what it has to.
@@ -50,16 +46,12 @@ pub(super) fn reaches(table: &StemTable) -> bool {
         && !table.reaches(b"src", None)
 }
 
-/// The paths `Src` and, without case and of a directory, `Doc`.
+/// The table of the paths `Src` and, without case and of a directory, `Doc`.
 #[rattlefmt::skip]
-const PATHS: &[SpecPath<'_>] = &[
-    SpecPath { text: b"Src", ignores_case: false, wants_directory: false },
-    SpecPath { text: b"Doc", ignores_case: true, wants_directory: true },
-];
-
-/// The table of these paths.
 pub(super) fn path_table(alloc: Global) -> Result<PathTable, AllocError> {
-    PathTable::new(alloc, PATHS)
+    let path = SpecPath { text: b"Src", ignores_case: false, wants_directory: false };
+    let folded = SpecPath { text: b"Doc", ignores_case: true, wants_directory: true };
+    PathTable::new(alloc, &[path, folded])
 }
 
 /// Whether that table takes what it has to.

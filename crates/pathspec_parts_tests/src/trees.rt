@@ -4,10 +4,10 @@ use pathspec_test_support::trees::{add, tree_of};
 use std::test::Fail;
 
 /// An entry that a walk comes to: its number, its path, whether it is a directory, and whether the walk enters it.
-type Visit = (usize, &'static str, bool, bool);
+type Visit<'a> = (usize, &'a str, bool, bool);
 
 /// Whether a cursor comes to this entry, and enters it where it is a directory.
-fn is_next(cursor: &mut Cursor<'_>, visit: &Visit) -> bool {
+fn is_next(cursor: &mut Cursor<'_>, visit: &Visit<'_>) -> bool {
     let (number, path, is_dir, enters) = *visit;
     if cursor.next() != Some(number) || cursor.is_new() {
         return false;
@@ -24,7 +24,7 @@ fn is_nowhere(cursor: &mut Cursor<'_>) -> bool {
 }
 
 /// Whether a new cursor comes to these entries and to no other.
-fn comes_to(cursor: &mut Cursor<'_>, visits: &[Visit]) -> bool {
+fn comes_to(cursor: &mut Cursor<'_>, visits: &[Visit<'_>]) -> bool {
     if !cursor.is_new() || !is_nowhere(cursor) {
         return false;
     }
@@ -43,7 +43,7 @@ const WORDS: &[&str] = &["a/", "b/", "c", "..", "b", "..", "d", "a/", "e"];
 #[rattlefmt::skip]
 fn a_walk_comes_to_what_lies_in_directories_that_it_entered(rt: HostRuntime) -> Result<(), Fail> {
     // The entries that a walk comes to, and the directories that it entered.
-    const ROWS: &[(&[Visit], &[usize])] = &[
+    const ROWS: &[(&[Visit<'_>], &[usize])] = &[
         (&[(0, "a", true, false), (4, "d", false, true), (5, "a", true, false)], &[]),
         (&[(0, "a", true, true), (1, "a/b", true, false), (3, "a/b", false, false), (4, "d", false, false), (5, "a", true, false)], &[0]),
         (&[(0, "a", true, true), (1, "a/b", true, true), (2, "a/b/c", false, true), (3, "a/b", false, true), (4, "d", false, true),
