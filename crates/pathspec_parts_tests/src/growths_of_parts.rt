@@ -18,15 +18,13 @@ enum Made {
     /// A glob and the room for its matches, and a text that it matches.
     Glob(&'static str, &'static str),
     /// A glob for directories and the room, and a directory that it matches.
-    DirectoryGlob(&'static str, Mode, &'static str),
+    Directories(&'static str, Mode, &'static str),
     /// Heads that are sorted, the first of which that begins `a/b/c` is at a place.
     Heads(&'static [&'static [u8]], usize),
     Stems,
     Paths,
     Outcome,
 }
-
-use Made::{DirectoryGlob as Directories, Heads};
 
 /// Whether a glob matches a text once it is compiled.
 fn matches(alloc: Global, pattern: &str, text: &str) -> Result<bool, AllocError> {
@@ -53,10 +51,10 @@ impl Making for Made {
     fn make(&self, alloc: Global) -> Result<bool, AllocError> {
         match *self {
             Made::Glob(pattern, text) => matches(alloc, pattern, text),
-            Directories(pattern, mode, directory) => {
+            Made::Directories(pattern, mode, directory) => {
                 matches_directory(alloc, pattern, mode, directory)
             }
-            Heads(heads, place) => {
+            Made::Heads(heads, place) => {
                 let places = PlacesByHead::new(alloc, heads)?;
                 Ok(next_of(&places, b"a/b/c", 0) == Some(place))
             }
@@ -90,11 +88,11 @@ fn a_glob_is_compiled_or_memory_ran_out(rt: HostRuntime) -> Result<(), Fail> {
 #[rattlefmt::skip]
 fn a_glob_for_directories_is_compiled_or_memory_ran_out(rt: HostRuntime) -> Result<(), Fail> {
     const CALLS: &[Makes<Made>] = &[
-        Makes(Directories("/", Mode::Shell, "")),
-        Makes(Directories("a*", Mode::Shell, "ab")),
-        Makes(Directories("**/b/**", Mode::PathAware, "a/b/c")),
-        Makes(Directories("a*[!b-d]?[x]*", Mode::Shell, "abeexe")),
-        Makes(Directories("*aaaaaaaaaaaaaaaaaaaaaaaaaaaaaaaaaaaaaaaaaaaaaaaaaaaaaaaaaaaaaaa/**", Mode::PathAware,
+        Makes(Made::Directories("/", Mode::Shell, "")),
+        Makes(Made::Directories("a*", Mode::Shell, "ab")),
+        Makes(Made::Directories("**/b/**", Mode::PathAware, "a/b/c")),
+        Makes(Made::Directories("a*[!b-d]?[x]*", Mode::Shell, "abeexe")),
+        Makes(Made::Directories("*aaaaaaaaaaaaaaaaaaaaaaaaaaaaaaaaaaaaaaaaaaaaaaaaaaaaaaaaaaaaaaa/**", Mode::PathAware,
             "aaaaaaaaaaaaaaaaaaaaaaaaaaaaaaaaaaaaaaaaaaaaaaaaaaaaaaaaaaaaaaaa")),
     ];
     assert_calls(rt.alloc(), CALLS)
@@ -104,7 +102,7 @@ fn a_glob_for_directories_is_compiled_or_memory_ran_out(rt: HostRuntime) -> Resu
 #[rattlefmt::skip]
 fn heads_and_stems_are_sorted_or_memory_ran_out(rt: HostRuntime) -> Result<(), Fail> {
     const HEADS: &[&[u8]] = &[b"x", b"a", b"a/b", b"a", b"", b"a/"];
-    assert_calls(rt.alloc(), &[Makes(Heads(HEADS, 1)), Makes(Heads(&[b""], 0)), Makes(Made::Stems), Makes(Made::Paths)])
+    assert_calls(rt.alloc(), &[Makes(Made::Heads(HEADS, 1)), Makes(Made::Heads(&[b""], 0)), Makes(Made::Stems), Makes(Made::Paths)])
 }
 
 /// A call that copies an assignment or a part of it.
