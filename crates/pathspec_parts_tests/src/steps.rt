@@ -48,8 +48,9 @@ fn all_steps_of_a_scratch_are_counted(rt: HostRuntime) -> Result<(), Fail> {
     let glob = Glob::compile(rt.alloc(), b"abc", Shell)?;
     let mut scratch = boxed_room(rt.alloc(), glob.tokens())?;
     for total in [3, 6] {
-        let is_matched = glob.matches(b"abc", Sensitive, &mut scratch);
-        assert!(rt; is_matched && scratch.last_steps() == 3 && scratch.total_steps() == total);
+        assert!(rt; glob.fits(&scratch));
+        glob.matches(b"abc", Sensitive, &mut scratch);
+        assert!(rt; scratch.last_steps() == 3 && scratch.total_steps() == total);
     }
     Ok(())
 }
