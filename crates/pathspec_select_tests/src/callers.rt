@@ -40,13 +40,17 @@ fn files_in_one_scratch_are_counted(rt: HostRuntime) -> Result<(), Fail> {
     Ok(())
 }
 
+/// Whether this is the report on the file `specs` with this text.
+fn reports(alloc: Global, text: &[u8], want: &[u8]) -> bool {
+    let (name, top) = (BStr::new(b"specs"), BStr::new(b""));
+    match search_of_file(alloc, name, text, top, top) {
+        Ok(_) => false,
+        Err(LinesError::Report(report)) => report.as_bytes() == want,
+        Err(LinesError::Memory) => false,
+    }
+}
+
 #[test]
 fn the_line_at_fault_is_reported(rt: HostRuntime) {
-    let (name, top) = (BStr::new(b"specs"), BStr::new(b""));
-    let is_reported = match search_of_file(rt.alloc(), name, b"a\nb\n:(foo)c\n", top, top) {
-        Err(LinesError::Report(report)) => report.as_bytes()
-            == b"specs:3: InvalidKeyword".as_slice(),
-        _ => false,
-    };
-    assert!(rt; is_reported);
+    assert!(rt; reports(rt.alloc(), b"a\nb\n:(foo)c\n", b"specs:3: InvalidKeyword"));
 }

@@ -131,11 +131,14 @@ struct ScriptedWriter<'a> {
 
 impl Write for ScriptedWriter<'_> {
     fn write(&mut self, buf: &[u8]) -> io::Result<usize> {
-        let answer = self.answers.get(self.calls).unwrap_or(&self.last);
+        let answer = match self.answers.get(self.calls) {
+            Some(answer) => *answer,
+            None => self.last,
+        };
         self.calls = self.calls.saturating_add(1);
         let most = match answer {
-            Ok(most) => buf.len().min(*most),
-            Err(fault) => return Err(io::Error::from(*fault)),
+            Ok(most) => buf.len().min(most),
+            Err(fault) => return Err(io::Error::from(fault)),
         };
         self.taken.extend_from_slice(&buf[..most])?;
         Ok(most)
