@@ -26,8 +26,11 @@ fn prefixes_and_directories_are_told(rt: HostRuntime) -> Result<(), Fail> {
             search.prefix_directory().as_bytes() == directory.as_bytes(),
             "{line}"
         );
-        let found = search.longest_common_directory().unwrap_or(BStr::new(b""));
-        assert!(rt; found.as_bytes() == longest.as_bytes(), "{line}");
+        let is_longest = match search.longest_common_directory() {
+            Some(directory) => directory.as_bytes() == longest.as_bytes(),
+            None => longest.is_empty(),
+        };
+        assert!(rt; is_longest, "{line}");
     }
     Ok(())
 }
