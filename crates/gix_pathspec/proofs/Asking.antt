@@ -15,7 +15,7 @@ use Rattle.gix_pathspec.specs.Matching.{fit, has_attributes, spec_matches, is_ch
 use Rattle.gix_pathspec.specs.Prefixes.{common_prefix, first_prefix_directory}
 use Rattle.gix_pathspec.specs.Tables.{stem_reaches}
 use Rattle.gix_pathspec.specs.Pruning.{reaches, can_match}
-use Rattle.gix_pathspec.specs.Skipping.{takes_whole, takes_rest, buries, holds_nothing, may_skip}
+use Rattle.gix_pathspec.specs.Skipping.{takes_whole, takes_rest, shadows, holds_nothing, may_skip}
 use Rattle.gix_pathspec.specs.Directories.{directory_matches, common_directory}
 use Rattle.gix_pathspec.specs.Search.{Numbered, Answer, search_of, answer, selects, specs_of}
 use Rattle.pathspec_pattern.proofs.Asking.{parse}
@@ -74,7 +74,7 @@ can_match_under prefix texts d is_dir = option_map (λ search. can_match (specs_
 
 -- whether a walk may skip what lies below a directory
 unfoldable pub skipped : List ℕ → List (List ℕ) → List ℕ → Option Bool
-unfolding searched may_skip holds_nothing takes_whole takes_rest buries can_match reaches stem_reaches common_prefix matches tokens_from
+unfolding searched may_skip holds_nothing takes_whole takes_rest shadows can_match reaches stem_reaches common_prefix matches tokens_from
 skipped prefix texts d = option_map (λ search. may_skip (specs_of search) d) (searched prefix texts)
 
 -- whether a path is chosen

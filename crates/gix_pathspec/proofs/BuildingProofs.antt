@@ -1,10 +1,9 @@
 -- Specs numbered, put in search order, and their common prefix.
-use Rattle.std.proofs.Common.{◌≡◌, ℕ, ◌+◌, ◌≤◌, arith, refl, sym, ◌∙◌, ap, subst, List, [], ◌∷◌, ◌++◌, length, take, drop, map, min, nat_eq, Some, None, Option, Ok, Err, Result, IfOk, IfErr, IfSome, MatchOption, unwrap_or, append_assoc, length-drop}
+use Rattle.std.proofs.Common.{◌≡◌, ℕ, ◌+◌, arith, refl, sym, ◌∙◌, ap, subst, List, [], ◌∷◌, ◌++◌, length, map, Some, None, Option, Ok, Err, Result, IfOk, IfErr, IfSome, MatchOption, unwrap_or, append_assoc}
 use Rattle.std.specs.Borrow.{Bor}
 use Rattle.std.specs.Option.{option_copied}
-use Rattle.std.specs.List.{filter, reduce, common_prefix_len}
+use Rattle.std.specs.List.{filter, reduce}
 use Rattle.std.proofs.lemmas.List.{map-append}
-use Rattle.std.proofs.lemmas.List.Sums.{common_prefix_len-le}
 use Rattle.pathspec_pattern.specs.declared.error.Error.{Error}
 use Rattle.pathspec_pattern.specs.declared.pattern.Pattern.{Pattern}
 use Rattle.gix_pathspec.specs.declared.search.init.BuildError.{BuildError}
@@ -18,7 +17,7 @@ use Rattle.gix_pathspec.specs.Patterns.{pattern_spec}
 use Rattle.gix_pathspec.specs.NormalForm.{normal_form}
 use Rattle.gix_pathspec.specs.Prefixes.{heads, common_front, common_prefix}
 use Rattle.gix_pathspec.specs.Search.{Numbered, at_number, numbered_from, in_search_order, search_of}
-use Rattle.gix_pathspec.specs.Building.{numbered_normal_form, with_next, or_prefix, search_of_numbered, AreMade, AddsNext, AreNumbered, TellsFault, Builds, IsErrorAt}
+use Rattle.gix_pathspec.specs.Building.{numbered_normal_form, with_next, default_numbered_to_prefix, search_of_numbered, AreMade, AddsNext, AreNumbered, TellsFault, Builds, IsErrorAt}
 
 -- ---- faults
 
@@ -144,17 +143,10 @@ module _ (prefix root : List ℕ) (specs : List Spec) where
   search-told (Err e) view ns h b = tells-on e _ _ (λ fault f. search-normal ns h ∙ f) b
 
 -- the search of normal forms is one of specs
-pub search-given : (prefix root : List ℕ) (ns given search : List Numbered) (are : AreNumbered prefix root ns) → or_prefix prefix root ns ≡ Ok given → search ≡ in_search_order given → search_of prefix root are.0 ≡ Ok search
+pub search-given : (prefix root : List ℕ) (ns given search : List Numbered) (are : AreNumbered prefix root ns) → default_numbered_to_prefix prefix root ns ≡ Ok given → search ≡ in_search_order given → search_of prefix root are.0 ≡ Ok search
 search-given prefix root ns given search are g s = search-normal prefix root are.0 ns are.1 ∙ (rw g (ap Ok (sym s)))
 
 -- ---- the common prefix
-
--- all of the shorter text is common
-pub front-whole : (xs ys : List ℕ) (n end : ℕ) → end ≡ min (length xs) (length ys) → n ≤ end → end ≤ n → common_prefix_len nat_eq xs ys ≡ n + common_prefix_len nat_eq (drop n xs) (drop n ys) → take end xs ≡ common_front xs ys
-front-whole xs ys n end m l g e =
-    let h = common_prefix_len-le nat_eq (drop n xs) (drop n ys) in
-    let whole : common_prefix_len nat_eq xs ys ≡ end = omega (arith, h.0, h.1, length-drop n xs, length-drop n ys) in
-    rw whole refl
 
 -- what is read behind a reference, where there is one
 pub read-or : (found : Option (Bor (List ℕ))) (other : Bor (List ℕ)) → (unwrap_or found other).now ≡ unwrap_or (option_copied found) other.now

@@ -14,7 +14,7 @@ use Rattle.gix_pathspec.specs.Matching.{fit, has_attributes, spec_matches}
 use Rattle.gix_pathspec.specs.Prefixes.{head}
 use Rattle.gix_pathspec.specs.Search.{Numbered, Answer, specs_of}
 use Rattle.gix_pathspec.specs.Found.{matched_kind, first_match, IsFirstMatch, answer_found}
-use Rattle.gix_pathspec.specs.Effort.{kind_at, IsFewCompared, IsLittleCompared, IsBySpec}
+use Rattle.gix_pathspec.specs.Effort.{kind_at, AreFewCompared, IsLittleCompared, IsBySpec}
 use Rattle.gix_pathspec.proofs.FoundProofs.{empty-nil, fit-headless, first_match-here, first_match-later}
 
 both_false : {A : Type 0} (o : Option A) (b : Bool) → None ≡ o → (is_some o && b) ≡ false
@@ -54,7 +54,7 @@ same-table table table' ns path is_dir i t = ap (λ u. kind_at u ns path is_dir 
 
 -- ---- how many heads are compared
 
-pub little-from : (ns : List Numbered) (path : List ℕ) (n : ℕ) → is_empty path ≡ false → IsFewCompared ns n → IsLittleCompared ns path n
+pub little-from : (ns : List Numbered) (path : List ℕ) (n : ℕ) → is_empty path ≡ false → AreFewCompared (length ns) n → IsLittleCompared ns path n
 little-from ns [] n e h b l = cc
 little-from ns (x ∷ path) n e h b l =
     let more : 2 * (b + 1) ≤ (length (x ∷ path) + 1) * (b + 1) = mul-le-mul_right {m = 2} {n = length (x ∷ path) + 1} (b + 1) (omega arith) in

@@ -20,7 +20,7 @@ use Rattle.gix_pathspec.specs.Prefixes.{head, common_prefix}
 use Rattle.gix_pathspec.specs.Search.{Numbered, Answer, specs_of, in_search_order, answer, answer_of, answer_with, selects}
 use Rattle.gix_pathspec.specs.Room.{attribute_names}
 use Rattle.gix_pathspec.specs.Found.{matched_kind, first_match, IsFirstMatch, IsFirstFound, answer_found}
-use Rattle.gix_pathspec.specs.Effort.{is_unasked}
+use Rattle.gix_pathspec.specs.Effort.{is_settled_early}
 use Rattle.gix_pathspec.specs.SelectionLaws.{SelectsChosen, SelectsCommon}
 use Rattle.gix_pathspec.proofs.SelectedProofs.{selects_chosen}
 use Rattle.gix_pathspec.proofs.HeadProofs.{fitted_begins_head}
@@ -152,7 +152,7 @@ no_front specs path h = at (filter is_include specs) refl
     at (s ∷ includes) e = some_filtered is_include specs s includes e
 
 -- a path that needs no look at the specs is settled by the nil pattern, or by none
-pub answer-unasked : (table : Table) (ns : List Numbered) (path : List ℕ) (is_dir : Bool) → is_unasked ns path ≡ true → answer_found ns path None ≡ answer table ns path is_dir
+pub answer-unasked : (table : Table) (ns : List Numbered) (path : List ℕ) (is_dir : Bool) → is_settled_early ns path ≡ true → answer_found ns path None ≡ answer table ns path is_dir
 unfolding answer
 answer-unasked table ns path is_dir h = at (is_empty path) refl (begins_with path (common_prefix (specs_of ns))) refl
   where
@@ -162,7 +162,7 @@ answer-unasked table ns path is_dir h = at (is_empty path) refl (begins_with pat
     at false e true is = let no : false ≡ true = rw (e, is) at h in cc
 
 -- another path isn't empty, and begins with the common prefix
-pub asked-parts : (ns : List Numbered) (path : List ℕ) → is_unasked ns path ≡ false → (is_empty path ≡ false) × (begins_with path (common_prefix (specs_of ns)) ≡ true)
+pub asked-parts : (ns : List Numbered) (path : List ℕ) → is_settled_early ns path ≡ false → (is_empty path ≡ false) × (begins_with path (common_prefix (specs_of ns)) ≡ true)
 asked-parts ns path h = both (is_empty path) (begins_with path (common_prefix (specs_of ns))) h
   where
     both : (e b : Bool) → (e || not b) ≡ false → (e ≡ false) × (b ≡ true)
@@ -170,7 +170,7 @@ asked-parts ns path h = both (is_empty path) (begins_with path (common_prefix (s
     both false true h = (refl, refl)
     both false false h = cc
 
-module _ (table : Table) (ns : List Numbered) (path : List ℕ) (is_dir : Bool) (asked : is_unasked ns path ≡ false) where
+module _ (table : Table) (ns : List Numbered) (path : List ℕ) (is_dir : Bool) (asked : is_settled_early ns path ≡ false) where
   answer-inside : answer_of ns path is_dir (first_match table ns path is_dir) ≡ answer table ns path is_dir
   unfolding answer
   answer-inside = let p = asked-parts ns path asked in rw (p.0, p.1) refl

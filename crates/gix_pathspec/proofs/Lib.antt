@@ -17,7 +17,7 @@ pub mod PruningNearProofs
 pub mod SharpPruningProofs
 pub mod SkipProofs
 pub mod VisitProofs
-pub mod TakerProofs
+pub mod SubtreeExcludeProofs
 pub mod SkipTableProofs
 pub mod SkipExactProofs
 pub mod DirectoryProofs

@@ -13,7 +13,7 @@ use Rattle.gix_pathspec.specs.Matching.{is_in_prefix_directory, takes_kind, is_v
 use Rattle.gix_pathspec.specs.Plain.{has_one_case}
 use Rattle.gix_pathspec.specs.Pruning.{reaches, can_match}
 use Rattle.gix_pathspec.specs.SelectionLaws.{NoNilPrefix, SpecPathsAreBytes}
-use Rattle.gix_pathspec.specs.Skipping.{fits_plainly, takes_whole, has_open_end, takes_rest, ignores_case_with, buries, is_live, holds_nothing, may_skip}
+use Rattle.gix_pathspec.specs.Skipping.{fits_plainly, takes_whole, has_open_end, takes_rest, ignores_case_with, shadows, is_unshadowed, holds_nothing, may_skip}
 use Rattle.gix_pathspec.specs.SkipLaws.{is_plain_spec, ArePlain, CaseAgrees, HoldsChosen, SkipIsExact}
 use Rattle.gix_pathspec.proofs.ChosenProofs.{list_any-contained, contained_where}
 use Rattle.gix_pathspec.proofs.MatchingProofs.{fitted_matches}
@@ -108,15 +108,15 @@ module _ (table : Table) (specs : List Spec) (d : List ℕ) (plain : ArePlain sp
       record { not_excluded = free_unmatched free; included = inl (i, c, n, sym (fitted_matches i (plain_of i c).no_attributes table d true) ∙ f) },
     )
 
-    -- no exclude buries the include
-    abbrev IsUnburied : Spec → Type 0
-    IsUnburied i = list_any (λ e. is_exclude e && buries e i) specs ≡ false
+    -- no exclude shadows the include
+    abbrev IsUnshadowed : Spec → Type 0
+    IsUnshadowed i = list_any (λ e. is_exclude e && shadows e i) specs ≡ false
 
     -- so none matches its path, case aside where the include has none
-    unburied_unmatched : (i : Spec) (x : List ℕ) → Contains specs i → is_include i ≡ true → always_matches i ≡ false → IsUnburied i → fold_case (ignores_case i) x ≡ fold_case (ignores_case i) i.path
+    unshadowed_unmatched : (i : Spec) (x : List ℕ) → Contains specs i → is_include i ≡ true → always_matches i ≡ false → IsUnshadowed i → fold_case (ignores_case i) x ≡ fold_case (ignores_case i) i.path
         → (e : Spec) → Contains specs e → is_exclude e ≡ true → spec_matches table e x (wants_directory i) ≡ false
-    unfolding buries
-    unburied_unmatched i x ci n a free same e c y = false_from_ne_true (spec_matches table e x (wants_directory i)) (λ m.
+    unfolding shadows
+    unshadowed_unmatched i x ci n a free same e c y = false_from_ne_true (spec_matches table e x (wants_directory i)) (λ m.
         let p = plain_of e c in
         let k = wants_directory i in
         let with_case = plain_case e i p.plain (agree i e ci c n y) in
@@ -124,12 +124,12 @@ module _ (table : Table) (specs : List Spec) (d : List ℕ) (plain : ArePlain sp
         let on_path = plainly-within e i.path k x k (within-exclude e i i.path k x k with_case (inl (sym same, λ t. t))) (plain_prefix e i.path k p.plain) on_x in
         let no_always = and_from (is_empty e.attributes) (not (always_matches i)) p.no_attributes (not_from_false (always_matches i) a) in
         let no_glob = and_from (is_empty e.attributes && not (always_matches i)) (not (has_wildcard i)) no_always (not_from_false (has_wildcard i) (plain_of i ci).plain.wild) in
-        both_ways (list_any (λ e. is_exclude e && buries e i) specs) free (list_any-contained (λ e. is_exclude e && buries e i) specs e c
-        (and_from (is_exclude e) (buries e i) y (and_from (is_empty e.attributes && not (always_matches i) && not (has_wildcard i) && ignores_case_with e i) (fits_plainly e i.path k)
+        both_ways (list_any (λ e. is_exclude e && shadows e i) specs) free (list_any-contained (λ e. is_exclude e && shadows e i) specs e c
+        (and_from (is_exclude e) (shadows e i) y (and_from (is_empty e.attributes && not (always_matches i) && not (has_wildcard i) && ignores_case_with e i) (fits_plainly e i.path k)
         (and_from (is_empty e.attributes && not (always_matches i) && not (has_wildcard i)) (ignores_case_with e i) no_glob with_case) on_path))))
 
     -- where its path lies below the directory, that path is chosen
-    chosen_below : (i : Spec) → Contains specs i → is_include i ≡ true → always_matches i ≡ false → IsUnburied i → IsBelow (fold_case (ignores_case i) i.path) (fold_case (ignores_case i) d) → HoldsChosen table specs d
+    chosen_below : (i : Spec) → Contains specs i → is_include i ≡ true → always_matches i ≡ false → IsUnshadowed i → IsBelow (fold_case (ignores_case i) i.path) (fold_case (ignores_case i) d) → HoldsChosen table specs d
     chosen_below i c n a free w =
         let rest = rest_after (ignores_case i) d i.path in
         let x = d ++ slash ∷ rest in
@@ -140,13 +140,13 @@ module _ (table : Table) (specs : List Spec) (d : List ℕ) (plain : ArePlain sp
           rest_after-bytes (ignores_case i) d i.path (paths i c) bytes,
           inr (rest, refl),
           record {
-            not_excluded = unburied_unmatched i x c n a free same;
+            not_excluded = unshadowed_unmatched i x c n a free same;
             included = inl (i, c, n, sym (fitted_matches i p.no_attributes table x (wants_directory i)) ∙ path-fits i x p.plain same);
           },
         )
 
-    -- an include that reaches the directory, and that no exclude buries, is enough
-    chosen_by : IsFree → (i : Spec) → Contains specs i → is_include i ≡ true → IsUnburied i → reaches i d (Some true) ≡ true → HoldsChosen table specs d
+    -- an include that reaches the directory, and that no exclude shadows, is enough
+    chosen_by : IsFree → (i : Spec) → Contains specs i → is_include i ≡ true → IsUnshadowed i → reaches i d (Some true) ≡ true → HoldsChosen table specs d
     chosen_by free i c n u r =
         let p = plain_of i c in
         elim (cases_Bool (always_matches i)) [
@@ -172,22 +172,22 @@ module _ (table : Table) (specs : List Spec) (d : List ℕ) (plain : ArePlain sp
     unfolding holds_nothing
     held filled h =
         let whole = λ (e : Spec). is_exclude e && takes_whole e d in
-        let into = λ (i : Spec). is_live specs i && reaches i d (Some true) in
-        let all_buried = list_any is_include specs && not (list_any into specs) in
-        let one_of_these = not (can_match specs d (Some true)) || list_any whole specs || all_buried in
+        let into = λ (i : Spec). is_unshadowed specs i && reaches i d (Some true) in
+        let all_shadowed = list_any is_include specs && not (list_any into specs) in
+        let one_of_these = not (can_match specs d (Some true)) || list_any whole specs || all_shadowed in
         let none_of_these : one_of_these ≡ false = elim (and_cases (not (is_empty d)) one_of_these h) [
           | inl e ↦ absurd (filled (empty_is_nil d (not-false (is_empty d) e)))
           | inr n ↦ n
         ] in
-        let p = or_parts (not (can_match specs d (Some true)) || list_any whole specs) all_buried none_of_these in
+        let p = or_parts (not (can_match specs d (Some true)) || list_any whole specs) all_shadowed none_of_these in
         let free = (or_parts (not (can_match specs d (Some true))) (list_any whole specs) p.0).1 in
         elim (and_cases (list_any is_include specs) (not (list_any into specs)) p.1) [
           | inl n ↦ chosen_alone free n
           | inr y ↦
               let f = contained_where into specs (not-false (list_any into specs) y) in
-              let l = and_parts (is_live specs f.0) (reaches f.0 d (Some true)) f.2 in
-              let m = and_parts (is_include f.0) (not (list_any (λ e. is_exclude e && buries e f.0) specs)) l.0 in
-              chosen_by free f.0 f.1 m.0 (not-true (list_any (λ e. is_exclude e && buries e f.0) specs) m.1) l.1
+              let l = and_parts (is_unshadowed specs f.0) (reaches f.0 d (Some true)) f.2 in
+              let m = and_parts (is_include f.0) (not (list_any (λ e. is_exclude e && shadows e f.0) specs)) l.0 in
+              chosen_by free f.0 f.1 m.0 (not-true (list_any (λ e. is_exclude e && shadows e f.0) specs) m.1) l.1
         ]
 
 -- what may not be skipped isn't said to hold nothing

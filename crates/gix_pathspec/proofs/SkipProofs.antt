@@ -24,7 +24,7 @@ use Rattle.gix_pathspec.specs.Plain.{has_one_case}
 use Rattle.gix_pathspec.specs.Pruning.{reaches, can_match}
 use Rattle.gix_pathspec.specs.SelectionLaws.{NoNilPrefix}
 use Rattle.pathspec_glob.specs.OpenEnds.{is_any_run, is_open}
-use Rattle.gix_pathspec.specs.Skipping.{fits_plainly, takes_whole, has_open_end, takes_rest, ignores_case_with, buries, is_live, holds_nothing, may_skip}
+use Rattle.gix_pathspec.specs.Skipping.{fits_plainly, takes_whole, has_open_end, takes_rest, ignores_case_with, shadows, is_unshadowed, holds_nothing, may_skip}
 use Rattle.gix_pathspec.specs.SkipLaws.{IsInside, SkippedIsNotChosen, NothingIsChosen, SkippedStays, SkipsMore}
 use Rattle.gix_pathspec.proofs.BeginsProofs.{one_of_four, which_of_four, is_below-from_IsBelow, IsBelow-from_is_below, folded-append, folded-slash}
 use Rattle.gix_pathspec.proofs.ChosenProofs.{list_any-contained, contained_where}
@@ -214,7 +214,7 @@ rest-matches table s d y k h b =
     let by_glob = and_from (has_wildcard s && glob_matches s.mode s y) (takes_kind s k) (and_from (has_wildcard s) (glob_matches s.mode s y) r.2 in_y) (or_left (not (wants_directory s)) k r.1) in
     sym (fitted_matches s r.0 table y k) ∙ fits-from_ways s y k (keeps_within s y k d true (inr b) q.1) (inr (inl by_glob))
 
--- ---- a buried include
+-- ---- a shadowed include
 
 -- where the include ignores case, the exclude has no prefix directory and ignores it too; else case counts for the include
 case_ways : (e i : Spec) → ignores_case_with e i ≡ true → (ignores_case i ≡ false) ⊎ ((ignores_case e ≡ ignores_case i) × (is_empty (prefix_directory e) ≡ true))
@@ -260,10 +260,10 @@ within-path i x k a w h =
       ]
     ]
 
--- so an exclude that buries an include matches all that the include fits
-buried-matches : (table : Table) (e i : Spec) (x : List ℕ) (k : Bool) → buries e i ≡ true → fits i x k ≡ true → spec_matches table e x k ≡ true
-unfolding buries
-buried-matches table e i x k h g =
+-- so an exclude that shadows an include matches all that the include fits
+shadowed-matches : (table : Table) (e i : Spec) (x : List ℕ) (k : Bool) → shadows e i ≡ true → fits i x k ≡ true → spec_matches table e x k ≡ true
+unfolding shadows
+shadowed-matches table e i x k h g =
     let j = wants_directory i in
     let p = all_three (is_empty e.attributes && not (always_matches i) && not (has_wildcard i)) (ignores_case_with e i) (fits_plainly e i.path j) h in
     let q = all_three (is_empty e.attributes) (not (always_matches i)) (not (has_wildcard i)) p.0 in
@@ -281,12 +281,12 @@ pub nothing_is_chosen : (table : Table) (specs : List Spec) → NoNilPrefix spec
 unfolding holds_nothing
 nothing_is_chosen table specs no_nil d h x k at c =
     let whole = λ (e : Spec). is_exclude e && takes_whole e d in
-    let burying = λ (i : Spec). λ (e : Spec). is_exclude e && buries e i in
-    let into = λ (i : Spec). is_live specs i && reaches i d (Some true) in
+    let shadowing = λ (i : Spec). λ (e : Spec). is_exclude e && shadows e i in
+    let into = λ (i : Spec). is_unshadowed specs i && reaches i d (Some true) in
     let below = at_or_below x d k at in
-    let all_buried = list_any is_include specs && not (list_any into specs) in
-    let held = (and_parts (not (is_empty d)) (not (can_match specs d (Some true)) || list_any whole specs || all_buried) h).1 in
-    elim (which_of_three (not (can_match specs d (Some true))) (list_any whole specs) all_buried held) [
+    let all_shadowed = list_any is_include specs && not (list_any into specs) in
+    let held = (and_parts (not (is_empty d)) (not (can_match specs d (Some true)) || list_any whole specs || all_shadowed) h).1 in
+    elim (which_of_three (not (can_match specs d (Some true))) (list_any whole specs) all_shadowed held) [
       | inl n ↦ pruned_is_not_chosen table specs no_nil d (Some true) (λ q. cc) (not-true (can_match specs d (Some true)) n) x k below c
       | inr w ↦ elim w [
         | inl e ↦
@@ -300,14 +300,14 @@ nothing_is_chosen table specs no_nil d h x k at c =
               | inl m ↦
                   let g = fits-from_spec_matches table m.0 x k m.3 in
                   let r = reaches-dir m.0 d x k (Some true) (λ q. cc) below g in
-                  elim (cases_Bool (list_any (burying m.0) specs)) [
+                  elim (cases_Bool (list_any (shadowing m.0) specs)) [
                     | inl t ↦
-                        let f = contained_where (burying m.0) specs t in
-                        let p = and_parts (is_exclude f.0) (buries f.0 m.0) f.2 in
-                        excluded_not_chosen table specs f.0 x k f.1 p.0 (buried-matches table f.0 m.0 x k p.1 g) c
+                        let f = contained_where (shadowing m.0) specs t in
+                        let p = and_parts (is_exclude f.0) (shadows f.0 m.0) f.2 in
+                        excluded_not_chosen table specs f.0 x k f.1 p.0 (shadowed-matches table f.0 m.0 x k p.1 g) c
                     | inr t ↦
                         both_ways (list_any into specs) (not-true (list_any into specs) q.1) (list_any-contained into specs m.0 m.1
-                        (and_from (is_live specs m.0) (reaches m.0 d (Some true)) (and_from (is_include m.0) (not (list_any (burying m.0) specs)) m.2 (not_from_false (list_any (burying m.0) specs) t)) r))
+                        (and_from (is_unshadowed specs m.0) (reaches m.0 d (Some true)) (and_from (is_include m.0) (not (list_any (shadowing m.0) specs)) m.2 (not_from_false (list_any (shadowing m.0) specs) t)) r))
                   ]
             ]
       ]

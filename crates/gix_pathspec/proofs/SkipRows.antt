@@ -48,14 +48,14 @@ unfolding skipped
 rest = refl
 
 -- excludes bury each include that reaches the directory, or not each
-buried : IsTable (λ (r : SkipRow). skipped r.0 r.1 r.2) (λ r. r.3) (
+shadowed : IsTable (λ (r : SkipRow). skipped r.0 r.1 r.2) (λ r. r.3) (
     ([], codes "a/b" ∷ codes ":!a/b" ∷ [], codes "a", Some true) ∷
     ([], codes "a/b/c" ∷ codes ":!a/b" ∷ [], codes "a", Some true) ∷
     ([], codes "a/b" ∷ codes "a/c" ∷ codes ":!a/b" ∷ [], codes "a", Some false) ∷
     ([], codes "a/b/" ∷ codes ":!a/b/" ∷ [], codes "a", Some true) ∷
     [])
 unfolding skipped
-buried = refl
+shadowed = refl
 
 -- ---- the empty path
 
@@ -111,9 +111,9 @@ unfolding chosen_of
 file_of_directory_exclude = refl
 
 -- so it doesn't bury an include that takes a file
-file_is_live : skipped [] (codes "a/b" ∷ codes ":!a/b/" ∷ []) (codes "a") ≡ Some false
+file_is_unshadowed : skipped [] (codes "a/b" ∷ codes ":!a/b/" ∷ []) (codes "a") ≡ Some false
 unfolding skipped
-file_is_live = refl
+file_is_unshadowed = refl
 
 -- the file is chosen
 file_beside_directory_exclude : chosen_of [] (codes "a/b" ∷ codes ":!a/b/" ∷ []) (codes "a/b") false ≡ Some true
@@ -139,7 +139,7 @@ no_letters : skipped [] (codes ":(icase)a/1" ∷ codes ":!a/1" ∷ []) (codes "a
 unfolding skipped
 no_letters = refl
 
--- an include with a wildcard isn't buried
-glob_is_live : skipped [] (codes "a/b/*.c" ∷ codes ":!a/b" ∷ []) (codes "a") ≡ Some false
+-- an include with a wildcard isn't shadowed
+glob_is_unshadowed : skipped [] (codes "a/b/*.c" ∷ codes ":!a/b" ∷ []) (codes "a") ≡ Some false
 unfolding skipped
-glob_is_live = refl
+glob_is_unshadowed = refl

@@ -4,20 +4,19 @@ use Rattle.std.proofs.lemmas.Bool.{and_parts, and_from, or_cases, or_left, or_ri
 use Rattle.std.proofs.lemmas.List.Elements.{Contains-push, Contains-append_left, Contains-append_right}
 use Rattle.std.specs.List.{list_any}
 use Rattle.gix_pathspec.specs.Bytes.{slash, is_empty}
-use Rattle.gix_pathspec.specs.PathTables.{PathParts, path_takes}
+use Rattle.gix_pathspec.specs.Tables.{StemParts, path_takes}
 use Rattle.gix_pathspec.specs.Tables.{stem_reaches}
 use Rattle.gix_pathspec.specs.Specs.{Spec, is_exclude, is_include, ignores_case, wants_directory, always_matches, has_wildcard, prefix_directory}
 use Rattle.gix_pathspec.specs.Matching.{is_in_prefix_directory, glob_matches, is_verbatim_match, is_prefix_match}
 use Rattle.gix_pathspec.specs.Plain.{has_one_case}
 use Rattle.gix_pathspec.specs.Prefixes.{common_prefix}
 use Rattle.gix_pathspec.specs.Pruning.{stem_of, reaches, agree, is_total_exclude, can_match}
-use Rattle.gix_pathspec.specs.Reach.{is_tabled, path_of, taken_paths, is_buried, has_stem, stems_of, reaches_live}
-use Rattle.gix_pathspec.specs.Skipping.{takes_whole, takes_rest, has_open_end, buries, is_live, holds_nothing, may_skip, HaveOneCase}
+use Rattle.gix_pathspec.specs.Reach.{is_tabled, path_of, taken_paths, is_shadowed, has_stem, stems_of, reaches_unshadowed}
+use Rattle.gix_pathspec.specs.Skipping.{takes_whole, takes_rest, has_open_end, shadows, is_unshadowed, holds_nothing, may_skip, HaveOneCase}
 use Rattle.gix_pathspec.specs.SkipTables.{holds_nothing_by_tables, skips_by_tables}
-use Rattle.gix_pathspec.specs.Takers.{is_taker, takers_of, taker_takes}
+use Rattle.gix_pathspec.specs.SubtreeExcludes.{is_subtree_exclude, subtree_excludes_of, covers}
 use Rattle.gix_pathspec.proofs.ReachProofs.{reached-by-stems}
-use Rattle.pathspec_heads.proofs.StemProofs.{any-ext}
-use Rattle.pathspec_heads.proofs.TableProofs.{any-or, any-kept}
+use Rattle.pathspec_heads.proofs.AnyProofs.{any-ext, any-or, any-kept}
 
 -- ---- tests of lists
 
@@ -53,9 +52,9 @@ one_case-prefix s path is_dir h = here (ignores_case s) (is_empty (prefix_direct
 
 module _ (d : List ℕ) where
   -- an exclude takes every path, or stands in the table and takes this one, or is asked and takes it, just where it takes every path, or this one whole, or its rest
-  taken-one : (s : Spec) → (is_total_exclude s || is_tabled s && path_takes (path_of s) d true || is_taker s && taker_takes s d)
+  taken-one : (s : Spec) → (is_total_exclude s || is_tabled s && path_takes (path_of s) d true || is_subtree_exclude s && covers s d)
       ≡ (is_total_exclude s || is_exclude s && takes_whole s d || is_exclude s && takes_rest s d)
-  unfolding takes_whole takes_rest taker_takes
+  unfolding takes_whole takes_rest covers
   taken-one s = here (is_exclude s) (is_empty s.attributes) (always_matches s) (has_one_case s) (not (wants_directory s)) (has_wildcard s) (has_open_end s.mode s) (is_in_prefix_directory s d true) (glob_matches s.mode s (d ++ slash ∷ [])) (is_verbatim_match s d true) (is_prefix_match s d) (one_case-prefix s d true)
     where
       with_case : (v p f w o g : Bool) → ((v || p) || (f && w && o || false) && ((f && w && o || false) && ((v || p) || f && w && true && o && g))) ≡ ((v || p) || f && w && true && o && g)
@@ -83,27 +82,27 @@ module _ (d : List ℕ) where
       here true true false false f w o k g v p h = without_case k v p f w o g
 
   -- so of lists
-  taken-all : (specs : List Spec) → (list_any is_total_exclude specs || list_any (λ p. path_takes p d true) (taken_paths specs) || list_any (λ s. taker_takes s d) (takers_of specs))
+  taken-all : (specs : List Spec) → (list_any is_total_exclude specs || list_any (λ p. path_takes p d true) (taken_paths specs) || list_any (λ s. covers s d) (subtree_excludes_of specs))
       ≡ (list_any is_total_exclude specs || list_any (λ e. is_exclude e && takes_whole e d) specs || list_any (λ e. is_exclude e && takes_rest e d) specs)
   taken-all specs =
       let tabled = any-kept (λ p. path_takes p d true) path_of is_tabled (λ s. path_takes (path_of s) d true) (λ s h. refl) specs in
-      let asked = any-filter is_taker (λ s. taker_takes s d) specs in
+      let asked = any-filter is_subtree_exclude (λ s. covers s d) specs in
       rw (tabled, asked)
-      (sym (any-three is_total_exclude (λ s. is_tabled s && path_takes (path_of s) d true) (λ s. is_taker s && taker_takes s d) specs)
-      ∙ (any-ext (λ s. is_total_exclude s || is_tabled s && path_takes (path_of s) d true || is_taker s && taker_takes s d) (λ s. is_total_exclude s || is_exclude s && takes_whole s d || is_exclude s && takes_rest s d) taken-one specs
+      (sym (any-three is_total_exclude (λ s. is_tabled s && path_takes (path_of s) d true) (λ s. is_subtree_exclude s && covers s d) specs)
+      ∙ (any-ext (λ s. is_total_exclude s || is_tabled s && path_takes (path_of s) d true || is_subtree_exclude s && covers s d) (λ s. is_total_exclude s || is_exclude s && takes_whole s d || is_exclude s && takes_rest s d) taken-one specs
       ∙ any-three is_total_exclude (λ e. is_exclude e && takes_whole e d) (λ e. is_exclude e && takes_rest e d) specs))
 
 -- ---- what excludes bury
 
 module _ (i : Spec) where
   -- the path of an include is taken, as what the include wants, by one that ignores case where the include does
-  abbrev hides : PathParts → Bool
+  abbrev hides : StemParts → Bool
   hides p = (not (ignores_case i) || p.ignores_case) && path_takes p i.path (wants_directory i)
 
-  -- an exclude takes every path or buries the include just where it takes every path, or stands in the table and takes the include's
-  buried-one : (e : Spec) → (is_total_exclude e || is_exclude e && buries e i) ≡ (is_total_exclude e || not (always_matches i || has_wildcard i) && (is_tabled e && hides (path_of e)))
-  unfolding buries
-  buried-one e = here (is_exclude e) (is_empty e.attributes) (always_matches e) (has_one_case e) (always_matches i) (has_wildcard i) (not (ignores_case i) || ignores_case e) (is_in_prefix_directory e i.path (wants_directory i)) (is_verbatim_match e i.path (wants_directory i)) (is_prefix_match e i.path) (one_case-prefix e i.path (wants_directory i))
+  -- an exclude takes every path or shadows the include just where it takes every path, or stands in the table and takes the include's
+  shadowed-one : (e : Spec) → (is_total_exclude e || is_exclude e && shadows e i) ≡ (is_total_exclude e || not (always_matches i || has_wildcard i) && (is_tabled e && hides (path_of e)))
+  unfolding shadows
+  shadowed-one e = here (is_exclude e) (is_empty e.attributes) (always_matches e) (has_one_case e) (always_matches i) (has_wildcard i) (not (ignores_case i) || ignores_case e) (is_in_prefix_directory e i.path (wants_directory i)) (is_verbatim_match e i.path (wants_directory i)) (is_prefix_match e i.path) (one_case-prefix e i.path (wants_directory i))
     where
       none : (n : Bool) → false ≡ (n && false)
       none true = refl
@@ -121,14 +120,14 @@ module _ (i : Spec) where
       here true true false true false false true k v p h = rw (h refl) refl
       here true true false true false false false k v p h = refl
 
-  -- where no exclude takes every path, one buries the include just where the table says so
-  buried-all : (specs : List Spec) → list_any is_total_exclude specs ≡ false → list_any (λ e. is_exclude e && buries e i) specs ≡ is_buried specs i
-  buried-all specs none =
+  -- where no exclude takes every path, one shadows the include just where the table says so
+  shadowed-all : (specs : List Spec) → list_any is_total_exclude specs ≡ false → list_any (λ e. is_exclude e && shadows e i) specs ≡ is_shadowed specs i
+  shadowed-all specs none =
       let plain = not (always_matches i || has_wildcard i) in
       let tabled = any-kept hides path_of is_tabled (λ e. hides (path_of e)) (λ e h. refl) specs in
-      let by_all : (list_any is_total_exclude specs || list_any (λ e. is_exclude e && buries e i) specs) ≡ (list_any is_total_exclude specs || plain && list_any hides (taken_paths specs)) =
-      sym (any-or is_total_exclude (λ e. is_exclude e && buries e i) specs)
-      ∙ (any-ext (λ e. is_total_exclude e || is_exclude e && buries e i) (λ e. is_total_exclude e || plain && (is_tabled e && hides (path_of e))) buried-one specs
+      let by_all : (list_any is_total_exclude specs || list_any (λ e. is_exclude e && shadows e i) specs) ≡ (list_any is_total_exclude specs || plain && list_any hides (taken_paths specs)) =
+      sym (any-or is_total_exclude (λ e. is_exclude e && shadows e i) specs)
+      ∙ (any-ext (λ e. is_total_exclude e || is_exclude e && shadows e i) (λ e. is_total_exclude e || plain && (is_tabled e && hides (path_of e))) shadowed-one specs
       ∙ (any-or is_total_exclude (λ e. plain && (is_tabled e && hides (path_of e))) specs
       ∙ ap (λ b. list_any is_total_exclude specs || b) (any-and plain (λ e. is_tabled e && hides (path_of e)) specs ∙ ap (λ b. plain && b) (sym tabled)))) in
       without (list_any is_total_exclude specs) _ _ none by_all
@@ -140,37 +139,37 @@ module _ (i : Spec) where
 -- ---- what includes reach
 
 module _ (d : List ℕ) (is_dir : Option Bool) where
-  -- an include that the table doesn't call buried reaches d just where it always matches, or its stem reaches d
-  live-one : (all : List Spec) (i : Spec) → ((is_include i && not (is_buried all i)) && reaches i d is_dir) ≡ (is_include i && always_matches i || has_stem false all i && stem_reaches (stem_of i) d is_dir)
+  -- an include that the table doesn't call shadowed reaches d just where it always matches, or its stem reaches d
+  reachable-one : (all : List Spec) (i : Spec) → ((is_include i && not (is_shadowed all i)) && reaches i d is_dir) ≡ (is_include i && always_matches i || has_stem false all i && stem_reaches (stem_of i) d is_dir)
   unfolding reaches
-  live-one all i = here (is_include i) (always_matches i) (has_wildcard i) (list_any (hides i) (taken_paths all)) (stem_reaches (stem_of i) d is_dir)
+  reachable-one all i = here (is_include i) (always_matches i) (has_wildcard i) (list_any (hides i) (taken_paths all)) (stem_reaches (stem_of i) d is_dir)
     where
       here : (i m w b r : Bool) → ((i && not (not (m || w) && b)) && (m || r)) ≡ (i && m || (i && not m && not (not (m || w) && b)) && r)
       here false m w b r = refl
       here true true w b r = refl
       here true false w b r = refl
 
-  -- where no exclude takes every path, an include that isn't buried reaches d just where the table says so
-  live-all : (specs : List Spec) → list_any is_total_exclude specs ≡ false → list_any (λ i. is_live specs i && reaches i d is_dir) specs ≡ reaches_live specs d is_dir
-  live-all specs none =
-      any-ext (λ i. is_live specs i && reaches i d is_dir) (λ i. is_include i && always_matches i || has_stem false specs i && stem_reaches (stem_of i) d is_dir) one specs
+  -- where no exclude takes every path, an include that isn't shadowed reaches d just where the table says so
+  reachable-all : (specs : List Spec) → list_any is_total_exclude specs ≡ false → list_any (λ i. is_unshadowed specs i && reaches i d is_dir) specs ≡ reaches_unshadowed specs d is_dir
+  reachable-all specs none =
+      any-ext (λ i. is_unshadowed specs i && reaches i d is_dir) (λ i. is_include i && always_matches i || has_stem false specs i && stem_reaches (stem_of i) d is_dir) one specs
       ∙ (any-or (λ i. is_include i && always_matches i) (λ i. has_stem false specs i && stem_reaches (stem_of i) d is_dir) specs
       ∙ ap (λ b. list_any (λ s. is_include s && always_matches s) specs || b) (sym (any-kept (λ t. stem_reaches t d is_dir) stem_of (has_stem false specs) (λ i. stem_reaches (stem_of i) d is_dir) (λ i h. refl) specs)))
     where
-      one : (i : Spec) → (is_live specs i && reaches i d is_dir) ≡ (is_include i && always_matches i || has_stem false specs i && stem_reaches (stem_of i) d is_dir)
-      one i = ap (λ b. (is_include i && not b) && reaches i d is_dir) (buried-all i specs none) ∙ live-one specs i
+      one : (i : Spec) → (is_unshadowed specs i && reaches i d is_dir) ≡ (is_include i && always_matches i || has_stem false specs i && stem_reaches (stem_of i) d is_dir)
+      one i = ap (λ b. (is_include i && not b) && reaches i d is_dir) (shadowed-all i specs none) ∙ reachable-one specs i
 
 -- ---- what may be skipped
 
 -- from what each part says to what all of them do
-by_parts : (no_specs at_top agrees total by_path asked whole rest has_include live unburied reached buried : Bool) → no_specs ≡ false → at_top ≡ false → (total || by_path || asked) ≡ (total || whole || rest) → (total ≡ false → unburied ≡ live) → reached ≡ (live || buried)
-    → (not agrees || total || by_path || has_include && not live || asked)
-    ≡ (not at_top && (not (no_specs || at_top || agrees && not total && (reached || not has_include)) || whole || has_include && not unburied) || not at_top && rest)
-by_parts true at_top agrees total by_path asked whole rest has_include live unburied reached buried e f taken same by = cc
-by_parts false true agrees total by_path asked whole rest has_include live unburied reached buried e f taken same by = cc
-by_parts false false false total by_path asked whole rest has_include live unburied reached buried e f taken same by = refl
-by_parts false false true true by_path asked whole rest has_include live unburied reached buried e f taken same by = refl
-by_parts false false true false by_path asked whole rest has_include live unburied reached buried e f taken same by = here has_include live taken (same refl) by
+by_parts : (no_specs at_top agrees total by_path asked whole rest has_include reachable unshadowed reached shadowed : Bool) → no_specs ≡ false → at_top ≡ false → (total || by_path || asked) ≡ (total || whole || rest) → (total ≡ false → unshadowed ≡ reachable) → reached ≡ (reachable || shadowed)
+    → (not agrees || total || by_path || has_include && not reachable || asked)
+    ≡ (not at_top && (not (no_specs || at_top || agrees && not total && (reached || not has_include)) || whole || has_include && not unshadowed) || not at_top && rest)
+by_parts true at_top agrees total by_path asked whole rest has_include reachable unshadowed reached shadowed e f taken same by = cc
+by_parts false true agrees total by_path asked whole rest has_include reachable unshadowed reached shadowed e f taken same by = cc
+by_parts false false false total by_path asked whole rest has_include reachable unshadowed reached shadowed e f taken same by = refl
+by_parts false false true true by_path asked whole rest has_include reachable unshadowed reached shadowed e f taken same by = refl
+by_parts false false true false by_path asked whole rest has_include reachable unshadowed reached shadowed e f taken same by = here has_include reachable taken (same refl) by
   where
     always : (a b c d : Bool) → (a || true || b) ≡ (c || true || d)
     always true b true d = refl
@@ -188,22 +187,22 @@ by_parts false false true false by_path asked whole rest has_include live unburi
     either true t = never by_path asked whole rest t
     either false t = never by_path asked whole rest t
 
-    here : (i l : Bool) → (by_path || asked) ≡ (whole || rest) → unburied ≡ l → reached ≡ (l || buried)
-        → (by_path || i && not l || asked) ≡ (not (reached || not i) || whole || i && not unburied || rest)
+    here : (i l : Bool) → (by_path || asked) ≡ (whole || rest) → unshadowed ≡ l → reached ≡ (l || shadowed)
+        → (by_path || i && not l || asked) ≡ (not (reached || not i) || whole || i && not unshadowed || rest)
     here false l t u r = either reached t
     here true true t u r = rw (u, r) (never by_path asked whole rest t)
     here true false t u r = rw u (always by_path asked (not (reached || false) || whole) rest)
 
 -- the same where there are specs
-skips-some : (specs : List Spec) (d : List ℕ) → is_empty specs ≡ false → is_empty d ≡ false → (skips_by_tables specs d || list_any (λ s. taker_takes s d) (takers_of specs)) ≡ may_skip specs d
+skips-some : (specs : List Spec) (d : List ℕ) → is_empty specs ≡ false → is_empty d ≡ false → (skips_by_tables specs d || list_any (λ s. covers s d) (subtree_excludes_of specs)) ≡ may_skip specs d
 unfolding may_skip holds_nothing can_match
 skips-some specs d some filled =
-    by_parts (is_empty specs) (is_empty d) (agree d (common_prefix specs)) (list_any is_total_exclude specs) (list_any (λ p. path_takes p d true) (taken_paths specs)) (list_any (λ s. taker_takes s d) (takers_of specs))
-    (list_any (λ e. is_exclude e && takes_whole e d) specs) (list_any (λ e. is_exclude e && takes_rest e d) specs) (list_any is_include specs) (reaches_live specs d (Some true)) (list_any (λ i. is_live specs i && reaches i d (Some true)) specs)
-    (list_any (λ s. is_include s && reaches s d (Some true)) specs) (list_any (λ t. stem_reaches t d (Some true)) (stems_of true specs specs)) some filled (taken-all d specs) (live-all d (Some true) specs) (reached-by-stems d (Some true) specs)
+    by_parts (is_empty specs) (is_empty d) (agree d (common_prefix specs)) (list_any is_total_exclude specs) (list_any (λ p. path_takes p d true) (taken_paths specs)) (list_any (λ s. covers s d) (subtree_excludes_of specs))
+    (list_any (λ e. is_exclude e && takes_whole e d) specs) (list_any (λ e. is_exclude e && takes_rest e d) specs) (list_any is_include specs) (reaches_unshadowed specs d (Some true)) (list_any (λ i. is_unshadowed specs i && reaches i d (Some true)) specs)
+    (list_any (λ s. is_include s && reaches s d (Some true)) specs) (list_any (λ t. stem_reaches t d (Some true)) (stems_of true specs specs)) some filled (taken-all d specs) (reachable-all d (Some true) specs) (reached-by-stems d (Some true) specs)
 
 -- What the tables of a search and its excludes that are asked one by one say is whether a walk may skip the directory.
-pub skips-as-defined : (specs : List Spec) (d : List ℕ) → is_empty d ≡ false → (skips_by_tables specs d || list_any (λ s. taker_takes s d) (takers_of specs)) ≡ may_skip specs d
+pub skips-as-defined : (specs : List Spec) (d : List ℕ) → is_empty d ≡ false → (skips_by_tables specs d || list_any (λ s. covers s d) (subtree_excludes_of specs)) ≡ may_skip specs d
 unfolding common_prefix may_skip holds_nothing can_match
 skips-as-defined [] d filled = rw filled refl
 skips-as-defined (s ∷ ss) d filled = skips-some (s ∷ ss) d refl filled
@@ -239,8 +238,8 @@ tabled-all d specs h = any-weaker (λ s. is_tabled s && path_takes (path_of s) d
     ]
 
 -- from what tables say to what a directory holds, where there are specs
-held-by_parts : (agrees total by_path whole has_include live unburied reached : Bool) → (by_path ≡ true → whole ≡ true) → (total ≡ false → unburied ≡ live) → (not agrees || total || by_path || has_include && not live) ≡ true
-    → (not (agrees && not total && reached) || whole || has_include && not unburied) ≡ true
+held-by_parts : (agrees total by_path whole has_include reachable unshadowed reached : Bool) → (by_path ≡ true → whole ≡ true) → (total ≡ false → unshadowed ≡ reachable) → (not agrees || total || by_path || has_include && not reachable) ≡ true
+    → (not (agrees && not total && reached) || whole || has_include && not unshadowed) ≡ true
 held-by_parts false total by_path whole i l u r w same h = refl
 held-by_parts true true by_path whole i l u r w same h = refl
 held-by_parts true false true whole i l u r w same h = or_left (not r || whole) (i && not u) (or_right (not r) whole (w refl))
@@ -257,7 +256,7 @@ tables-hold_nothing specs d h =
     held [] some t = cc
     held (s ∷ ss) some t =
         let all = s ∷ ss in
-        let parts = held-by_parts (agree d (common_prefix all)) (list_any is_total_exclude all) (list_any (λ p. path_takes p d true) (taken_paths all)) (list_any (λ e. is_exclude e && takes_whole e d) all) (list_any is_include all) (reaches_live all d (Some true)) (list_any (λ i. is_live all i && reaches i d (Some true)) all) _ (tabled-all d all) (live-all d (Some true) all) t in
+        let parts = held-by_parts (agree d (common_prefix all)) (list_any is_total_exclude all) (list_any (λ p. path_takes p d true) (taken_paths all)) (list_any (λ e. is_exclude e && takes_whole e d) all) (list_any is_include all) (reaches_unshadowed all d (Some true)) (list_any (λ i. is_unshadowed all i && reaches i d (Some true)) all) _ (tabled-all d all) (reachable-all d (Some true) all) t in
         rw (not-true (is_empty d) some) parts
 
 -- So a walk may skip it.
@@ -291,8 +290,8 @@ whole-all d specs one h =
     ]
 
 -- from what a directory holds to what tables say, where there are specs
-tables-by_parts : (agrees total by_path whole has_include live unburied reached buried : Bool) → (whole ≡ true → (total || by_path) ≡ true) → (total ≡ false → unburied ≡ live) → reached ≡ (live || buried)
-    → (not (agrees && not total && (reached || not has_include)) || whole || has_include && not unburied) ≡ true → (not agrees || total || by_path || has_include && not live) ≡ true
+tables-by_parts : (agrees total by_path whole has_include reachable unshadowed reached shadowed : Bool) → (whole ≡ true → (total || by_path) ≡ true) → (total ≡ false → unshadowed ≡ reachable) → reached ≡ (reachable || shadowed)
+    → (not (agrees && not total && (reached || not has_include)) || whole || has_include && not unshadowed) ≡ true → (not agrees || total || by_path || has_include && not reachable) ≡ true
 tables-by_parts false total by_path whole i l u r b w same by h = refl
 tables-by_parts true true by_path whole i l u r b w same by h = refl
 tables-by_parts true false true whole i l u r b w same by h = refl
@@ -302,8 +301,8 @@ tables-by_parts true false false false false l u false b w same by h = cc
 tables-by_parts true false false false true false u r b w same by h = refl
 tables-by_parts true false false false true true u r b w same by h =
     let reached : r ≡ true = by in
-    let unburied : u ≡ true = same refl in
-    let no : false ≡ true = rw (reached, unburied) at h in cc
+    let unshadowed : u ≡ true = same refl in
+    let no : false ≡ true = rw (reached, unshadowed) at h in cc
 
 -- Where all excludes have one case, tables tell of each directory that it holds nothing.
 pub held-by-tables : (specs : List Spec) (d : List ℕ) → HaveOneCase specs → holds_nothing specs d ≡ true → holds_nothing_by_tables specs d ≡ true
@@ -313,9 +312,9 @@ held-by-tables specs d one h =
     and_from (not (is_empty d)) (skips_by_tables specs d) p.0 (held specs one p.0 p.1)
   where
     held : (ss : List Spec) → HaveOneCase ss → not (is_empty d) ≡ true
-        → (not (can_match ss d (Some true)) || list_any (λ e. is_exclude e && takes_whole e d) ss || list_any is_include ss && not (list_any (λ i. is_live ss i && reaches i d (Some true)) ss)) ≡ true → skips_by_tables ss d ≡ true
+        → (not (can_match ss d (Some true)) || list_any (λ e. is_exclude e && takes_whole e d) ss || list_any is_include ss && not (list_any (λ i. is_unshadowed ss i && reaches i d (Some true)) ss)) ≡ true → skips_by_tables ss d ≡ true
     held [] one some t = cc
     held (s ∷ ss) one some t =
         let all = s ∷ ss in
-        tables-by_parts (agree d (common_prefix all)) (list_any is_total_exclude all) (list_any (λ p. path_takes p d true) (taken_paths all)) (list_any (λ e. is_exclude e && takes_whole e d) all) (list_any is_include all) (reaches_live all d (Some true)) (list_any (λ i. is_live all i && reaches i d (Some true)) all)
-        (list_any (λ s. is_include s && reaches s d (Some true)) all) (list_any (λ t. stem_reaches t d (Some true)) (stems_of true all all)) (whole-all d all one) (live-all d (Some true) all) (reached-by-stems d (Some true) all) (rw (not-true (is_empty d) some) at t)
+        tables-by_parts (agree d (common_prefix all)) (list_any is_total_exclude all) (list_any (λ p. path_takes p d true) (taken_paths all)) (list_any (λ e. is_exclude e && takes_whole e d) all) (list_any is_include all) (reaches_unshadowed all d (Some true)) (list_any (λ i. is_unshadowed all i && reaches i d (Some true)) all)
+        (list_any (λ s. is_include s && reaches s d (Some true)) all) (list_any (λ t. stem_reaches t d (Some true)) (stems_of true all all)) (whole-all d all one) (reachable-all d (Some true) all) (reached-by-stems d (Some true) all) (rw (not-true (is_empty d) some) at t)

@@ -13,10 +13,10 @@ use Rattle.gix_pathspec.specs.Matching.{is_chosen, is_in_prefix_directory, is_gl
 use Rattle.gix_pathspec.specs.Prefixes.{common_prefix}
 use Rattle.gix_pathspec.specs.Pruning.{reaches, can_match}
 use Rattle.gix_pathspec.specs.Search.{BeginsCounts, MatchCounts, Numbered, Answer, specs_of, in_search_order, answer, answer_of, answer_with, selects}
-use Rattle.gix_pathspec.specs.Skipping.{fits_plainly, takes_whole, takes_rest, is_without_glob, found_takes_whole, answer_takes_whole, is_live, holds_nothing, may_skip}
+use Rattle.gix_pathspec.specs.Skipping.{fits_plainly, takes_whole, takes_rest, is_without_glob, found_takes_whole, answer_takes_whole, is_unshadowed, holds_nothing, may_skip}
 use Rattle.gix_pathspec.specs.SkipLaws.{FoundIsSkipped}
 use Rattle.gix_pathspec.specs.SkipTables.{holds_nothing_by_tables}
-use Rattle.gix_pathspec.specs.Takers.{IsSkipCounted, IsVisitCounted}
+use Rattle.gix_pathspec.specs.SubtreeExcludes.{IsSkipCounted, IsVisitCounted}
 use Rattle.gix_pathspec.specs.SelectionLaws.{NoNilPrefix}
 use Rattle.pathspec_glob.specs.Counts.{Counts}
 use Rattle.gix_pathspec.proofs.ChosenProofs.{chosen_is_test}
@@ -92,7 +92,7 @@ whole-skipped : (specs : List Spec) (d : List ℕ) → is_empty d ≡ false → 
 unfolding may_skip holds_nothing
 whole-skipped specs d some h =
     let whole = list_any (excludes_whole d) specs in
-    let unreached = list_any is_include specs && not (list_any (λ i. is_live specs i && reaches i d (Some true)) specs) in
+    let unreached = list_any is_include specs && not (list_any (λ i. is_unshadowed specs i && reaches i d (Some true)) specs) in
     or_left (holds_nothing specs d) (not (is_empty d) && list_any (λ e. is_exclude e && takes_rest e d) specs)
     (and_from (not (is_empty d)) (not (can_match specs d (Some true)) || whole || unreached) (ap not some) (second_of_three (not (can_match specs d (Some true))) whole unreached h))
 

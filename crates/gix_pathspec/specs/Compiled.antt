@@ -1,4 +1,4 @@
--- What a clause reads of specs that are made ready for matching.
+-- Specs that are ready for matching, and searches of them, as clauses see them.
 use Rattle.std.specs.Prelude.{◌≡◌, ℕ, List, length, Option}
 use Rattle.pathspec_pattern.specs.declared.pattern.Pattern.{Pattern}
 use Rattle.pathspec_glob.specs.Globs.{GlobSource}
@@ -11,7 +11,7 @@ use Rattle.gix_pathspec.specs.Reading.{nil_spec}
 use Rattle.gix_pathspec.specs.Search.{Numbered, specs_of, in_search_order}
 use Rattle.gix_pathspec.specs.declared.search.reach.Reach.{Reach}
 use Rattle.gix_pathspec.specs.Reach.{IsReachOf}
-use Rattle.gix_pathspec.specs.Takers.{takers_of}
+use Rattle.gix_pathspec.specs.SubtreeExcludes.{subtree_excludes_of}
 use Rattle.gix_pathspec.specs.Room.{glob_of, ScratchContents, Fits}
 use Rattle.gix_pathspec.specs.SelectionLaws.{NoNilPrefix, SpecPathsAreBytes}
 
@@ -27,11 +27,11 @@ pub record IsCompiled (s : Spec) (stem_length : ℕ) (glob : Option GlobSource) 
   pub is_last : ForSome last (EndsPaths s)
 
 -- A search: its specs stand in search order, no nil spec has a prefix directory, the paths are bytes, and it holds what the specs reach, the excludes that are asked one by one and the nil pattern, and room for its own matches.
-pub record IsSearch (specs : List Numbered) (reach : Reach) (takers : List Spec) (nil : Pattern) (scratch : ScratchContents) : Type 0 where
+pub record IsSearch (specs : List Numbered) (reach : Reach) (excludes : List Spec) (nil : Pattern) (scratch : ScratchContents) : Type 0 where
   pub is_ordered : in_search_order specs ≡ specs
   pub has_no_nil_prefix : NoNilPrefix (specs_of specs)
   pub has_byte_paths : SpecPathsAreBytes (specs_of specs)
   pub is_reach : IsReachOf (specs_of specs) reach
-  pub are_takers : takers ≡ takers_of (specs_of specs)
+  pub are_excludes : excludes ≡ subtree_excludes_of (specs_of specs)
   pub is_nil : pattern_spec nil ≡ nil_spec
   pub has_room : Fits specs scratch

@@ -7,15 +7,15 @@ use Rattle.gix_pathspec.specs.Specs.{Spec, is_exclude, is_include, ignores_case,
 use Rattle.gix_pathspec.specs.Prefixes.{stem, common_prefix}
 use Rattle.gix_pathspec.specs.Pruning.{agree, is_total_exclude}
 
--- what stands before the last slash of a text, or all of it where it has none
+-- a text before its last slash, or all of it where it has none
 abbrev pub parent_or_self : List ℕ → List ℕ
 parent_or_self text = if list_any is_slash text then before_last is_slash text else text
 
--- The front of a spec is its path where it has no wildcard, else what stands before the last slash of its stem, else its stem.
+-- The front of a spec is its path where it has no wildcard, else its stem before the last slash, else its stem.
 abbrev pub front : Spec → List ℕ
 front s = if has_wildcard s then parent_or_self (stem s) else s.path
 
--- With leading, a front longer than n is cut down to what stands before the last slash of the path's first n bytes, or where they have none to those bytes, if a slash follows them.
+-- With leading, a front longer than n is cut down to the path's first n bytes before their last slash, or where they have none to those bytes, if a slash follows them.
 abbrev pub leading_front : Spec → ℕ → List ℕ
 leading_front s n =
     let first_bytes = take n s.path in
@@ -29,7 +29,7 @@ abbrev pub front_for : Spec → List ℕ → Bool → List ℕ
 front_for s d false = front s
 front_for s d true = leading_front s (length d)
 
--- d begins with the front, without case where the spec has none
+-- the front begins d, without case where the spec has none
 abbrev pub agrees_in_front : Spec → List ℕ → Bool → Bool
 agrees_in_front s d leading = begins_with (fold_case (ignores_case s) d) (fold_case (ignores_case s) (front_for s d leading))
 
@@ -57,7 +57,7 @@ directory_matches specs d leading =
 abbrev pub ends_at_boundary : List ℕ → Spec → Bool
 ends_at_boundary common s = length s.path == length common || first_is is_slash (drop (length common) s.path)
 
--- what stands before the last slash of a text, and nothing where it has none
+-- a text before its last slash, and nothing where it has none
 abbrev pub parent : List ℕ → List ℕ
 parent text = if list_any is_slash text then before_last is_slash text else []
 
@@ -71,6 +71,6 @@ directory_of includes None common = None
 directory_of includes (Some first) common = non_empty (if wants_directory first && list_all (ends_at_boundary common) includes then common else parent common)
 
 -- The longest common directory is the common prefix where the first include wants a directory and every include's path ends there or goes on with a slash,
--- and else what stands before the common prefix's last slash. There is none without an include, and none that is empty.
+-- and else the common prefix before its last slash. There is none without an include, and none that is empty.
 unfoldable pub common_directory : List Spec → Option (List ℕ)
 common_directory specs = directory_of (filter is_include specs) (find is_include specs) (common_prefix specs)

@@ -14,7 +14,7 @@ use Rattle.gix_pathspec.specs.Found.{matched_kind}
 abbrev pub heads_in_order : List Numbered → List (List ℕ)
 heads_in_order specs = map (λ n. head n.spec) specs
 
--- the places in search order of these specs, in groups by their heads
+-- the places in search order of the specs, in groups by their heads
 abbrev pub ArePlacesOf : List Numbered → GroupedPlaces → Type 0
 ArePlacesOf specs places = IsGrouped (heads_in_order specs) places.heads places.starts places.order
 
@@ -35,25 +35,28 @@ is_candidate path n = begins_with path (head n.spec)
 abbrev pub candidate_count : List Numbered → List ℕ → ℕ
 candidate_count specs path = length (filter (is_candidate path) specs)
 
--- of fewer than 2 ^ b specs, at most b + 2 heads are compared
-abbrev pub IsFewCompared : List Numbered → ℕ → Type 0
-IsFewCompared specs compared = (b : ℕ) → length specs < 2 ^ b → compared ≤ b + 2
+-- at most b + 2 heads are compared, of fewer than 2 ^ b
+abbrev pub AreFewCompared : ℕ → ℕ → Type 0
+AreFewCompared heads compared = (b : ℕ) → heads < 2 ^ b → compared ≤ b + 2
 
--- so they are at most (path bytes + 1) times (b + 1)
+-- at most (path bytes + 1) times (b + 1) heads are compared, of fewer than 2 ^ b specs
 abbrev pub IsLittleCompared : List Numbered → List ℕ → ℕ → Type 0
 IsLittleCompared specs path compared = (b : ℕ) → length specs < 2 ^ b → compared ≤ (length path + 1) * (b + 1)
 
--- What the last match asked and compared is counted. It asked no more specs than have a head that begins the path, and
--- compared few heads.
-pub record IsCounted (specs : List Numbered) (path : List ℕ) (old new : MatchCounts) : Type 0 where
+-- The totals grew by what the last question asked and compared. It asked no more than the candidates, and compared few of the heads.
+pub record IsLastCounted (candidates heads : ℕ) (old new : MatchCounts) : Type 0 where
   pub tested : Counts old.tested new.last_tested new.tested
   pub compared : Counts old.compared new.last_compared new.compared
-  pub few_tested : new.last_tested ≤ candidate_count specs path
-  pub few_compared : IsFewCompared specs new.last_compared
+  pub few_tested : new.last_tested ≤ candidates
+  pub few_compared : AreFewCompared heads new.last_compared
+
+-- The totals grew by what the last match asked and compared. It asked no more specs than have a head that begins the path.
+abbrev pub IsCounted : List Numbered → List ℕ → MatchCounts → MatchCounts → Type 0
+IsCounted specs path = IsLastCounted (candidate_count specs path) (length specs)
 
 -- a path that is answered without a look at the specs: it is empty, or lacks the common prefix
-abbrev pub is_unasked : List Numbered → List ℕ → Bool
-is_unasked specs path = is_empty path || not (begins_with path (common_prefix (specs_of specs)))
+abbrev pub is_settled_early : List Numbered → List ℕ → Bool
+is_settled_early specs path = is_empty path || not (begins_with path (common_prefix (specs_of specs)))
 
 -- a spec of the search settles a path that isn't empty, and not the nil pattern in the place of one
 abbrev pub IsBySpec : List Numbered → List ℕ → Option Answer → Type 0

@@ -17,18 +17,18 @@ first_byte path = get_or path 0 0
 abbrev pub has_wildcard_at : List ℕ → ℕ → Bool
 has_wildcard_at path at = is_wildcard (get_or path at 0)
 
--- Each path that the spec matches begins with this byte, up to case where it doesn't count.
+-- Each path that the spec matches begins with the byte, up to case where it doesn't count.
 abbrev pub BeginsPaths : Spec → ℕ → Type 0
 BeginsPaths s byte = (table : Table) (path : List ℕ) (is_dir : Bool) → spec_matches table s path is_dir ≡ true
     → is_same_byte (case_of s) byte (first_byte path) ≡ true
 
--- Each path that the spec matches ends with this byte, up to case where it doesn't count, or a wildcard byte stands in it behind
+-- Each path that the spec matches ends with the byte, up to case where it doesn't count, or a wildcard byte stands in it behind
 -- the spec's stem: it may be the spec's path then, or lie below it.
 abbrev pub EndsPaths : Spec → ℕ → Type 0
 EndsPaths s byte = (table : Table) (path : List ℕ) (is_dir : Bool) → spec_matches table s path is_dir ≡ true
     → (is_same_byte (case_of s) byte (last_byte path) || has_wildcard_at path (length (stem s))) ≡ true
 
--- another byte is wanted, where one is
+-- a byte is wanted, and it is another
 abbrev pub is_other : Case → Option ℕ → ℕ → Bool
 is_other case None byte = false
 is_other case (Some wanted) byte = not (is_same_byte case wanted byte)

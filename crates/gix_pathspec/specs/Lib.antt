@@ -9,7 +9,6 @@ pub use Rattle.pathspec_parts.specs.Tokens
 pub use Rattle.pathspec_parts.specs.GlobRelation
 pub use Rattle.pathspec_heads.specs.Stems
 pub use Rattle.pathspec_heads.specs.Tables
-pub use Rattle.pathspec_heads.specs.PathTables
 pub use Rattle.pathspec_pattern.specs.Results
 pub use Rattle.pathspec_pattern.specs.Faults
 pub use Rattle.pathspec_pattern.specs.Errors
@@ -39,6 +38,6 @@ pub mod Building
 pub mod Reach
 pub mod Lines
 pub mod Skipping
-pub mod Takers
+pub mod SubtreeExcludes
 pub mod SkipTables
 pub mod SkipLaws

@@ -37,7 +37,7 @@ glob_matches PathAwareGlob s path = matches PathAware (case_of s) (tokens PathAw
 abbrev pub takes_kind : Spec → Bool → Bool
 takes_kind s is_dir = not (wants_directory s) || is_dir
 
--- it has a wildcard, and its glob matches
+-- the spec has a wildcard, and its glob matches the path
 abbrev pub is_glob_match : Spec → List ℕ → Bool → Bool
 is_glob_match s path is_dir = has_wildcard s && glob_matches s.mode s path && takes_kind s is_dir
 
@@ -60,7 +60,7 @@ match_way s path is_dir =
     else if is_glob_match s path is_dir then Some WildcardMatch
     else text_way s path is_dir
 
--- How a spec fits a path: the prefix directory is kept, and the path matches in this way.
+-- The way in which a spec fits a path: the prefix directory is kept, and the path matches so.
 unfoldable pub fit : Spec → List ℕ → Bool → Option MatchKind
 fit s path is_dir = if is_in_prefix_directory s path is_dir then match_way s path is_dir else None
 
@@ -84,7 +84,7 @@ have_states [] [] = true
 have_states (state ∷ states) (a ∷ rest) = same_state state a.state && have_states states rest
 have_states _ _ = false
 
--- what is asked for a spec
+-- the question to a look-up for a spec and a path
 abbrev pub question : Spec → List ℕ → Bool → Question
 question s path is_dir = record { path = path; case = Sensitive; is_dir = is_dir; names = map (λ a. a.name) s.attributes }
 
@@ -104,7 +104,7 @@ pub record IsChosen (table : Table) (specs : List Spec) (path : List ℕ) (is_di
   pub not_excluded : (s : Spec) → Contains specs s → IsTrue (is_exclude s) → IsFalse (spec_matches table s path is_dir)
   pub included : ((s : Spec) × Contains specs s × IsTrue (is_include s) × IsTrue (spec_matches table s path is_dir)) ⊎ ((s : Spec) → Contains specs s → IsTrue (is_exclude s))
 
--- the same as a test
+-- whether a path is chosen, as a test
 unfoldable pub is_chosen : Table → List Spec → List ℕ → Bool → Bool
 is_chosen table specs path is_dir =
     not (list_any (λ s. is_exclude s && spec_matches table s path is_dir) specs)

@@ -7,7 +7,7 @@ use Rattle.gix_pathspec.specs.Specs.{Spec, is_include, ignores_case, has_wildcar
 abbrev pub has_one_case : Spec → Bool
 has_one_case s = not (ignores_case s && not (is_empty (prefix_directory s)))
 
--- no wildcard, and no prefix directory without case
+-- an include without a wildcard, and without a prefix directory where case doesn't count
 abbrev pub is_plain_but_for_attributes : Spec → Bool
 is_plain_but_for_attributes s = is_include s && not (has_wildcard s) && has_one_case s
 

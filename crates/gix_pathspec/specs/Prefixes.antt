@@ -1,4 +1,4 @@
--- What every path that a spec fits begins with.
+-- The texts that begin every path that a spec fits.
 use Rattle.std.specs.Prelude.{◌≡◌, ◌≢◌, ℕ, ◌≤◌, List, [], ◌++◌, length, take, map, filter, find, nat_eq, if◌then◌else◌, unwrap_or, All}
 use Rattle.std.specs.List.{before_first, common_prefix_len, reduce}
 use Rattle.std.specs.Option.{option_map}
@@ -31,7 +31,7 @@ pub record IsLongestFront (texts : List (List ℕ)) (x : List ℕ) : Type 0 wher
 abbrev pub IsCommonPrefix : List Spec → List ℕ → Type 0
 IsCommonPrefix specs x = IsLongestFront (heads specs) x
 
--- what two texts have in common at the front
+-- the longest front that two texts share
 abbrev pub common_front : List ℕ → List ℕ → List ℕ
 common_front x y = take (common_prefix_len nat_eq x y) x
 

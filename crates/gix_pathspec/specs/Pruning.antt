@@ -6,11 +6,11 @@ use Rattle.gix_pathspec.specs.Bytes.{is_empty, begins_with}
 use Rattle.gix_pathspec.specs.Specs.{Spec, is_exclude, is_include, ignores_case, wants_directory, always_matches, has_wildcard}
 use Rattle.gix_pathspec.specs.Prefixes.{stem, common_prefix}
 
--- the stem of a spec, and what the spec says
+-- the stem of a spec, with the properties that a table of stems asks
 abbrev pub stem_of : Spec → StemParts
 stem_of s = record { text = stem s; ignores_case = ignores_case s; has_wildcard = has_wildcard s; wants_directory = wants_directory s }
 
--- A spec reaches d where it always matches, or its stem does: the two lead to one another.
+-- A spec reaches d where it always matches, or its stem reaches d: the two are one, or one lies below the other, or the stem begins d and a wildcard follows it.
 unfoldable pub reaches : Spec → List ℕ → Option Bool → Bool
 reaches s d is_dir = always_matches s || stem_reaches (stem_of s) d is_dir
 

@@ -1,4 +1,4 @@
--- What is promised of pruning, as facts that contracts can cite.
+-- Promises of pruning, as facts that contracts can cite.
 use Rattle.std.specs.Prelude.{◌≡◌, ◌≢◌, ℕ, Bool, false, ◌⊎◌, ◌↔◌, List, [], ◌∷◌, ◌++◌, Option, Some, IsTrue, IsFalse, Contains}
 use Rattle.std.specs.List.{list_any}
 use Rattle.gix_pathspec.specs.Bytes.{slash, fold_case, begins_with}
@@ -29,16 +29,16 @@ abbrev pub PruningIsSafe : List Spec → Type 0
 PruningIsSafe specs = (d : List ℕ) (asked : Option Bool) → asked ≢ Some false → IsFalse (can_match specs d asked)
     → ExcludesAll specs ⊎ ((path : List ℕ) (is_dir : Bool) → IsAtOrBelow path d → NoIncludeFits specs path is_dir)
 
--- the same of a file
+-- Safe for a file: where pruning says no to it, an exclude takes every path, or no include fits the file.
 abbrev pub FilePruningIsSafe : List Spec → Type 0
 FilePruningIsSafe specs = (d : List ℕ) → IsFalse (can_match specs d (Some false)) → ExcludesAll specs ⊎ NoIncludeFits specs d false
 
--- So where pruning says no, nothing at or below the directory is chosen, whatever a look-up says.
+-- Where pruning says no to a directory, or to what may be one, nothing at or below it is chosen, whatever a look-up says.
 abbrev pub PrunedIsNotChosen : Table → List Spec → Type 0
 PrunedIsNotChosen table specs = (d : List ℕ) (asked : Option Bool) → asked ≢ Some false → IsFalse (can_match specs d asked)
     → (path : List ℕ) (is_dir : Bool) → IsAtOrBelow path d → ¬ (IsChosen table specs path is_dir)
 
--- What is pruned as a file is not chosen as one.
+-- A path that is pruned as a file is not chosen as one.
 abbrev pub FilePrunedIsNotChosen : Table → List Spec → Type 0
 FilePrunedIsNotChosen table specs = (d : List ℕ) → IsFalse (can_match specs d (Some false)) → ¬ (IsChosen table specs d false)
 
@@ -48,7 +48,7 @@ FilePrunedIsNotChosen table specs = (d : List ℕ) → IsFalse (can_match specs 
 abbrev pub TakesAtOrBelow : (Spec → List ℕ → Bool → Bool) → List Spec → List ℕ → Type 0
 TakesAtOrBelow takes specs d = (s : Spec) × Contains specs s × IsTrue (is_include s) × (path : List ℕ) × (is_dir : Bool) × IsBytes path × ((path ≡ d) × IsTrue is_dir ⊎ IsBelow path d) × IsTrue (takes s path is_dir)
 
--- all includes are of this kind
+-- all includes are of a kind
 abbrev pub HasOnlyIncludes : (Spec → Bool) → List Spec → Type 0
 HasOnlyIncludes kind specs = (s : Spec) → Contains specs s → IsTrue (is_include s) → IsTrue (kind s)
 
@@ -56,12 +56,12 @@ HasOnlyIncludes kind specs = (s : Spec) → Contains specs s → IsTrue (is_incl
 abbrev pub CanTake : (Spec → List ℕ → Bool → Bool) → List Spec → List ℕ → Type 0
 CanTake takes specs d = ¬ (ExcludesAll specs) × (¬ (HasInclude specs) ⊎ TakesAtOrBelow takes specs d)
 
--- Sharp: of plain includes pruning says yes to just those directories where an include matches the directory or some path below it, or where there is no include.
+-- Sharp: where all includes are plain, pruning says yes to just those directories where no exclude takes every path, and an include matches the directory or some path below it, or there is no include.
 abbrev pub PruningIsSharp : Table → List Spec → Type 0
 PruningIsSharp table specs = HasOnlyIncludes is_plain specs
     → (d : List ℕ) (asked : Option Bool) → d ≢ [] → IsBytes d → asked ≢ Some false → IsTrue (can_match specs d asked) ↔ CanTake (spec_matches table) specs d
 
--- the same of plain includes that list attributes, with fits in the place of matches
+-- Sharp for plain includes that may list attributes, with fits in the place of matches.
 abbrev pub PruningIsSharpForFits : List Spec → Type 0
 PruningIsSharpForFits specs = HasOnlyIncludes is_plain_but_for_attributes specs
     → (d : List ℕ) (asked : Option Bool) → d ≢ [] → IsBytes d → asked ≢ Some false → IsTrue (can_match specs d asked) ↔ CanTake fits specs d

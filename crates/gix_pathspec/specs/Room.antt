@@ -49,7 +49,7 @@ pub record HasRoom (specs : List Numbered) (room : Room) : Type 0 where
   pub globs : All (λ n. tokens_of n.spec ≤ room.tokens) specs
   pub outcomes : room.names ≡ names_in_order specs
 
--- what the matches of a walker write: the room that they work in, and their counts
+-- the contents of a walker's scratch: the room that its matches work in, and their counts
 pub record ScratchContents : Type 0 where
   pub room : Room
   pub counts : MatchCounts

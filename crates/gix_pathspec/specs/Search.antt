@@ -44,13 +44,13 @@ pub record BeginsCounts (old new : MatchCounts) : Type 0 where
   pub tested : new.tested ≡ old.tested
   pub compared : new.compared ≡ old.compared
 
--- What a search holds: its specs in search order, where they come from, and the counts of its own matches.
+-- The contents of a search: its specs in search order, where they come from, and the counts of its own matches.
 pub record SearchContents : Type 0 where
   pub specs : List Numbered
   pub source : Option (List ℕ)
   pub counts : MatchCounts
 
--- the search has the specs that it had, and its source
+-- the new search has the specs of the old one, and its source
 pub record KeepsSpecs (old new : SearchContents) : Type 0 where
   pub specs : new.specs ≡ old.specs
   pub source : new.source ≡ old.source
@@ -74,11 +74,11 @@ in_search_order ns = filter (λ n. is_exclude n.spec) ns ++ filter (λ n. is_inc
 abbrev pub default_to_prefix : List ℕ → List Spec → List Spec
 default_to_prefix prefix specs = if is_empty specs && not (is_empty prefix) then literal_spec must_be_dir [] ∷ [] else specs
 
--- The search of these specs, or the first spec that has no normal form.
+-- The search of specs, or the first spec that has no normal form.
 unfoldable pub search_of : List ℕ → List ℕ → List Spec → Result (List Numbered) (ℕ × Fault)
 search_of prefix root specs = numbered_from 0 prefix root (default_to_prefix prefix specs) >>= λ ns. Ok (in_search_order ns)
 
--- n is the normal form of one of these specs
+-- n is the normal form of one of the specs
 abbrev pub IsNormalFormOfOne : List ℕ → List ℕ → List Spec → Spec → Type 0
 IsNormalFormOfOne prefix root specs n = (s : Spec) × Contains specs s × (normal_form prefix root s ≡ Ok n)
 
@@ -94,7 +94,7 @@ pub record Answer : Type 0 where
   pub number : ℕ
   pub kind : MatchKind
 
--- the spec in its way
+-- the answer of a spec that matches in some way
 abbrev pub answer_with : Numbered → Option MatchKind → Option Answer
 answer_with n None = None
 answer_with n (Some kind) = Some (record { pattern = n.spec; number = n.number; kind = kind })

@@ -1,4 +1,4 @@
--- What is promised of what a search selects, as facts that contracts can cite.
+-- Promises of what a search selects, as facts that contracts can cite.
 use Rattle.std.specs.Prelude.{◌≡◌, ◌≢◌, ◌↔◌, ℕ, Bool, List, [], Option, IsTrue, IsFalse, Contains, is_some}
 use Rattle.std.specs.List.Sorted.{IsPermutation}
 use Rattle.gix_pathspec.specs.Bytes.{is_empty, fold_case, begins_with}
@@ -9,7 +9,7 @@ use Rattle.gix_pathspec.specs.Matching.{fit, fits, spec_matches, is_chosen, IsCh
 use Rattle.gix_pathspec.specs.Prefixes.{stem, head, common_prefix}
 use Rattle.gix_pathspec.specs.Search.{Numbered, Answer, specs_of, selects}
 
--- The test gives just what the statement about the set of specs says.
+-- The test `is_chosen` gives just what the statement `IsChosen` says.
 abbrev pub ChosenIsTest : Type 0
 ChosenIsTest = (table : Table) (specs : List Spec) (path : List ℕ) (is_dir : Bool) → IsTrue (is_chosen table specs path is_dir) ↔ IsChosen table specs path is_dir
 
@@ -25,11 +25,11 @@ SelectsChosen table search path is_dir given = path ≢ [] → IsTrue (selects g
 abbrev pub SelectsCommon : List Numbered → List ℕ → Option Answer → Type 0
 SelectsCommon search path given = path ≢ [] → IsTrue (selects given) → IsTrue (begins_with path (common_prefix (specs_of search)))
 
--- What a spec fits begins with its head.
+-- Each path that a spec fits begins with the spec's head.
 abbrev pub FittedBeginsHead : Type 0
 FittedBeginsHead = (s : Spec) (path : List ℕ) (is_dir : Bool) → IsTrue (fits s path is_dir) → IsTrue (begins_with path (head s))
 
--- Unless the spec is nil, it begins with the stem too, without case where the spec has none.
+-- Each path that a spec fits begins with the spec's stem, without case where the spec has none, unless the spec is nil.
 abbrev pub FittedBeginsStem : Type 0
 FittedBeginsStem = (s : Spec) (path : List ℕ) (is_dir : Bool) → IsFalse s.nil → IsTrue (fits s path is_dir) → IsTrue (begins_with (fold_case (ignores_case s) path) (fold_case (ignores_case s) (stem s)))
 
@@ -41,10 +41,10 @@ FittedMatches = (s : Spec) → IsTrue (is_empty s.attributes) → (table : Table
 abbrev pub ChosenBeginsCommon : Type 0
 ChosenBeginsCommon = (table : Table) (specs : List Spec) (path : List ℕ) (is_dir : Bool) → path ≢ [] → IsChosen table specs path is_dir → IsTrue (begins_with path (common_prefix specs))
 
--- The paths of specs are bytes. So it is in each search.
+-- The paths of specs are bytes, as in each search.
 abbrev pub SpecPathsAreBytes : List Spec → Type 0
 SpecPathsAreBytes specs = (s : Spec) → Contains specs s → IsBytes s.path
 
--- A nil spec has no prefix directory. So it is in each search.
+-- A nil spec has no prefix directory, as in each search.
 abbrev pub NoNilPrefix : List Spec → Type 0
 NoNilPrefix specs = (s : Spec) → Contains specs s → IsTrue s.nil → s.prefix_length ≡ 0

@@ -1,4 +1,4 @@
--- What is promised of the directories that a walk may skip, as facts that contracts can cite.
+-- Promises of the directories that a walk may skip, as facts that contracts can cite.
 use Rattle.std.specs.Prelude.{◌≡◌, ◌≢◌, ◌↔◌, ◌⊎◌, ℕ, Bool, true, not, ◌&&◌, List, [], Some, IsTrue, IsFalse, Contains}
 use Rattle.gix_pathspec.specs.Bytes.{is_empty}
 use Rattle.gix_pathspec.specs.Paths.{IsBytes, IsBelow}
@@ -20,7 +20,7 @@ IsInside path is_dir d = (path ≡ d) × IsTrue is_dir ⊎ IsBelow path d
 abbrev pub SkippedIsNotChosen : Table → List Spec → Type 0
 SkippedIsNotChosen table specs = (d : List ℕ) → IsTrue (may_skip specs d) → (path : List ℕ) (is_dir : Bool) → IsBelow path d → ¬ (IsChosen table specs path is_dir)
 
--- Of a directory that holds nothing, the directory itself isn't chosen either.
+-- A directory that holds nothing isn't chosen, and nothing below it is.
 abbrev pub NothingIsChosen : Table → List Spec → Type 0
 NothingIsChosen table specs = (d : List ℕ) → IsTrue (holds_nothing specs d) → (path : List ℕ) (is_dir : Bool) → IsInside path is_dir d → ¬ (IsChosen table specs path is_dir)
 
@@ -58,6 +58,6 @@ CaseAgrees specs = (i e : Spec) → Contains specs i → Contains specs e → Is
 abbrev pub HoldsChosen : Table → List Spec → List ℕ → Type 0
 HoldsChosen table specs d = (path : List ℕ) × (is_dir : Bool) × IsBytes path × IsInside path is_dir d × IsChosen table specs path is_dir
 
--- Exact: of plain specs just those directories may be skipped at and below which nothing is chosen.
+-- Exact: where all specs are plain and their cases agree, just those directories may be skipped at and below which nothing is chosen.
 abbrev pub SkipIsExact : Table → List Spec → Type 0
 SkipIsExact table specs = ArePlain specs → CaseAgrees specs → (d : List ℕ) → d ≢ [] → IsBytes d → IsFalse (may_skip specs d) ↔ HoldsChosen table specs d

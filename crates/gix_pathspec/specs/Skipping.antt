@@ -36,7 +36,7 @@ is_without_glob Verbatim = true
 abbrev pub found_takes_whole : Answer → Bool
 found_takes_whole a = is_exclude a.pattern && is_empty a.pattern.attributes && is_without_glob a.kind
 
--- there is such a match
+-- there is a match, and it is by an exclude that takes the directory whole
 abbrev pub answer_takes_whole : Option Answer → Bool
 answer_takes_whole None = false
 answer_takes_whole (Some a) = found_takes_whole a
@@ -54,28 +54,28 @@ unfoldable pub takes_rest : Spec → List ℕ → Bool
 takes_rest s d =
     is_empty s.attributes && not (wants_directory s) && has_wildcard s && is_in_prefix_directory s d true && has_open_end s.mode s && glob_matches s.mode s (d ++ slash ∷ [])
 
--- ---- buried
+-- ---- shadowed
 
 -- the exclude has one case, and ignores it where the include does
 abbrev pub ignores_case_with : Spec → Spec → Bool
 ignores_case_with e i = has_one_case e && (not (ignores_case i) || ignores_case e)
 
--- An exclude buries an include without a wildcard: it takes the include's path as what the include wants, and so all that the include takes.
-unfoldable pub buries : Spec → Spec → Bool
-buries e i = is_empty e.attributes && not (always_matches i) && not (has_wildcard i) && ignores_case_with e i && fits_plainly e i.path (wants_directory i)
+-- An exclude shadows an include without a wildcard: it takes the include's path as what the include wants, and so all that the include takes.
+unfoldable pub shadows : Spec → Spec → Bool
+shadows e i = is_empty e.attributes && not (always_matches i) && not (has_wildcard i) && ignores_case_with e i && fits_plainly e i.path (wants_directory i)
 
--- an include that no exclude buries
-abbrev pub is_live : List Spec → Spec → Bool
-is_live specs i = is_include i && not (list_any (λ e. is_exclude e && buries e i) specs)
+-- an include that no exclude shadows
+abbrev pub is_unshadowed : List Spec → Spec → Bool
+is_unshadowed specs i = is_include i && not (list_any (λ e. is_exclude e && shadows e i) specs)
 
--- ---- what may be skipped
+-- ---- directories that may be skipped
 
--- A directory holds nothing: its path isn't empty, and pruning says no to it, or an exclude takes it whole, or there are includes and each one that reaches it is buried.
+-- A directory holds nothing: its path isn't empty, and pruning says no to it, or an exclude takes it whole, or there are includes and each one that reaches it is shadowed.
 unfoldable pub holds_nothing : List Spec → List ℕ → Bool
 holds_nothing specs d =
     not (is_empty d)
     && (not (can_match specs d (Some true)) || list_any (λ e. is_exclude e && takes_whole e d) specs
-    || list_any is_include specs && not (list_any (λ i. is_live specs i && reaches i d (Some true)) specs))
+    || list_any is_include specs && not (list_any (λ i. is_unshadowed specs i && reaches i d (Some true)) specs))
 
 -- Case counts in all of the path of each exclude, or nowhere.
 abbrev pub HaveOneCase : List Spec → Type 0

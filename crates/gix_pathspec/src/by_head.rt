@@ -1,55 +1,54 @@
-//! Specs by their heads: what a match asks, and nothing beside it.
+//! The specs of a search by their heads: finds the first spec that matches a path.
 //!
-//! A match sees two questions about a path that isn't empty and begins with the common prefix: how the spec at a place
-//! matches it, and which heads begin it. Both count, in the scratch that the match borrows. What reads a spec, and what
-//! makes a scratch, is private to the module `search`.
+//! A match stands outside of the module `search`, which alone reads specs and makes scratches. It asks which heads begin a
+//! path and how the spec at a place matches it, and the scratch that it borrows counts both. It asks nothing of an empty path,
+//! nor of one that lacks the common prefix.
 ghost use Rattle.std.specs.Prelude.{◌≡◌, ◌<◌, ◌≤◌, length, IsSome, IsTrue, IfOk, OnOk, OnErr};
 ghost use Rattle.std.specs.Box.{box_value};
 ghost use Rattle.bstr.specs.BStr.{bstr_bytes};
-ghost use Rattle.pathspec_parts.specs.Attributes.{next_count};
+ghost use Rattle.pathspec_parts.specs.Attributes.{AsksLookUp};
 ghost use Rattle.pathspec_glob.specs.Counts.{Counts};
 ghost use Rattle.pathspec_heads.specs.Heads.{IsChainOf};
 ghost use Rattle.gix_pathspec.specs.Found.{IsFirstFound};
 ghost use Rattle.gix_pathspec.specs.Prefixes.{common_prefix};
 ghost use Rattle.gix_pathspec.specs.Search.{specs_of, BeginsCounts, IsFresh};
 ghost use Rattle.gix_pathspec.specs.Room.{HasRoom, Fits};
-ghost use Rattle.gix_pathspec.specs.Effort.{ArePlacesOf, candidate_count, IsCounted, IsLittleCompared, is_unasked};
+ghost use Rattle.gix_pathspec.specs.Effort.{ArePlacesOf, candidate_count, IsCounted, IsLittleCompared, is_settled_early};
 
-pub(crate) mod takers;
+pub(crate) mod subtree_excludes;
 
 use crate::search::MatchKind;
-use crate::search::counted::{CountedHeads, CountedSpecs, SpecScratch};
-use crate::search::texts::begins_with;
+use crate::search::counted::{CountedSpecs, SpecScratch};
+use crate::search::spec_matching::begins_with;
 use bstr::BStr;
-use pathspec_heads::places::{self, Deepest};
-use pathspec_heads::tables::StemHints;
+use pathspec_heads::places::{CompareScratch, LongestHead, PlacesByHead};
+use pathspec_heads::tables::StemScratch;
 use pathspec_parts::attributes::LookUp;
 use std::fmt;
 use std::marker::Model;
 
-/// How many specs a match asked, and how many heads it compared with the path.
+/// The effort of one match or skip question: specs asked, and heads compared with the path.
 #[derive(Clone, Copy)]
 struct Effort {
     tested: usize,
     compared: usize,
 }
 
-/// No spec asked, and no head compared.
+/// The effort before a question: no spec asked, and no head compared.
 const NO_EFFORT: Effort = Effort {
     tested: 0,
     compared: 0,
 };
 
-/// What the matches of one walker write, and its questions whether it may skip a directory: the room that globs and look-ups
-/// work in, and how many questions and comparisons there were.
+/// The room that a walker's matches and skip questions (`may_skip`) work in, with the counts of what they asked and compared.
 ///
-/// [`Search::new_scratch`](crate::search::Search::new_scratch) makes one. Walkers that share a search have one each. Nothing
-/// sets the totals back.
+/// [`Search::new_scratch`](crate::search::Search::new_scratch) makes one. Walkers that share a search have one each. The
+/// totals are never set back.
 pub struct Scratch {
     specs: SpecScratch,
-    heads: places::Scratch,
-    // Where the next question whether a directory may be skipped looks first. Any numbers will do.
-    pub(crate) stems: StemHints,
+    heads: CompareScratch,
+    // Written by questions whether a directory may be skipped. No call tells its comparisons.
+    pub(crate) stems: StemScratch,
     effort: Effort,
 }
 
@@ -83,8 +82,8 @@ impl Model for Scratch {
 }
 
 impl Scratch {
-    /// A scratch of this room, with all counts at 0.
-    pub(crate) fn new(specs: SpecScratch, heads: places::Scratch) -> Scratch
+    /// Makes a scratch of the given room, with all counts at 0.
+    pub(crate) fn new(specs: SpecScratch, heads: CompareScratch) -> Scratch
         requires specs_unasked { specs.tested ≡ 0 }
         requires heads_unasked { heads ≡ 0 }
         ensures room { result.room ≡ specs.room }
@@ -93,19 +92,19 @@ impl Scratch {
         Scratch {
             specs,
             heads,
-            stems: StemHints::new(),
+            stems: StemScratch::new(),
             effort: NO_EFFORT,
         }
     }
 
-    /// What questions to specs write.
+    /// The part of the scratch that questions to specs write.
     pub(crate) fn specs(&self) -> &SpecScratch
         ensures { result.now.room ≡ self.now.room }
     {
         &self.specs
     }
 
-    /// Begins the counts of the last call anew.
+    /// Sets the counts of the last call to 0. The totals stay.
     pub(crate) fn begin(&mut self)
         ensures room { self.new.room ≡ self.old.room }
         ensures begun { BeginsCounts self.old.counts self.new.counts }
@@ -113,32 +112,31 @@ impl Scratch {
         self.effort = NO_EFFORT;
     }
 
-    /// How many specs the last match asked whether they match the path. A spec at which the look-up failed is one, and so is a
-    /// spec that the path's last byte rules out. It is 0 before the first match, and where the path was empty or lacked the
-    /// common prefix. After [`Search::may_skip`](crate::search::Search::may_skip) it is how many excludes that call asked one
-    /// by one.
+    /// The count of specs that the last match asked. A spec whose look-up failed counts, and so does one that the path's first
+    /// or last byte rules out. The count is 0 before the first match, and where the path was empty or lacked the common
+    /// prefix. After [`Search::may_skip`](crate::search::Search::may_skip) it is the count of excludes asked one by one.
     pub fn last_tested(&self) -> usize
         ensures { result ≡ self.now.counts.last_tested }
     {
         self.effort.tested
     }
 
-    /// How many heads of specs the last match or question about a directory compared with the path. It is 0 where
-    /// [`Scratch::last_tested`] of a match says so.
+    /// The count of heads of specs that the last match or skip question compared with the path. It is 0 before the first
+    /// match, and after a match where the path was empty or lacked the common prefix.
     pub fn last_compared(&self) -> u128
         ensures { result ≡ self.now.counts.last_compared }
     {
         self.effort.compared as u128
     }
 
-    /// How many specs all matches and questions about directories in this scratch asked, modulo 2^128.
+    /// The count of specs that all matches and skip questions in this scratch asked, modulo 2^128.
     pub fn total_tested(&self) -> u128
         ensures { result ≡ self.now.counts.tested }
     {
         self.specs.tested()
     }
 
-    /// How many heads they compared, modulo 2^128.
+    /// The count of heads that all matches and skip questions in this scratch compared, modulo 2^128.
     pub fn total_compared(&self) -> u128
         ensures { result ≡ self.now.counts.compared }
     {
@@ -146,12 +144,12 @@ impl Scratch {
     }
 }
 
-/// The specs of a search with their places by their heads. No match writes to them.
+/// The specs of a search, with their places in search order by their heads. No match writes to them.
 #[derive(Drop)]
 pub(crate) struct SpecsByHead {
     specs: CountedSpecs,
     /// The places of the specs in search order, by their heads.
-    heads: Box<CountedHeads>,
+    heads: Box<PlacesByHead>,
     common_prefix: Vec<u8>,
 }
 
@@ -173,8 +171,8 @@ impl SpecsByHead {
     ghost use Rattle.gix_pathspec.specs.Found.{is_directory, answer_found};
     ghost use Rattle.gix_pathspec.specs.Search.{answer};
 
-    /// Specs with their places and their common prefix.
-    pub(crate) fn new(specs: CountedSpecs, heads: Box<CountedHeads>, common: Vec<u8>) -> SpecsByHead
+    /// Puts specs together with their places and their common prefix.
+    pub(crate) fn new(specs: CountedSpecs, heads: Box<PlacesByHead>, common: Vec<u8>) -> SpecsByHead
         requires places { ArePlacesOf specs (box_value heads) }
         requires common { common.items ≡ common_prefix (specs_of specs) }
         ensures { result ≡ specs }
@@ -186,14 +184,14 @@ impl SpecsByHead {
         }
     }
 
-    /// How many specs there are.
+    /// The count of specs.
     pub(crate) fn len(&self) -> usize
         ensures { result ≡ length self.now }
     {
         self.specs.len()
     }
 
-    /// What every path that an include matches begins with.
+    /// The longest text that begins the head of each include; empty without an include.
     pub(crate) fn common_prefix(&self) -> &[u8]
         ensures { result.now ≡ common_prefix (specs_of self.now) }
     {
@@ -208,7 +206,7 @@ impl SpecsByHead {
     }
 
     /// The heads of the specs. A scratch counts each comparison of one with a path.
-    pub(crate) fn heads(&self) -> &CountedHeads
+    pub(crate) fn heads(&self) -> &PlacesByHead
         ensures { ArePlacesOf self.now result.now }
     {
         &self.heads
@@ -221,9 +219,8 @@ impl SpecsByHead {
         self.specs
     }
 
-    /// The place of the first spec that matches a path, and how it does, as
-    /// [`Search::settle`](crate::search::Search::settle) says. It finds none for the empty path, nor for one that lacks the
-    /// common prefix.
+    /// Finds the place of the first spec that matches a path, and the way in which it matches, as
+    /// [`Search::settle`](crate::search::Search::settle) says. The empty path and one that lacks the common prefix have none.
     ///
     /// # Errors
     /// The look-up's fault.
@@ -240,22 +237,20 @@ impl SpecsByHead {
             ≡ answer (L.table look_up.old) self.now
             (bstr_bytes path.entry) (is_directory is_dir)) }
         ensures within { IfOk result (λ found. ForSome found (λ at. at.0 < length self.now)) }
-        ensures table_stays { L.table look_up.new ≡ L.table look_up.old }
-        ensures ok_leaves_count { OnOk result (L.failures look_up.new ≡ L.failures look_up.old) }
-        ensures err_counts { OnErr result
-            (L.failures look_up.new ≡ next_count (L.failures look_up.old)) }
+        ensures look_up { AsksLookUp (L.table look_up.old) (L.failures look_up.old)
+            (L.table look_up.new) (L.failures look_up.new) result }
 
-        // It counts each question and each comparison, and tells all of them; also where the look-up fails.
+        // Counts each question and each comparison, also where the look-up fails.
         ensures counted { IsCounted self.now (bstr_bytes path.entry)
             scratch.old.counts scratch.new.counts }
         ensures little_compared { IsLittleCompared self.now (bstr_bytes path.entry)
             scratch.new.counts.last_compared }
         ensures looked { IfOk result (λ found. IsSome found
             → (1 ≤ scratch.new.counts.last_tested) × (1 ≤ scratch.new.counts.last_compared)) }
-        ensures unasked { IsTrue (is_unasked self.now (bstr_bytes path.entry))
+        ensures unasked { IsTrue (is_settled_early self.now (bstr_bytes path.entry))
             → (scratch.new.counts.last_tested ≡ 0) × (scratch.new.counts.last_compared ≡ 0) }
     {
-        if self.is_unasked(path.as_bytes()) {
+        if self.is_settled_early(path.as_bytes()) {
             scratch.effort = NO_EFFORT;
             return Ok(None);
         }
@@ -263,21 +258,21 @@ impl SpecsByHead {
         first_match(&self.specs, &self.heads, scratch, path, is_dir, look_up)
     }
 
-    /// Whether the answer for a path needs no look at the specs: it is empty, or lacks the common prefix.
-    fn is_unasked(&self, path: &[u8]) -> bool
-        ensures { result ≡ is_unasked self.now path.now }
+    /// Whether a path is empty or lacks the common prefix, so that its answer needs no look at the specs.
+    fn is_settled_early(&self, path: &[u8]) -> bool
+        ensures { result ≡ is_settled_early self.now path.now }
     {
         let common = self.common_prefix.as_slice();
-        // Without a common prefix this makes no call.
+        // An empty common prefix costs no call.
         path.is_empty() || !common.is_empty() && !begins_with(path, common, false)
     }
 }
 
-/// The place of the first spec that matches a path, and how it does. It asks no more specs than have a head that begins the
-/// path.
+/// Finds the place of the first spec that matches a path, and the way in which it matches. It asks no more specs than have a
+/// head that begins the path.
 fn first_match<L: LookUp>(
     specs: &CountedSpecs,
-    heads: &CountedHeads,
+    heads: &PlacesByHead,
     scratch: &mut Scratch,
     path: BStr<'_>,
     is_dir: bool,
@@ -288,16 +283,14 @@ fn first_match<L: LookUp>(
     ensures room { scratch.new.room ≡ scratch.old.room }
     ensures first { IfOk result (λ found.
         IsFirstFound (L.table look_up.old) specs.now (bstr_bytes path.entry) is_dir found) }
-    ensures table_stays { L.table look_up.new ≡ L.table look_up.old }
-    ensures ok_leaves_count { OnOk result (L.failures look_up.new ≡ L.failures look_up.old) }
-    ensures err_counts { OnErr result
-        (L.failures look_up.new ≡ next_count (L.failures look_up.old)) }
+    ensures look_up { AsksLookUp (L.table look_up.old) (L.failures look_up.old)
+        (L.table look_up.new) (L.failures look_up.new) result }
     ensures counted { IsCounted specs.now (bstr_bytes path.entry)
         scratch.old.counts scratch.new.counts }
     ensures looked { IfOk result (λ found. IsSome found
         → (1 ≤ scratch.new.counts.last_tested) × (1 ≤ scratch.new.counts.last_compared)) }
 {
-    let Deepest { head, compared } = heads.deepest(path.as_bytes(), &mut scratch.heads);
+    let LongestHead { head, compared } = heads.longest_head_of(path.as_bytes(), &mut scratch.heads);
     let mut tested = 0;
     let Some(head) = head else {
         scratch.effort = Effort { tested, compared };
@@ -317,11 +310,11 @@ fn first_match<L: LookUp>(
     found
 }
 
-/// The place of the first spec that matches a path, and how it does, of those whose head begins the one with a number.
-/// It counts each spec that it asks.
+/// Finds the first spec that matches a path, of those whose head begins the head with this number. `tested` counts those
+/// asked.
 fn first_candidate<L: LookUp>(
     specs: &CountedSpecs,
-    heads: &CountedHeads,
+    heads: &PlacesByHead,
     head: usize,
     scratch: &mut SpecScratch,
     tested: &mut usize,
@@ -337,10 +330,8 @@ fn first_candidate<L: LookUp>(
     ensures room { scratch.new.room ≡ scratch.old.room }
     ensures first { IfOk result (λ found.
         IsFirstFound (L.table look_up.old) specs.now (bstr_bytes path.entry) is_dir found) }
-    ensures table_stays { L.table look_up.new ≡ L.table look_up.old }
-    ensures ok_leaves_count { OnOk result (L.failures look_up.new ≡ L.failures look_up.old) }
-    ensures err_counts { OnErr result
-        (L.failures look_up.new ≡ next_count (L.failures look_up.old)) }
+    ensures look_up { AsksLookUp (L.table look_up.old) (L.failures look_up.old)
+        (L.table look_up.new) (L.failures look_up.new) result }
     ensures counted { Counts scratch.old.tested tested.new scratch.new.tested }
     ensures few { tested.new ≤ candidate_count specs.now (bstr_bytes path.entry) }
     ensures asked { IfOk result (λ found. IsSome found → 1 ≤ tested.new) }

@@ -1,4 +1,4 @@
-//! Pathspecs of git (gitglossary, "pathspec"): their texts are read, normalised and asked about paths.
+//! git's pathspecs (gitglossary, "pathspec"): reads specs, normalises them and matches paths with them.
 #![tactic(auto)]
 
 pub mod attributes;
@@ -6,4 +6,4 @@ mod by_head;
 pub mod search;
 
 pub use pathspec_pattern::{Defaults, Error, MagicSignature, Pattern, SearchMode, defaults, parse};
-pub use search::{BuildError, Search};
+pub use search::{BuildError, Search, laws};

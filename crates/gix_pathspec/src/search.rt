@@ -1,62 +1,58 @@
 //! Searches: specs that match paths together (gitglossary, "pathspec").
+mod compiling;
 pub(crate) mod counted;
 mod directories;
-pub(crate) mod end_bytes;
-mod found;
 mod init;
-mod lines;
+pub mod laws;
 mod matching;
 mod patterns;
 mod pruning;
 mod reach;
-mod scratch;
-mod skipping;
 mod spec;
-mod takers;
-pub(crate) mod texts;
-mod visiting;
+pub(crate) mod spec_matching;
+mod subtree_excludes;
 
 use crate::Pattern;
 pub use crate::by_head::Scratch;
 use crate::by_head::SpecsByHead;
-use crate::by_head::takers::TakersByHead;
+use crate::by_head::subtree_excludes::ExcludesByHead;
 use bstr::BString;
-pub use found::Match;
 pub use init::BuildError;
+pub use matching::Match;
 pub use patterns::{IntoPatterns, Patterns};
+pub use pruning::Visit;
 use reach::Reach;
 use std::fmt;
 use std::marker::Model;
-pub use visiting::Visit;
 
-/// How a spec came to match a path. The order is that of the variants.
+/// The way in which a spec matches a path. Values are ordered as the variants stand.
 #[derive(Clone, Copy, Debug, PartialEq, Eq, PartialOrd, Ord, Hash)]
 pub enum MatchKind {
-    /// The spec is nil or its path is empty: it matches each path.
+    /// The spec matches every path: it is nil, as `:`, or its path is empty.
     Always,
-    /// The path lies below the spec's path.
+    /// The path lies below the spec's path, as `src/lib.rs` below `src`.
     Prefix,
-    /// The spec's path is a glob, and it matches the path.
+    /// The spec's path is a glob that matches the path, as `*.rs` matches `lib.rs`.
     WildcardMatch,
     /// The path is the spec's path.
     Verbatim,
 }
 
-/// Specs that match paths together: excludes first, each group in the order in which the specs were given.
+/// A list of specs that match paths together: excludes first, each group in the order in which the specs were given.
 ///
-/// A match in a [`Scratch`] of its caller only reads it ([`Search::settle`]), so walkers can share a search. No call on it but
-/// [`Search::try_clone`] and [`Search::new_scratch`] takes memory.
+/// A match in a caller's [`Scratch`] only reads the search ([`Search::settle`]), so walkers can share it. Of the calls on a
+/// search only [`Search::try_clone`] and [`Search::new_scratch`] take memory.
 pub struct Search {
     specs: SpecsByHead,
     /// The room for the matches of [`Search::pattern_matching_relative_path`].
     scratch: Box<Scratch>,
-    /// Which paths the includes reach, and what the excludes take whole by their paths.
+    /// Tables of the paths that the includes reach, and of those that the excludes take whole.
     reach: Reach,
     /// The excludes that the search asks one by one whether a walk may skip a directory.
-    takers: TakersByHead,
+    excludes: ExcludesByHead,
     /// The spec `:`, which answers where no spec does.
     nil: Pattern,
-    /// Where the specs come from, as a path or a name. Nothing here reads it.
+    /// The source of the specs, as the name of a file. No answer depends on it.
     pub source: Option<BString>,
 }
 
@@ -71,7 +67,7 @@ impl Model for Search {
 
     ghost view = { λ s. record { specs = s.specs; source = option_map bstring_bytes s.source; counts = (box_value s.scratch).counts } };
 
-    ghost invariant = { λ s. IsSearch s.specs s.reach s.takers s.nil (box_value s.scratch) };
+    ghost invariant = { λ s. IsSearch s.specs s.reach s.excludes s.nil (box_value s.scratch) };
 }
 
 // Written out, so that whoever drops a search needn't prove anew what becomes of its parts.
@@ -81,7 +77,7 @@ impl Drop for Search {
             specs: _specs,
             scratch: _scratch,
             reach: _reach,
-            takers: _takers,
+            excludes: _excludes,
             nil: _nil,
             source: _source,
         } = self;

@@ -6,10 +6,10 @@ use pathspec_test_searches::search_of_line;
 use std::alloc::Global;
 use std::test::Fail;
 
-/// What a match told: the number and the kind, if there is one, and how many specs were asked.
+/// The number and the kind of a match, if there is one, and how many specs it asked.
 type Told = (Settled, usize);
 
-/// What a match tells of a file.
+/// Matches a file.
 fn told(search: &mut Search, path: &str) -> Result<Told, Fail> {
     let settled = settled(search, path.as_bytes(), Some(false))?;
     Ok((settled, search.last_tested()))
@@ -34,9 +34,9 @@ type Asks<'a> = (&'a str, &'a str, &'a str, Settled, usize);
 fn assert_asks(alloc: Global, rows: &[Asks<'_>]) -> Result<(), Fail> {
     for (line, prefix, path, want, count) in rows {
         let mut search = search_of_line(alloc, line, prefix)?;
-        let is_unasked = search.last_tested() == 0 && search.last_compared() == 0;
+        let is_settled_early = search.last_tested() == 0 && search.last_compared() == 0;
         let (found, tested) = told(&mut search, path)?;
-        if !is_unasked || found != *want || tested != *count || !compares_few(&search) {
+        if !is_settled_early || found != *want || tested != *count || !compares_few(&search) {
             return Err(Fail::new(format_args!("{line} {path}")));
         }
     }
@@ -128,8 +128,8 @@ fn the_text_of_a_glob_is_found_whatever_its_end(rt: HostRuntime) -> Result<(), F
     assert_asks(rt.alloc(), ROWS)
 }
 
-/// In how many directories `a` a path lies, each in the one before it, the path in the last, what a match of it tells, and
-/// how many heads it compares, or None for few.
+/// A file and its match. The file lies in so many directories `a`, each in the one before it, and has this path in the last.
+/// The match compares so many heads, or with None few.
 type Telling<'a> = (u32, &'a str, Told, Option<u128>);
 
 /// Asserts what matches tell, one after the other, in a search of so many specs.

@@ -20,7 +20,7 @@ const TEXT: &str = ":(top,icase,attr:a=x\\,y)p/";
 /// directories it takes.
 const TEXTS: &[&str] = &[TEXT, "../c", ":(exclude,glob)d/**", "*.c"];
 
-/// What is answered, or that memory ran out; and for any other fault that the call isn't right.
+/// The answer of a call, or that memory ran out. Any other fault counts as a wrong answer.
 fn or_memory(answer: Result<bool, Error>) -> Result<bool, AllocError> {
     match answer {
         Ok(is_right) => Ok(is_right),
@@ -80,11 +80,11 @@ fn a_long_text_is_written_or_memory_ran_out(rt: HostRuntime) -> Result<(), Fail>
 
 /// A call that tells a fault with bytes.
 enum FaultCall {
-    /// Of a text.
+    /// A fault of a text.
     Text(&'static str),
-    /// Of a variable's word.
+    /// A fault of a variable's word.
     Environment,
-    /// Of a path in the directory `a`.
+    /// A fault of a path in the directory `a`.
     Normalize(&'static str),
 }
 
@@ -303,8 +303,8 @@ fn a_scratch_is_made_or_memory_ran_out(rt: HostRuntime) -> Result<(), Fail> {
     assert_calls(rt.alloc(), CALLS)
 }
 
-/// What a search tells of a path and of itself, without memory: what settles the path, in the search's scratch and in another;
-/// what a walk does; two questions about directories; and lengths.
+/// The answers of a search that need no memory: what settles a path, in the search's scratch and in another; what a walk does;
+/// two answers about directories; and lengths.
 type Told = (Settled, Option<Settled>, Visit, (bool, bool), [usize; 5]);
 
 /// How many bytes the paths of a search's specs have.

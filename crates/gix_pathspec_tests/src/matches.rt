@@ -20,8 +20,8 @@ const WILDCARD: Settled = Some((0, MatchKind::WildcardMatch));
 #[test]
 #[rattlefmt::skip]
 fn the_first_spec_that_matches_settles_a_path(rt: HostRuntime) -> Result<(), Fail> {
-    // The texts in a line, the directory that they are given in, a path, whether it is a directory, and the number and the kind
-    // of the match.
+    // The texts in a line, the directory that they are given in, a path, whether it is a directory, and the number and kind of
+    // the match.
     const ROWS: &[(&str, &str, &str, bool, Settled)] = &[
         ("a :!b /r/c :!d", "", "c", false, Some((2, MatchKind::Verbatim))),
         ("a :!b /r/c :!d", "", "d", false, Some((3, MatchKind::Verbatim))),
@@ -200,8 +200,8 @@ fn asked_search(alloc: Global) -> Result<Box<Search>, Fail> {
     Ok(search)
 }
 
-/// Whether a match that a search lends in its own scratch, by a look-up that fails after so many answers, leaves it as `settle`
-/// leaves the scratch that it is lent; and whether a spec settles the file, or None where the look-up fails.
+/// Whether a match in the search's own scratch leaves it as `settle` leaves a scratch of the caller's. The look-up fails after
+/// `left` answers. `want` says whether a spec settles the file; None where the look-up fails.
 fn is_left(alloc: Global, path: &str, left: u64, want: Option<bool>) -> Result<bool, Fail> {
     let (mut search, other) = (asked_search(alloc)?, asked_search(alloc)?);
     let mut scratch = scratch_of(alloc, &other)?;

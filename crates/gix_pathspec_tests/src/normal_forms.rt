@@ -16,8 +16,8 @@ fn normalise(pattern: &mut Pattern, prefix: &str) -> Result<(), Error> {
     Ok(())
 }
 
-/// Whether a text has this long text of its normal form, which is its own normal form and reads back, or `nil` and the path of
-/// a nil one; or has this fault, which leaves the pattern as it was.
+/// Whether a text has the normal form whose long text is `want`, or `nil` and a path for a nil one. Such a form is its own and
+/// reads back. `want` may also be a fault, which leaves the pattern as it was.
 fn is_normalised(alloc: Global, text: &str, prefix: &str, want: &[u8]) -> Result<bool, Fail> {
     let mut pattern = pattern_of(alloc, text)?;
     let before = pattern.try_clone()?;

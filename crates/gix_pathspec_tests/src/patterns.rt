@@ -28,8 +28,8 @@ fn patterns_are_made(rt: HostRuntime) -> Result<(), Fail> {
     Ok(())
 }
 
-/// A text for each field of patterns, and the directory that it is given in: the pattern has the higher of two values in
-/// that field, and the lower in all before it.
+/// Texts of patterns in rising order, one for each field, with the directory that it is given in. A pattern has the higher of
+/// two values in its field, and the lower one in all fields before it.
 const RISING: &[(&str, &str)] = &[
     ("a/b", ""),
     ("b", "a"),

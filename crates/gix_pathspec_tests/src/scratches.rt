@@ -106,7 +106,7 @@ fn a_scratch_shows_what_its_last_match_looked_at(rt: HostRuntime) -> Result<(), 
     Ok(())
 }
 
-/// What threads may share by a reference, and hand to one another.
+/// Whether threads may share a value by a reference, and hand it to one another.
 fn may_be_shared<T: Send + Sync>(_: &T) -> bool {
     true
 }
@@ -148,7 +148,7 @@ fn a_scratch_fits_what_wants_no_other_room(rt: HostRuntime) -> Result<(), Fail> 
     Ok(())
 }
 
-/// What settles a file where no attributes are known, and whether it is selected.
+/// The match that settles a file where no attributes are known, and whether the file is selected.
 fn unknown(alloc: Global, line: &str, path: &[u8]) -> Result<(Option<Settled>, bool), Fail> {
     let search = search_of_line(alloc, line, "")?;
     let mut scratch = scratch_of(alloc, &search)?;

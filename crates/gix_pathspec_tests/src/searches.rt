@@ -15,7 +15,7 @@ use std::test::Fail;
 /// The number and the kind of a match, if there is one.
 pub(super) type Settled = Option<(usize, MatchKind)>;
 
-/// What settles a path.
+/// The number and the kind of the match that settles a path.
 pub(super) fn settled(
     search: &mut Search,
     path: &[u8],
@@ -28,7 +28,7 @@ pub(super) fn settled(
     }
 }
 
-/// What settles a path in a scratch, or None where the look-up fails.
+/// The number and the kind of the match that settles a path, in a scratch; None where the look-up fails.
 pub(super) fn settled_in<L: LookUp>(
     search: &Search,
     path: &[u8],
@@ -55,7 +55,7 @@ pub(super) fn scratch_of(alloc: Global, search: &Search) -> Result<Box<Scratch>,
     Ok(Box::new(alloc, search.new_scratch(alloc)?)?)
 }
 
-/// What a walk does with a path, in a scratch of the search's, by marks that no path has.
+/// A walk's decision on a path, in a scratch of the search's, by marks that no path has.
 pub(super) fn visited(
     search: &Search,
     path: &[u8],

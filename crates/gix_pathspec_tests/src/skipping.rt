@@ -139,8 +139,8 @@ fn ask(
 /// A directory, whether a walk may skip what lies below it, and how many excludes are asked.
 type Asked<'a> = (&'a str, bool, usize);
 
-/// Asserts what a search answers of so many excludes, with these texts before and behind a number. It compares no more heads than
-/// ten thousand excludes allow, which are fewer than 2^14.
+/// Asserts what a search answers of so many excludes, with these texts before and behind a number. It compares no more heads
+/// than ten thousand excludes allow, which are fewer than 2^14.
 fn assert_answers(
     alloc: Global,
     count: u32,
@@ -200,7 +200,7 @@ fn a_thousand_excludes_of_one_head_are_asked_in_turn(rt: HostRuntime) -> Result<
 #[test]
 #[rattlefmt::skip]
 fn a_walk_visits_each_entry_once(rt: HostRuntime) -> Result<(), Fail> {
-    // The texts in a line, a path, whether it is a directory, whether a walk gives it and enters it, and how many specs are asked
+    // The texts in a line, a path, whether it is a directory, whether a walk gives and enters it, and how many specs are asked
     // for that.
     const ROWS: &[(&str, &str, bool, (bool, bool), u128)] = &[
         // A table tells that an exclude takes the directory whole, and one match takes the file.

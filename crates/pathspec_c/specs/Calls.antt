@@ -7,7 +7,7 @@ use Rattle.pathspec_pattern.specs.Environment.{Words, case_signature}
 use Rattle.gix_pathspec.specs.Faults.{Fault}
 use Rattle.gix_pathspec.specs.declared.search.MatchKind.{MatchKind}
 use Rattle.gix_pathspec.specs.declared.search.MatchKind.TheVariants.{Always, Prefix, WildcardMatch, Verbatim}
-use Rattle.pathspec_select.specs.Listing.{records}
+use Rattle.pathspec_parts.specs.Records.{records}
 
 -- ---- what a call is given
 

@@ -1,11 +1,9 @@
 -- What a handle holds.
 use Rattle.std.specs.Prelude.{◌≡◌, ℕ, Bool, true, false, List, [], ◌∷◌, ◌++◌, Option, Some, None, Ok, IfSome}
 use Rattle.pathspec_parts.specs.Attributes.{Assignment}
-use Rattle.pathspec_parts.specs.AttributeRows.{Row}
+use Rattle.pathspec_parts.specs.AttributeRows.{Row, table_of, RowsContents}
 use Rattle.pathspec_pattern.specs.AttributeLists.{assignments_of}
 use Rattle.gix_pathspec.specs.Search.{Numbered}
-use Rattle.pathspec_select.specs.Listing.{table_of}
-use Rattle.pathspec_select.specs.Rows.{RowsContents}
 
 -- the specs of a search in search order, the attributes of paths, and whether any list of them was given
 pub record SearcherContents : Type 0 where

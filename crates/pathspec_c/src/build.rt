@@ -1,4 +1,4 @@
-//! Searches are made of texts.
+//! Makes searches of texts.
 ghost use Rattle.std.specs.Prelude.{◌≡◌, map, IsTrue};
 ghost use Rattle.pathspec_parts.specs.Paths.{is_clean_prefix};
 ghost use Rattle.gix_pathspec.specs.Building.{Builds, IsErrorAt};
@@ -13,7 +13,7 @@ use gix_pathspec::{BuildError, Defaults, Error, Pattern, Search, parse};
 use pathspec_parts::split;
 use std::alloc::Global;
 
-/// The search of texts, each ended by the byte 0, in the directory `prefix` of a repository that lies at `root`.
+/// Makes the search of texts, each ended by the byte 0, in the directory `prefix` of the repository at `root`.
 ///
 /// # Errors
 /// The first fault of a text as it is read, and then of a spec as it is normalised; or [`BuildError::Memory`].
@@ -32,7 +32,7 @@ pub(crate) fn search_of_texts(
     Search::from_specs(alloc, patterns, Some(BStr::new(prefix)), BStr::new(root))
 }
 
-/// The pattern of each text.
+/// Reads the pattern of each text.
 fn parse_texts(alloc: Global, texts: &[u8], defaults: Defaults) -> Result<Vec<Pattern>, BuildError>
     ensures { Builds (λ patterns. map pattern_spec patterns.items)
         (readings_from 0 defaults (texts_in texts.now)) result }
@@ -48,7 +48,7 @@ fn parse_texts(alloc: Global, texts: &[u8], defaults: Defaults) -> Result<Vec<Pa
     Ok(patterns)
 }
 
-/// The pattern of the text with this number.
+/// Reads the pattern of the text with a number.
 fn parse_text(
     alloc: Global,
     number: usize,
@@ -63,7 +63,7 @@ fn parse_text(
     }
 }
 
-/// The error for an error of the text with this number.
+/// The build error for an error of the text with a number.
 fn error_at(number: usize, error: Error) -> BuildError
     ensures { IsErrorAt number error result }
 {

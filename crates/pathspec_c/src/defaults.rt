@@ -1,4 +1,4 @@
-//! What specs get that say nothing of it, as bits: 1 literal, 2 without case, 4 globs aware of paths, 8 no globs.
+//! The defaults of specs, as bits: 1 literal, 2 without case, 4 globs aware of paths, 8 no globs.
 ghost use Rattle.std.specs.Prelude.{◌≡◌, ◌≢◌, ◌⊎◌, [], None, Some, Ok, MatchResult, if◌then◌else◌};
 ghost use Rattle.pathspec_pattern.specs.Environment.{case_signature, defaults_of, flag_of};
 ghost use Rattle.pathspec_c.specs.Calls.{HasKind, defaults_by, defaults_from, mode_from, words_from};
@@ -8,9 +8,9 @@ use bitflags::Flags;
 use gix_pathspec::{Defaults, MagicSignature, SearchMode};
 use pathspec_parts::truth::parse_truth;
 
-/// The bits that the words of git's variables for pathspecs ask for. An empty word says the same as a variable that isn't
-/// set. The status is 0, or 5 where a word is none of truth, or globs are both asked for and not; then `defaults` stays. Only
-/// with 5 is the fault written, with the number 0.
+/// Reads the bits that the words of git's variables for pathspecs ask for. An empty word stands for a variable that isn't set.
+/// The status is 0, or 5 where a word is none of truth, or globs are both asked for and not; then `defaults` stays. Only with
+/// 5 is the fault written, with the number 0.
 #[unsafe(no_mangle)]
 pub extern "C" fn ps_defaults_from_words(
     literal: &[u8],
@@ -64,10 +64,10 @@ fn bits_of_words(literal: &[u8], icase: &[u8], glob: &[u8], noglob: &[u8]) -> Re
     Ok(bits_of(false, ignore_case, glob, noglob))
 }
 
-/// What a word of truth says.
+/// The value of a word of truth.
 ///
 /// # Errors
-/// The number of the fault of a word that is none.
+/// The number of the fault of any other word.
 fn flag_of(word: &[u8]) -> Result<bool, u32>
     ensures { MatchResult result (λ flag. flag_of (Some word.now) ≡ Ok flag)
         (λ kind. HasKind kind (flag_of (Some word.now))) }
@@ -78,21 +78,21 @@ fn flag_of(word: &[u8]) -> Result<bool, u32>
     }
 }
 
-/// The bits of these settings.
+/// The bits of four settings.
 fn bits_of(literal: bool, ignore_case: bool, glob: bool, noglob: bool) -> u32
     ensures { defaults_from result ≡ defaults_by literal ignore_case glob noglob }
 {
     bit(literal, 1) | bit(ignore_case, 2) | bit(glob, 4) | bit(noglob, 8)
 }
 
-/// A bit, where it is set.
+/// The value of a bit if it is set, else 0.
 fn bit(is_set: bool, value: u32) -> u32
     ensures { result ≡ (if is_set then value else 0) }
 {
     if is_set { value } else { 0 }
 }
 
-/// What bits say of texts that say nothing of it.
+/// The defaults that bits ask for.
 pub(crate) fn defaults_from(bits: u32) -> Defaults
     ensures { result ≡ defaults_from bits }
 {
@@ -104,7 +104,7 @@ pub(crate) fn defaults_from(bits: u32) -> Defaults
     }
 }
 
-/// The signature where case counts or not.
+/// The signature that ignores case, or doesn't.
 fn case_signature(ignore_case: bool) -> MagicSignature
     ensures { result ≡ case_signature ignore_case }
 {

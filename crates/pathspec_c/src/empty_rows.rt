@@ -1,13 +1,12 @@
 //! The look-up where no attributes were given.
 ghost use Rattle.std.specs.Prelude.{[]};
-ghost use Rattle.pathspec_select.specs.Listing.{table_of};
+ghost use Rattle.pathspec_parts.specs.AttributeRows.{table_of};
 
 use bstr::BStr;
 use gix_pathspec::attributes::{Case, LookUp, Outcome};
 use std::convert::Infallible;
 
-/// A look-up that says of each path that all its attributes are unspecified, as git does where no file gives any. It never
-/// fails.
+/// A look-up by which all attributes of each path are unspecified, as by git where no file gives any. It never fails.
 #[derive(Clone, Copy, Debug)]
 pub(crate) struct EmptyRows;
 

@@ -11,8 +11,8 @@ use std::alloc::Global;
 use std::marker::Model;
 use std::{mem, ptr};
 
-/// A handle that C keeps: one pointer, which is null where the handle is empty, and else leads to what the handle holds and
-/// owns. C makes it of zero bytes, and then only hands its address on.
+/// A handle that C keeps: one pointer, null where the handle is empty, and else to the searcher that the handle owns. C makes
+/// it of zero bytes, and then only hands its address on.
 #[repr(C)]
 #[derive(Drop)]
 pub struct PsSearch {
@@ -24,11 +24,11 @@ impl Model for PsSearch {
     ghost also_owns = { λ h. searcher_at h.at h.searcher };
 }
 
-// What it owns is a box, which may go to another thread.
+// The handle owns a box, which may go to another thread.
 unsafe impl Send for PsSearch {}
 
 impl PsSearch {
-    /// A handle with nothing in it.
+    /// Makes an empty handle.
     fn empty() -> PsSearch
         ensures { result.searcher ≡ None }
     {
@@ -37,7 +37,7 @@ impl PsSearch {
         }
     }
 
-    /// A handle that owns what a box owned.
+    /// Makes a handle that owns what a box owned.
     fn of(searcher: RawBox<Searcher, Global>) -> PsSearch
         ensures { result.searcher ≡ Some searcher.value }
     {
@@ -45,7 +45,7 @@ impl PsSearch {
         PsSearch { at: at as *mut u8 }
     }
 
-    /// What a handle holds, if it isn't empty.
+    /// The searcher that the handle holds, if it isn't empty.
     fn into_raw_box(self, alloc: Global) -> Option<RawBox<Searcher, Global>>
         ensures { option_map (λ u. u.value) result ≡ self.searcher }
     {
@@ -60,7 +60,7 @@ impl PsSearch {
         }
     }
 
-    /// Takes out what the handle holds, and leaves it empty.
+    /// Takes the searcher out of the handle, if it holds one, and leaves it empty.
     pub(crate) fn take(&mut self, alloc: Global) -> Option<Box<Searcher>>
         ensures searcher { option_map box_value result ≡ self.old.searcher }
         ensures empty { self.new.searcher ≡ None }
@@ -71,7 +71,7 @@ impl PsSearch {
         }
     }
 
-    /// Puts something into an empty handle.
+    /// Puts a searcher into an empty handle.
     pub(crate) fn put(&mut self, searcher: Box<Searcher>)
         requires { self.old.searcher ≡ None }
         ensures { self.new.searcher ≡ Some (box_value searcher) }

@@ -1,10 +1,9 @@
 //! The search of `gix_pathspec`, for C and what calls C.
 //!
-//! C keeps a [`PsSearch`], makes it of zero bytes, and hands its address to each call. [`searches`] has the calls that put a
-//! search into it and take it out, [`questions`] those that ask it about paths, [`texts`] those that copy texts to room of
-//! the caller's, [`messages`] those that say a fault in words, and [`defaults`] the one that reads the environment's words.
-//! An empty handle is answered with the status 2, and is never followed. No call wants more of what it is given than its
-//! types say.
+//! C keeps a [`PsSearch`], makes it of zero bytes, and hands its address to each call. Calls of [`searches`] put a search into
+//! it and take it out, and those of [`questions`] ask it about paths. Calls of [`texts`] copy texts to the caller's room,
+//! those of [`messages`] say a fault in words, and [`defaults`] reads the environment's words. An empty handle is answered
+//! with the status 2, and is never followed. No call wants more of what it is given than its types say.
 #![tactic(auto)]
 
 mod build;

@@ -1,8 +1,8 @@
 //! Messages of faults, for people: their words may change.
 //!
 //! Each call reads again what is at fault, at the same cost, and takes memory. A message is copied as the texts of
-//! [`texts`](crate::texts) are. The status is 1 where there is one, 0 where nothing is at fault, 3 where memory ran out,
-//! and 4 where the prefix isn't clean; where it isn't 1 the room is as before and the length 0.
+//! [`texts`](crate::texts) are. The status is 1 where there is one, 0 where nothing is at fault, 3 where memory ran out, and 4
+//! where the prefix isn't clean. Where it isn't 1, the room is as before and the length 0.
 ghost use Rattle.std.specs.Prelude.{◌≡◌, ◌≢◌, ◌↔◌, ◌⊎◌, ℕ, false, IsErr, IsOk, List, Result};
 ghost use Rattle.pathspec_pattern.specs.AttributeLists.{assignments_of};
 ghost use Rattle.gix_pathspec.specs.Building.{TellsFault};

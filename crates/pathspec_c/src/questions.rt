@@ -1,4 +1,4 @@
-//! Searches are asked about paths.
+//! Questions to searches about paths.
 //!
 //! Each answer is 1 for yes or 0 for no, and nothing else, so that a caller may take it for a truth value. Where it isn't
 //! known, it is the one that loses no path: an empty handle skips no directory, and a match that had no memory selects.
@@ -6,7 +6,7 @@ ghost use Rattle.std.specs.Prelude.{◌≡◌, ◌≢◌, false, true, is_none, 
 ghost use Rattle.gix_pathspec.specs.Pruning.{can_match};
 ghost use Rattle.gix_pathspec.specs.Search.{answer, selects, specs_of};
 ghost use Rattle.gix_pathspec.specs.Skipping.{may_skip};
-ghost use Rattle.pathspec_select.specs.Listing.{table_of};
+ghost use Rattle.pathspec_parts.specs.AttributeRows.{table_of};
 ghost use Rattle.pathspec_c.specs.Calls.{IsYesOrNo, yes_no};
 ghost use Rattle.pathspec_c.specs.Searchers.{KeepsSearcher};
 ghost use Rattle.pathspec_c.specs.Reports.{IsUnanswered, TellsAnswer};

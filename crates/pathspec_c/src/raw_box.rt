@@ -6,7 +6,7 @@ ghost use Rattle.std.specs.Box.Ownership.{box_owns};
 use std::alloc::Allocator;
 use std::marker::Model;
 
-/// What a box owns: the value at a pointer, the right to free its block, and the allocator's handle to free it by.
+/// A box in parts: the pointer to its value, the right to free its block, and the allocator's handle to free it by.
 pub(crate) struct RawBox<T, A: Allocator> {
     pub(crate) at: *mut T,
     pub(crate) alloc: A,

@@ -1,4 +1,4 @@
-//! What calls report to C: the spec that settles a path, and why a search was not made.
+//! Reports to C: the spec that settles a path, and the fault for which a search was not made.
 ghost use Rattle.std.specs.Prelude.{◌≡◌, ◌≢◌, None, MatchOption};
 ghost use Rattle.std.specs.Option.{option_map};
 ghost use Rattle.gix_pathspec.specs.Errors.{fault_of};
@@ -13,16 +13,16 @@ use gix_pathspec::search::{Match, MatchKind};
 #[repr(C)]
 #[derive(Drop)]
 pub struct PsMatch {
-    /// Its place in the list that the search was made from.
+    /// The place of the spec in the list that the search was made from.
     pub number: usize,
-    /// How it came to match: 1 always, 2 by its prefix, 3 by its glob, 4 verbatim; 0 where no spec settles the path, and 5
-    /// where memory ran out before that was known.
+    /// The way in which the spec matches: 1 always, 2 by its prefix, 3 by its glob, 4 verbatim. It is 0 where no spec settles
+    /// the path, and 5 where memory ran out before that was known.
     pub kind: u32,
-    /// 1 where it takes the path out, and else 0. It is no `bool`, so that a caller may hand in what the memory holds.
+    /// 1 where the spec takes the path out, and else 0. It is no `bool`, so that a caller may hand in what the memory holds.
     pub is_excluded: u32,
 }
 
-/// Why no search was made.
+/// The fault for which no search was made.
 #[repr(C)]
 #[derive(Drop)]
 pub struct PsFault {
@@ -46,7 +46,7 @@ impl PsMatch {
         }
     }
 
-    /// Tells what settles a path, and whether that selects it: 1 for yes and 0 for no.
+    /// Tells the spec that settles a path, and whether that selects it: 1 for yes and 0 for no.
     pub(crate) fn tell(&mut self, settled: &Option<Match<'_>>) -> u32
         ensures selects { result ≡ yes_no (selects (option_map match_view settled.now)) }
         ensures report { TellsAnswer self.new (option_map match_view settled.now) }

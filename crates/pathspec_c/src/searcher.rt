@@ -1,4 +1,4 @@
-//! What a handle holds: a search, which handles share, and what is each one's own.
+//! The content of a handle: a search, which handles share, with room and attributes of its own.
 ghost use Rattle.std.specs.Prelude.{◌≡◌, ◌≢◌, true, Err, IfOk, IfErr, OnOk, OnErr};
 ghost use Rattle.std.specs.Arc.{arc_value};
 ghost use Rattle.std.specs.Box.{box_value};
@@ -7,7 +7,7 @@ ghost use Rattle.gix_pathspec.specs.Errors.{IsMemoryOr};
 ghost use Rattle.gix_pathspec.specs.Room.{Fits};
 ghost use Rattle.gix_pathspec.specs.Search.{specs_of, answer, selects};
 ghost use Rattle.gix_pathspec.specs.Skipping.{may_skip};
-ghost use Rattle.pathspec_select.specs.Listing.{table_of};
+ghost use Rattle.pathspec_parts.specs.AttributeRows.{table_of};
 ghost use Rattle.pathspec_c.specs.Calls.{IsYesOrNo, yes_no};
 ghost use Rattle.pathspec_c.specs.Searchers.{AddsRow, Keeps, new_searcher};
 ghost use Rattle.pathspec_c.specs.Reports.{IsUnanswered, TellsAnswer};
@@ -18,7 +18,7 @@ use bstr::BStr;
 use gix_pathspec::attributes::LookUp;
 use gix_pathspec::search::Scratch;
 use gix_pathspec::{Error, Search, parse};
-use pathspec_select::Rows;
+use pathspec_parts::attributes::Rows;
 use std::alloc::{AllocError, Global};
 use std::marker::Model;
 use std::sync::Arc;
@@ -46,23 +46,24 @@ impl Model for Searcher {
 }
 
 impl Searcher {
-    /// Takes a search, and makes room for its matches.
+    /// Makes a searcher of a search, with room for its matches.
     pub(crate) fn new(alloc: Global, search: Search) -> Result<Box<Searcher>, AllocError>
         ensures { IfOk result (λ searcher. box_value searcher ≡ new_searcher search.specs) }
     {
         Searcher::of(alloc, Arc::new(alloc, search)?)
     }
 
-    /// A searcher of the same search, with room of its own and no attributes.
+    /// Makes a searcher of the same search, with room of its own and no attributes.
     pub(crate) fn share(&self, alloc: Global) -> Result<Box<Searcher>, AllocError>
         ensures { IfOk result (λ searcher. box_value searcher ≡ new_searcher self.now.specs) }
     {
         Searcher::of(alloc, Arc::try_clone(&self.search)?)
     }
 
-    /// A searcher of a search that others may share.
+    /// Makes a searcher of a search that others may share.
     fn of(alloc: Global, search: Arc<Search, Global>) -> Result<Box<Searcher>, AllocError>
-        ensures { IfOk result (λ searcher. box_value searcher ≡ new_searcher (arc_value search).specs) }
+        ensures { IfOk result (λ searcher.
+            box_value searcher ≡ new_searcher (arc_value search).specs) }
     {
         let scratch = search.new_scratch(alloc)?;
         let searcher = Searcher {
@@ -113,7 +114,7 @@ impl Searcher {
         }
     }
 
-    /// Gives a path what a list of attributes assigns.
+    /// Gives a path the attributes that a list assigns.
     ///
     /// # Errors
     /// The list can't be read, or [`Error::Memory`].

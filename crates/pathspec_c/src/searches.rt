@@ -1,7 +1,7 @@
-//! Searches are made, shared and freed.
+//! Calls that make, share and free searches.
 //!
-//! The status is 0 where all was done, 2 where the handle is empty, 3 where memory ran out, 4 where the prefix isn't clean,
-//! and 5 where a spec or a list of attributes is at fault. Only with 5 is the fault written.
+//! The status is 0 where all was done, 2 where the handle is empty, and 3 where memory ran out. It is 4 where the prefix isn't
+//! clean, and 5 where a spec or a list of attributes is at fault. Only with 5 is the fault written.
 ghost use Rattle.std.specs.Prelude.{◌≡◌, ◌≢◌, ◌↔◌, ◌⊎◌, ℕ, false, None, Some, Err, Result, IfSome, List};
 ghost use Rattle.pathspec_parts.specs.Paths.{is_clean_prefix};
 ghost use Rattle.pathspec_pattern.specs.AttributeLists.{assignments_of};
@@ -24,7 +24,7 @@ use gix_pathspec::{BuildError, Error, Search};
 use pathspec_parts::path::is_clean_prefix;
 use std::alloc::Global;
 
-/// Makes a search of texts, each ended by the byte 0, in the directory `prefix` of a repository that lies at `root`. What
+/// Makes a search of texts, each ended by the byte 0, in the directory `prefix` of the repository at `root`. The search that
 /// the handle held before is freed.
 #[unsafe(no_mangle)]
 pub extern "C" fn ps_search_new(
@@ -85,8 +85,8 @@ pub extern "C" fn ps_search_from_lines(
     keep(alloc, search, made, fault)
 }
 
-/// Gives `other` the search of a handle, with room of its own and no attributes, so that another thread can ask it at the
-/// same time. What `other` held before is freed.
+/// Gives `other` the search of a handle, with its own room and no attributes: another thread can ask it at the same time. The
+/// search that `other` held before is freed.
 #[unsafe(no_mangle)]
 pub extern "C" fn ps_search_share(alloc: Global, search: &mut PsSearch, other: &mut PsSearch) -> u32
     ensures stays { search.new.searcher ≡ search.old.searcher }
@@ -144,7 +144,7 @@ pub extern "C" fn ps_search_assign(
     }
 }
 
-/// Frees what a handle holds, and leaves it empty.
+/// Frees the search that a handle holds, and leaves the handle empty.
 #[unsafe(no_mangle)]
 pub extern "C" fn ps_search_free(alloc: Global, search: &mut PsSearch)
     ensures { search.new.searcher ≡ None }
@@ -183,7 +183,7 @@ fn keep(
     }
 }
 
-/// Tells the error of the spec with this number.
+/// Tells the error of the spec with a number.
 fn refuse(number: usize, error: &Error, fault: &mut PsFault) -> u32
     ensures report { IfSome (fault_of error.now) (λ first. (result ≡ 5)
         × (fault.new ≡ record { number = number; kind = fault_number first })) }

@@ -1,7 +1,7 @@
 //! Texts, which are copied to room of the caller's.
 //!
-//! As many bytes are copied as there is room for, and `length` is how many there are. The status is 1 where there is such a
-//! text, 0 where there is none, and 2 where the handle is empty.
+//! A call copies as many bytes as there is room for, and `length` is how many the text has. The status is 1 where there is
+//! such a text, 0 where there is none, and 2 where the handle is empty.
 ghost use Rattle.std.specs.Prelude.{◌≡◌, Some, length};
 ghost use Rattle.std.specs.Option.{option_map};
 ghost use Rattle.bstr.specs.BStr.{bstr_bytes};
@@ -14,7 +14,7 @@ use crate::handle::PsSearch;
 use bstr::BStr;
 use std::alloc::Global;
 
-/// What all selected paths begin with. It is the empty text where they share nothing.
+/// The common prefix, with which all selected paths begin. It is the empty text where they share nothing.
 #[unsafe(no_mangle)]
 pub extern "C" fn ps_search_common_prefix(
     alloc: Global,
@@ -38,7 +38,7 @@ pub extern "C" fn ps_search_common_prefix(
     status
 }
 
-/// The longest directory at or below which all selected paths lie, if they share one.
+/// The longest common directory of the includes, at or below which all selected paths lie, if they share one.
 #[unsafe(no_mangle)]
 pub extern "C" fn ps_search_longest_common_directory(
     alloc: Global,
@@ -60,8 +60,7 @@ pub extern "C" fn ps_search_longest_common_directory(
     status
 }
 
-/// The directory of the prefix that the first include has kept. It is the empty text where it has kept none of it, and where
-/// there is no include.
+/// The directory that the first include has kept of the prefix. It is empty where none was kept, and without an include.
 #[unsafe(no_mangle)]
 pub extern "C" fn ps_search_prefix_directory(
     alloc: Global,
@@ -85,19 +84,19 @@ pub extern "C" fn ps_search_prefix_directory(
     status
 }
 
-/// The name of the fault with this number, as `MissingParen` of 3.
+/// The name of the fault with a number: `MissingParen` for 3.
 #[unsafe(no_mangle)]
 pub extern "C" fn ps_fault_name(kind: u32, room: &mut [u8], length: &mut usize) -> u32
     ensures status { result ≡ text_status (fault_name kind) }
     ensures copied { room.new ≡ text_copied (fault_name kind) room.old }
     ensures length { length.new ≡ text_length (fault_name kind) }
-    // These are the names that the library gives them.
+    // The library gives the faults these names.
     ensures names { NamesKinds }
 {
     tell(name_of(kind), room, length)
 }
 
-/// The number of what is declared in `pathspec.h`. It grows where a declaration changes.
+/// The number of the declarations in `pathspec.h`. It grows where a declaration changes.
 #[unsafe(no_mangle)]
 pub extern "C" fn ps_version() -> u32
     ensures { result ≡ 2 }
@@ -105,7 +104,7 @@ pub extern "C" fn ps_version() -> u32
     2
 }
 
-/// The name of the fault with this number.
+/// The name of the fault with a number.
 fn name_of(kind: u32) -> Option<BStr<'static>>
     ensures { option_map bstr_bytes result ≡ fault_name kind }
 {
@@ -157,7 +156,7 @@ fn tell_nothing(length: &mut usize) -> u32
     2
 }
 
-/// Copies bytes to the front of room, as far as it goes, and says how many there are.
+/// Copies bytes to the front of the caller's room, as far as it goes, and gives their count.
 fn copy(bytes: &[u8], room: &mut [u8]) -> usize
     ensures length { result ≡ length bytes.now }
     ensures copied { room.new ≡ copied bytes.now room.old }

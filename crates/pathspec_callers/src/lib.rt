@@ -1,4 +1,4 @@
-//! Callers of the library crates, which their `CALLING.md` and the README show.
+//! Callers of the library crates, which the `CALLING.md` of each shows.
 #![tactic(auto)]
 
 pub mod attributes;

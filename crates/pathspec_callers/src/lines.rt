@@ -11,7 +11,7 @@ use bstr::{BStr, BString};
 use gix_pathspec::{BuildError, Defaults, Error, Search};
 use std::alloc::{AllocError, Global};
 
-/// Why the lines of a file make no search.
+/// The reason why the lines of a file make no search.
 #[derive(Debug, Drop)]
 pub enum LinesError {
     /// The report for the first line at fault, as an editor or a CI run prints it, with lines counted from 1:
@@ -31,8 +31,8 @@ impl From<AllocError> for LinesError {
     }
 }
 
-/// The search of the specs on the lines of a file, which are given in the directory `prefix` of a repository. Its `source`
-/// is the file's name.
+/// Makes the search of the specs on the lines of a file, which are given in the directory `prefix` of a repository. Its
+/// `source` is the file's name.
 ///
 /// # Errors
 /// [`LinesError`].
@@ -58,7 +58,7 @@ pub fn search_of_file(
     }
 }
 
-/// The report for the line of a file that has this number, from 0.
+/// The report for the line of a file with a number, from 0.
 fn report(
     alloc: Global,
     name: BStr<'_>,

@@ -29,7 +29,7 @@ pub fn is_selected<L: LookUp>(
     search.is_selected(file, Some(false), scratch, look_up)
 }
 
-/// How many of these files a search selects.
+/// The count of the files that a search selects.
 ///
 /// # Errors
 /// The first fault of the look-up.
@@ -62,7 +62,7 @@ pub fn may_skip(search: &Search, directory: BStr<'_>, scratch: &mut Scratch) -> 
     search.may_skip(directory, scratch)
 }
 
-/// As [`may_skip`], for a directory as `git status` prints it, with a slash at its end.
+/// Answers as [`may_skip`] does, for a directory as `git status` prints it, with a slash at its end.
 pub fn may_skip_printed(search: &Search, directory: BStr<'_>, scratch: &mut Scratch) -> bool
     requires { Fits search.now.specs scratch.old }
     ensures skipped { IsTrue result
@@ -73,8 +73,8 @@ pub fn may_skip_printed(search: &Search, directory: BStr<'_>, scratch: &mut Scra
     may_skip(search, BStr::new(directory), scratch)
 }
 
-/// What a walker does with a directory: whether it gives it, and whether it goes into it. Below one that it doesn't go into
-/// nothing is chosen, whatever a look-up says.
+/// A walker's decision on a directory: whether to give it, and whether to enter it. Nothing below a directory that it doesn't
+/// enter is chosen, whatever a look-up says.
 ///
 /// # Errors
 /// The fault of the look-up.

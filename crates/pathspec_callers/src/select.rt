@@ -1,23 +1,24 @@
-//! Callers of `pathspec_select`.
+//! Callers of `pathspec_walk`, `pathspec_index` and `pathspec_select`.
 ghost use Rattle.std.specs.Prelude.{◌≡◌, [], Some, map, string_bytes, IfOk};
 ghost use Rattle.gix_pathspec.specs.Search.{specs_of};
 ghost use Rattle.pathspec_select.specs.Environment.{words_of};
 ghost use Rattle.pathspec_select.specs.Choice.{WritesChosen};
-ghost use Rattle.pathspec_select.specs.Walks.{chosen_entries};
-ghost use Rattle.pathspec_select.specs.Listing.{listing_entries};
-ghost use Rattle.pathspec_select.specs.Index.{number_of};
+ghost use Rattle.pathspec_walk.specs.Walks.{chosen_entries};
+ghost use Rattle.pathspec_parts.specs.Records.{listing_entries};
+ghost use Rattle.pathspec_index.specs.Index.{number_of};
 
 use gix_pathspec::Search;
 use gix_pathspec::attributes::LookUp;
+use pathspec_index::{IndexPlace, IndexWalk, SortedPaths};
 use pathspec_parts::tree::{Cursor, Tree};
-use pathspec_select::index::{IndexPlace, IndexWalk, SortedPaths};
-use pathspec_select::{Environment, Refusal, SelectError, run, select};
+use pathspec_select::{Environment, Refusal, run};
+use pathspec_walk::{SelectError, select};
 use std::alloc::Global;
 
 /// The lines of a listing that the words' specs choose.
 ///
 /// # Errors
-/// Those of [`run`].
+/// [`Refusal`], as [`run`] tells it.
 pub fn chosen_lines(
     alloc: Global,
     words: &[String],
@@ -36,7 +37,7 @@ pub fn chosen_lines(
 /// The numbers of the entries of a tree that a search chooses.
 ///
 /// # Errors
-/// Those of [`select`].
+/// [`SelectError`], as [`select`] tells it.
 pub fn chosen_entries<L: LookUp>(
     alloc: Global,
     tree: &Tree,
@@ -55,7 +56,7 @@ pub fn chosen_entries<L: LookUp>(
 /// The places of the paths of an index, and of the directories that they imply, that a search chooses.
 ///
 /// # Errors
-/// Those of [`select`].
+/// [`SelectError`], as [`select`] tells it.
 pub fn chosen_places<L: LookUp>(
     alloc: Global,
     paths: &SortedPaths<'_>,

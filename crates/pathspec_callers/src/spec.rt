@@ -13,7 +13,7 @@ use std::alloc::Global;
 /// The pattern of a text that is given in the directory `prefix` of the repository at `root`.
 ///
 /// # Errors
-/// Those of [`Pattern::from_bytes`] and of [`Pattern::normalize`].
+/// The errors of [`Pattern::from_bytes`] and of [`Pattern::normalize`].
 pub fn pattern_in(
     alloc: Global,
     text: &[u8],

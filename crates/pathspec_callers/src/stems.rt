@@ -6,7 +6,7 @@ ghost use Rattle.pathspec_heads.specs.Tables.{stem_reaches};
 use pathspec_heads::tables::{SpecStem, StemTable};
 use std::alloc::{AllocError, Global};
 
-/// Whether one of these stems reaches a directory.
+/// Whether one of the stems reaches a directory.
 pub fn reaches_directory(
     alloc: Global,
     stems: &[SpecStem<'_>],

@@ -10,15 +10,15 @@ ghost use Rattle.gix_pathspec.specs.Search.{specs_of, HoldsNormalForms};
 ghost use Rattle.pathspec_callers.specs.Stores.{Stores, StoreEach, IsSearchOfTexts, ChooseAlike};
 
 use bstr::{BStr, BString};
-use gix_pathspec::{BuildError, Defaults, Error, Pattern, Search};
+use gix_pathspec::{BuildError, Defaults, Error, Pattern, Search, laws};
 use std::alloc::Global;
 use std::mem;
 
-/// A search of texts that are given in the directory `prefix` of a repository, and the same search as it is made again,
-/// at the top, from the texts that a store has of it. Both choose the same paths, whatever a look-up says.
+/// Makes a search of texts in the directory `prefix` of a repository, and makes it again, at the top, from the texts that a
+/// store has of it. Both choose the same paths, whatever a look-up says.
 ///
 /// # Errors
-/// Those of [`search_of_texts`].
+/// The errors of [`search_of_texts`].
 pub fn search_and_stored(
     alloc: Global,
     texts: &[BString],
@@ -31,7 +31,7 @@ pub fn search_and_stored(
 {
     let search = search_of_texts(alloc, texts, prefix, root)?;
     // The proof reads here that no nil spec has a prefix directory.
-    search.nil_specs_lack_a_prefix();
+    laws::nil_specs_lack_a_prefix(&search);
     let Ok(stored) = stored_texts(alloc, &search) else {
         return Err(BuildError::Memory);
     };
@@ -39,11 +39,11 @@ pub fn search_and_stored(
     Ok((search, again))
 }
 
-/// The search of texts.
+/// Makes the search of texts.
 ///
 /// # Errors
-/// [`BuildError::Spec`] with the number of the first text that can't be read, or else of the first whose path lies
-/// outside; [`BuildError::Memory`].
+/// [`BuildError::Spec`] with the number of the first text that can't be read, or else of the first whose path lies outside;
+/// [`BuildError::Memory`].
 pub fn search_of_texts(
     alloc: Global,
     texts: &[BString],
@@ -59,7 +59,7 @@ pub fn search_of_texts(
     Search::from_specs(alloc, patterns, Some(prefix), root)
 }
 
-/// The patterns of texts.
+/// Reads the pattern of each text.
 fn patterns_of(alloc: Global, texts: &[BString]) -> Result<Vec<Pattern>, BuildError>
     ensures { IfOk result (λ patterns. map (reading no_defaults) (map bstring_bytes texts.now)
         ≡ map Ok (map pattern_spec patterns.items)) }
@@ -75,7 +75,7 @@ fn patterns_of(alloc: Global, texts: &[BString]) -> Result<Vec<Pattern>, BuildEr
     Ok(patterns)
 }
 
-/// What a store has of a search: a text for each of its specs.
+/// The texts that a store has of a search, one for each of its specs.
 ///
 /// # Errors
 /// [`Error::Memory`] alone.
@@ -91,8 +91,8 @@ pub fn stored_texts(alloc: Global, search: &Search) -> Result<Vec<BString>, Erro
     Ok(texts)
 }
 
-/// The text that is stored of a normalised pattern. That of a nil one is `:`, which doesn't say its magic; so it is stored
-/// as the spec of the empty path, which matches the same.
+/// The text that is stored of a normalised pattern. A nil pattern's own text is `:`, which doesn't say its magic. So it is
+/// stored as the spec of the empty path, which matches the same.
 ///
 /// # Errors
 /// [`Error::Memory`] alone.

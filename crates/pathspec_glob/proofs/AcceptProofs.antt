@@ -3,14 +3,8 @@ use Rattle.std.proofs.Common.{◌≡◌, ℕ, zero, suc, ◌<◌, ◌≤◌, Boo
 use Rattle.std.specs.Cmp.{both_ways}
 use Rattle.std.proofs.lemmas.Bool.{and_parts, and_from, or_left, or_right, or_cases, cases_Bool, not_from_false}
 use Rattle.std.proofs.Math.Bool.{or-false, and-true}
-use Rattle.pathspec_glob.specs.declared.Mode.{Mode}
-use Rattle.pathspec_glob.specs.declared.Case.{Case}
-use Rattle.pathspec_glob.specs.Bytes.{is_empty}
-use Rattle.pathspec_glob.specs.Tokens.{Token}
-use Rattle.pathspec_glob.specs.Tokens.Token.{One, Star, Deep}
-use Rattle.pathspec_glob.specs.GlobRelation.{matches, some_suffix}
-use Rattle.pathspec_glob.specs.GlobSteps.{is_wide, is_wide_at, may_pass_over_at, takes_at, takes_byte}
-use Rattle.pathspec_glob.specs.GlobPlaces.{matches_within, accepts_at, accepts, Includes, IsClosed, IsLeast}
+use Rattle.pathspec_glob.proofs.Words.{Mode, Case, is_empty, Token, One, Star, Deep, matches, some_suffix, is_wide, is_wide_at, may_pass_over_at, takes_at, takes_byte}
+use Rattle.pathspec_glob.specs.StateSets.{matches_within, accepts_at, accepts, Includes, IsClosed, IsLeast}
 
 -- deep alone takes any text
 any_end : (mode : Mode) (case : Case) (text : List ℕ) → some_suffix (λ b. true) (matches mode case []) text ≡ true

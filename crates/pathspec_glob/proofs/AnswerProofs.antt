@@ -5,16 +5,8 @@ use Rattle.std.proofs.Math.Nat.{mul-le-mul, add-mul}
 use Rattle.std.proofs.lemmas.List.{length-map}
 use Rattle.std.specs.Prelude.{not, ◌==◌}
 use Rattle.std.specs.List.{list_any}
-use Rattle.pathspec_glob.specs.declared.Mode.{Mode}
-use Rattle.pathspec_glob.specs.declared.Mode.TheVariants.{Shell, PathAware}
-use Rattle.pathspec_glob.specs.declared.Case.{Case}
-use Rattle.pathspec_glob.specs.Bytes.{star, is_wildcard}
-use Rattle.pathspec_glob.specs.Tokens.{tokens}
-use Rattle.pathspec_glob.specs.GlobRelation.{matches}
-use Rattle.pathspec_glob.specs.GlobSteps.{TokenList}
+use Rattle.pathspec_glob.proofs.Words.{Mode, Shell, PathAware, Case, star, is_wildcard, tokens, matches, TokenList, GlobSource, AnswersGlob, AnswersTail, is_tail_pattern, listed, listed_tokens}
 use Rattle.pathspec_glob.specs.GlobParts.{middle_of, takes_front, takes_end, behind_front, before_end, IsParted}
-use Rattle.pathspec_glob.specs.Globs.{GlobSource, AnswersGlob, AnswersTail, is_tail_pattern}
-use Rattle.pathspec_glob.specs.ByteSets.{listed, listed_tokens}
 use Rattle.pathspec_glob.proofs.ByteSetProofs.{matches-listed, plain-listed}
 use Rattle.pathspec_glob.proofs.GlobProofs.{glob_is_relation}
 use Rattle.pathspec_glob.proofs.TokenProofs.{few_tokens, few_listed}

@@ -39,8 +39,8 @@ not-cases zero h = refl
 not-cases (suc zero) h = refl
 not-cases (suc (suc x)) h = absurd (let no : ⊥ = omega arith in no)
 
-pub has-not : (n i : ℕ) → n < 2 ^ 64 → i < 64 → has (bit_not w64 n) i ≡ not (has n i)
-has-not n i fits h = rw (bit_at_not w64 n i fits h) (not-cases (bit_at n i) (bit_at-lt n i))
+pub has_not : (n i : ℕ) → n < 2 ^ 64 → i < 64 → has (bit_not w64 n) i ≡ not (has n i)
+has_not n i fits h = rw (bit_at_not w64 n i fits h) (not-cases (bit_at n i) (bit_at-lt n i))
 
 pub has-zero : (i : ℕ) → has 0 i ≡ false
 has-zero i = rw (bit_at-zero i) refl
@@ -63,18 +63,18 @@ pub alone : (i : ℕ) → has 1 (suc i) ≡ false
 alone i = ap (λ x. x == 1) (bit_at-suc 1 i ∙ bit_at-zero i)
 
 -- a word with each place one further
-pub has-further : (n i : ℕ) → i < 64 → has (n * 2 ^ 1 % 2 ^ 64) i ≡ further false (has n) i
-has-further n zero h = has-shl_first n
-has-further n (suc i) h = has-shl n i h
+pub has_further : (n i : ℕ) → i < 64 → has (n * 2 ^ 1 % 2 ^ 64) i ≡ further false (has n) i
+has_further n zero h = has-shl_first n
+has_further n (suc i) h = has-shl n i h
 
-pub has-further_first : (n i : ℕ) → i < 64 → has (bit_or (n * 2 ^ 1 % 2 ^ 64) 1) i ≡ further true (has n) i
-has-further_first n zero h = has-or (n * 2 ^ 1 % 2 ^ 64) 1 0 ∙ rw (has-shl_first n) refl
-has-further_first n (suc i) h = has-or (n * 2 ^ 1 % 2 ^ 64) 1 (suc i) ∙ rw (alone i, has-shl n i h) (or-false (has n i))
+pub has_further_first : (n i : ℕ) → i < 64 → has (bit_or (n * 2 ^ 1 % 2 ^ 64) 1) i ≡ further true (has n) i
+has_further_first n zero h = has-or (n * 2 ^ 1 % 2 ^ 64) 1 0 ∙ rw (has-shl_first n) refl
+has_further_first n (suc i) h = has-or (n * 2 ^ 1 % 2 ^ 64) 1 (suc i) ∙ rw (alone i, has-shl n i h) (or-false (has n i))
 
 -- a word with its first place besides
-pub has-first : (n i : ℕ) → has (bit_or n 1) i ≡ with_first true (has n) i
-has-first n zero = has-or n 1 0
-has-first n (suc i) = has-or n 1 (suc i) ∙ rw (alone i) (or-false (has n (suc i)))
+pub has_first : (n i : ℕ) → has (bit_or n 1) i ≡ with_first true (has n) i
+has_first n zero = has-or n 1 0
+has_first n (suc i) = has-or n 1 (suc i) ∙ rw (alone i) (or-false (has n (suc i)))
 
 -- a word of which no two places stand side by side
 pub apart : (n : ℕ) → bit_and n (n / 2) ≡ 0 → (i : ℕ) → (has n i && has n (suc i)) ≡ false

@@ -4,11 +4,7 @@ use Rattle.std.proofs.lemmas.Bool.{cases_Bool, lt-ltb, le-ltb, ltb-true}
 use Rattle.std.proofs.lemmas.Bool.Decides.{nat_tests}
 use Rattle.std.specs.List.{list_any, position, position_or_len}
 use Rattle.pathspec_glob.specs.declared.brackets.Item.{Item as Kept}
-use Rattle.pathspec_glob.specs.Bytes.{dash, colon, open_bracket, close_bracket, backslash, first_is, is_empty}
-use Rattle.pathspec_glob.specs.Tokens.{Item, Items, Front, item_before, items_from, front_of, single_of, class_of, class_item, escaped_item, range_item, range_from, makes_range}
-use Rattle.pathspec_glob.specs.Tokens.Item.{Literal, Class}
-use Rattle.pathspec_glob.specs.Tokens.Front.{Listed, Closed, Broken}
-use Rattle.pathspec_glob.specs.GlobForms.{item_view, items_view}
+use Rattle.pathspec_glob.proofs.Words.{dash, colon, open_bracket, close_bracket, backslash, first_is, is_empty, Item, Items, Front, item_before, items_from, front_of, single_of, class_of, class_item, escaped_item, range_item, range_from, makes_range, Literal, Class, Listed, Closed, Broken, item_view, items_view}
 
 -- the first place that passes, after elements that stand before it
 pub first-drop : {X : Type 0} (p : X → Bool) (xs : List X) (size : ℕ) → size ≤ position_or_len p xs → position_or_len p (drop size xs) ≡ position_or_len p xs - size
@@ -49,8 +45,8 @@ first-any p (x ∷ xs) = elim (cases_Bool (p x)) [
   | inr f ↦ rw (f, first-any p xs) (grind (arith, nat_tests))
 ]
 
-pub position-any : {X : Type 0} (p : X → Bool) (xs : List X) → is_some (position p xs) ≡ list_any p xs
-position-any p xs = rw (first-any p xs) (elim (cases_Bool (nat_lt (position_or_len p xs) (length xs))) [
+pub position_any : {X : Type 0} (p : X → Bool) (xs : List X) → is_some (position p xs) ≡ list_any p xs
+position_any p xs = rw (first-any p xs) (elim (cases_Bool (nat_lt (position_or_len p xs) (length xs))) [
   | inl t ↦ rw t refl
   | inr f ↦ rw f refl
 ])

@@ -2,16 +2,7 @@
 use Rattle.std.proofs.Common.{◌≡◌, ◌<◌, ◌≤◌, ℕ, zero, suc, Bool, true, false, not, ◌||◌, ◌==◌, inl, inr, refl, sym, ap, ◌∙◌, arith, List, [], ◌∷◌, map, get_or}
 use Rattle.std.proofs.lemmas.Bool.{cases_Bool, eq-eqb, ne_eqb, cases_lt, lt-ltb, le-ltb}
 use Rattle.std.specs.Char.{to_ascii_lowercase, to_ascii_uppercase}
-use Rattle.pathspec_glob.specs.declared.Mode.{Mode}
-use Rattle.pathspec_glob.specs.declared.Mode.TheVariants.{Shell, PathAware}
-use Rattle.pathspec_glob.specs.declared.Case.{Case}
-use Rattle.pathspec_glob.specs.declared.Case.TheVariants.{Sensitive, Fold}
-use Rattle.pathspec_glob.specs.Bytes.{slash}
-use Rattle.pathspec_glob.specs.Tokens.{Item, OneByte, Token}
-use Rattle.pathspec_glob.specs.Tokens.OneByte.{Byte, Quoted, Any, Bracket, Dead}
-use Rattle.pathspec_glob.specs.Tokens.Token.{One, Star, Deep}
-use Rattle.pathspec_glob.specs.GlobRelation.{bracket_holds, items_hold, matches, passes_over, some_suffix, takes, takes_first}
-use Rattle.pathspec_glob.specs.ByteSets.{literals_below, literals, listed_single, listed}
+use Rattle.pathspec_glob.proofs.Words.{Mode, Shell, PathAware, Case, Sensitive, Fold, slash, Item, OneByte, Token, Byte, Quoted, Any, Bracket, Dead, One, Star, Deep, bracket_holds, items_hold, matches, passes_over, some_suffix, takes, takes_first, literals_below, literals, listed_single, listed}
 
 -- no item is at or above the end
 none-above : (end : ℕ) (holds : ℕ → Bool) (b : ℕ) → end ≤ b → items_hold (literals_below end holds) b ≡ false

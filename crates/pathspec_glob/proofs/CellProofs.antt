@@ -2,19 +2,16 @@
 use Rattle.std.proofs.Common.{◌≡◌, ℕ, zero, suc, ◌<◌, ◌≤◌, Bool, true, false, ◌&&◌, ◌||◌, refl, sym, ◌∙◌, arith, List, [], ◌∷◌, length}
 use Rattle.std.proofs.Math.Bool.{or-false, and-false, and-true, not-not}
 use Rattle.std.specs.List.{list_all}
-use Rattle.pathspec_glob.specs.declared.Mode.{Mode}
-use Rattle.pathspec_glob.specs.declared.Case.{Case}
-use Rattle.pathspec_glob.specs.GlobRelation.{takes}
+use Rattle.pathspec_glob.proofs.Words.{Mode, Case, takes, slash}
+use Rattle.pathspec_glob.specs.GlobCells.{SelfLoop, Cell, keeps, after_kept, cells_match, set_leads, further, not_free, Rules, LoopAtEnds, has}
 use Rattle.std.proofs.Common.{◌*◌, ◌^◌, ◌%◌, ◌/◌, ◌==◌, ap, drop, inl, inr, not, w64, if◌then◌else◌}
 use Rattle.std.proofs.lemmas.Bool.{cases_Bool, cases_lt, eqb-true, eqb-false, ne_eqb}
 use Rattle.std.proofs.Math.ListN.{drop_of_length-le}
 use Rattle.std.proofs.lemmas.Nat.Bits.{bit_at-suc}
 use Rattle.std.specs.Int.{bit_at, bit_not}
-use Rattle.pathspec_glob.specs.Bytes.{slash}
 use Rattle.std.specs.Int.Bits.{bit_and}
 use Rattle.std.specs.Int.RustNames.{bit_or}
-use Rattle.pathspec_glob.specs.GlobCells.{Loop, Cell, keeps, after_kept, cells_match, set_leads, further, not_free, Rules, StayAtEnds, has}
-use Rattle.pathspec_glob.proofs.BitProofs.{has-zero, has-and, has-not, has-or, has-shl, has-shl_first, alone}
+use Rattle.pathspec_glob.proofs.BitProofs.{has-zero, has-and, has_not, has-or, has-shl, has-shl_first, alone}
 
 -- what the place behind all cells leads to by a byte
 end-cases : (a f k m : Bool) → ((a || (f && k)) && m) ≡ ((a && m) || (f && (k && m)))
@@ -30,7 +27,7 @@ next-cases : (n m p d t : Bool) → (m && p) ≡ false → ((d && t) || ((n || m
 next-cases n m p d t h = grind (arith, or-false, h)
 
 -- where a set holds what is come to and what stays, it leads to what the set before led to
-pub follows : (mode : Mode) (case : Case) (cs : List Cell) (last : Loop) (a : Bool) (d t l p n m g : ℕ → Bool) (b : ℕ) (bs : List ℕ)
+pub follows : (mode : Mode) (case : Case) (cs : List Cell) (last : SelfLoop) (a : Bool) (d t l p n m g : ℕ → Bool) (b : ℕ) (bs : List ℕ)
     → Rules mode case cs last t l p b
     → ((i : ℕ) → i ≤ length cs → g i ≡ ((n i || m i) || (d i && l i)))
     → ((i : ℕ) → i < length cs → n (suc i) ≡ (d i && t i))
@@ -52,7 +49,7 @@ follows mode case (c ∷ cs) last a d t l p n m g b bs rules held taken passed o
     (byte-cases a (d 0) (takes mode case c.single b) (keeps c.loop b) c.over (after_kept (keeps c.loop) (takes mode case c.single) (cells_match mode case cs last) bs) (cells_match mode case cs last bs) (set_leads mode case cs last (λ i. d (suc i)) (b ∷ bs)))
 
 -- where none is passed over to, since only the first may be and no byte leads to it
-pub follows-plain : (mode : Mode) (case : Case) (cs : List Cell) (last : Loop) (d t l p g : ℕ → Bool) (b : ℕ) (bs : List ℕ)
+pub follows-plain : (mode : Mode) (case : Case) (cs : List Cell) (last : SelfLoop) (d t l p g : ℕ → Bool) (b : ℕ) (bs : List ℕ)
     → Rules mode case cs last t l p b
     → g 0 ≡ (d 0 && l 0)
     → ((i : ℕ) → i < length cs → g (suc i) ≡ ((d i && t i) || (d (suc i) && l (suc i))))
@@ -70,14 +67,14 @@ follows-plain mode case cs last d t l p g b bs rules first next none =
     passed (suc i) h = rw (none i (omega arith)) (sym (and-false (d i && t i)))
 
 -- the same places lead to the same
-pub leads-same : (mode : Mode) (case : Case) (cs : List Cell) (last : Loop) (f g : ℕ → Bool) (text : List ℕ) → ((i : ℕ) → i ≤ length cs → f i ≡ g i)
+pub leads-same : (mode : Mode) (case : Case) (cs : List Cell) (last : SelfLoop) (f g : ℕ → Bool) (text : List ℕ) → ((i : ℕ) → i ≤ length cs → f i ≡ g i)
     → set_leads mode case cs last f text ≡ set_leads mode case cs last g text
 leads-same mode case [] last f g text same = rw (same 0 (omega arith)) refl
 leads-same mode case (c ∷ cs) last f g text same =
     rw (same 0 (omega arith), leads-same mode case cs last (λ i. f (suc i)) (λ i. g (suc i)) text (λ i h. same (suc i) (omega arith))) refl
 
 -- rules say the same of the same places
-pub rules-same : (mode : Mode) (case : Case) (cs : List Cell) (last : Loop) (t u l p : ℕ → Bool) (b : ℕ) → ((i : ℕ) → i < length cs → t i ≡ u i)
+pub rules-same : (mode : Mode) (case : Case) (cs : List Cell) (last : SelfLoop) (t u l p : ℕ → Bool) (b : ℕ) → ((i : ℕ) → i < length cs → t i ≡ u i)
     → Rules mode case cs last t l p b → Rules mode case cs last u l p b
 rules-same mode case [] last t u l p b same rules = rules
 rules-same mode case (c ∷ cs) last t u l p b same rules = (
@@ -93,38 +90,38 @@ apart-cases : (n p q : Bool) → (p && q) ≡ false → ((n && p) && q) ≡ fals
 apart-cases n p q h = grind (arith, or-false, h)
 
 -- no place that is passed over to is passed over
-once : (overs come over : ℕ) (cs : List Cell) → has over 0 ≡ false → ((i : ℕ) → i < length cs → has over (suc i) ≡ (has come i && has overs i))
-    → ((i : ℕ) → i < length cs → (has overs i && has overs (suc i)) ≡ false) → (i : ℕ) → i < length cs → (has over i && has overs i) ≡ false
-once overs come over cs first passed apart zero h = rw first refl
-once overs come over cs first passed apart (suc i) h =
-    rw (passed i (omega arith)) (apart-cases (has come i) (has overs i) (has overs (suc i)) (apart i (omega arith)))
+once : (skippable come over : ℕ) (cs : List Cell) → has over 0 ≡ false → ((i : ℕ) → i < length cs → has over (suc i) ≡ (has come i && has skippable i))
+    → ((i : ℕ) → i < length cs → (has skippable i && has skippable (suc i)) ≡ false) → (i : ℕ) → i < length cs → (has over i && has skippable i) ≡ false
+once skippable come over cs first passed apart zero h = rw first refl
+once skippable come over cs first passed apart (suc i) h =
+    rw (passed i (omega arith)) (apart-cases (has come i) (has skippable i) (has skippable (suc i)) (apart i (omega arith)))
 
 -- what comes by a byte never holds the first place, so it makes no difference whether this one may be passed over
-come-passed : (n overs all i : ℕ) → i < 64 → overs / 2 ≡ all / 2
-    → (has (n * 2 ^ 1 % 2 ^ 64) i && has overs i) ≡ (has (n * 2 ^ 1 % 2 ^ 64) i && has all i)
-come-passed n overs all zero h same = rw (has-shl_first n) refl
-come-passed n overs all (suc i) h same =
-    let next : has overs (suc i) ≡ has all (suc i) = ap (λ x. x == 1) (bit_at-suc overs i ∙ ap (λ x. bit_at x i) same ∙ sym (bit_at-suc all i)) in
+come-passed : (n skippable all i : ℕ) → i < 64 → skippable / 2 ≡ all / 2
+    → (has (n * 2 ^ 1 % 2 ^ 64) i && has skippable i) ≡ (has (n * 2 ^ 1 % 2 ^ 64) i && has all i)
+come-passed n skippable all zero h same = rw (has-shl_first n) refl
+come-passed n skippable all (suc i) h same =
+    let next : has skippable (suc i) ≡ has all (suc i) = ap (λ x. x == 1) (bit_at-suc skippable i ∙ ap (λ x. bit_at x i) same ∙ sym (bit_at-suc all i)) in
     ap (λ x. has (n * 2 ^ 1 % 2 ^ 64) (suc i) && x) next
 
 -- a word goes on by a byte
-pub word-follows : (mode : Mode) (case : Case) (cs : List Cell) (last : Loop) (places taken kept overs all come over result : ℕ) (b : ℕ) (bs : List ℕ)
+pub word-follows : (mode : Mode) (case : Case) (cs : List Cell) (last : SelfLoop) (states taken kept skippable all come over result : ℕ) (b : ℕ) (bs : List ℕ)
     → length cs < 64 → Rules mode case cs last (has taken) (has kept) (has all) b → ((i : ℕ) → i < length cs → (has all i && has all (suc i)) ≡ false)
-    → overs / 2 ≡ all / 2
-    → come ≡ bit_and places taken * 2 ^ 1 % 2 ^ 64 → over ≡ bit_and come overs * 2 ^ 1 % 2 ^ 64 → result ≡ bit_or (bit_or come over) (bit_and places kept)
-    → set_leads mode case cs last (has result) bs ≡ set_leads mode case cs last (has places) (b ∷ bs)
-word-follows mode case cs last places taken kept overs all come over result b bs few rules apart same is_come is_over is_result =
-    let same_come : (i : ℕ) → i < length cs → (has come i && has overs i) ≡ (has come i && has all i) =
-    λ i h. rw is_come (come-passed (bit_and places taken) overs all i (omega arith) same) in
+    → skippable / 2 ≡ all / 2
+    → come ≡ bit_and states taken * 2 ^ 1 % 2 ^ 64 → over ≡ bit_and come skippable * 2 ^ 1 % 2 ^ 64 → result ≡ bit_or (bit_or come over) (bit_and states kept)
+    → set_leads mode case cs last (has result) bs ≡ set_leads mode case cs last (has states) (b ∷ bs)
+word-follows mode case cs last states taken kept skippable all come over result b bs few rules apart same is_come is_over is_result =
+    let same_come : (i : ℕ) → i < length cs → (has come i && has skippable i) ≡ (has come i && has all i) =
+    λ i h. rw is_come (come-passed (bit_and states taken) skippable all i (omega arith) same) in
     let passed : (i : ℕ) → i < length cs → has over (suc i) ≡ (has come i && has all i) =
-    λ i h. rw is_over (has-shl (bit_and come overs) i (omega arith) ∙ has-and come overs i ∙ same_come i h) in
-    let first : has over 0 ≡ false = rw is_over (has-shl_first (bit_and come overs)) in
-    follows mode case cs last false (has places) (has taken) (has kept) (has all) (has come) (has over) (has result) b bs rules
-    (λ i h. rw (is_result, has-or (bit_or come over) (bit_and places kept) i, has-or come over i, has-and places kept i) refl)
-    (λ i h. rw is_come (has-shl (bit_and places taken) i (omega arith) ∙ has-and places taken i))
+    λ i h. rw is_over (has-shl (bit_and come skippable) i (omega arith) ∙ has-and come skippable i ∙ same_come i h) in
+    let first : has over 0 ≡ false = rw is_over (has-shl_first (bit_and come skippable)) in
+    follows mode case cs last false (has states) (has taken) (has kept) (has all) (has come) (has over) (has result) b bs rules
+    (λ i h. rw (is_result, has-or (bit_or come over) (bit_and states kept) i, has-or come over i, has-and states kept i) refl)
+    (λ i h. rw is_come (has-shl (bit_and states taken) i (omega arith) ∙ has-and states taken i))
     passed
     (once all come over cs first passed apart)
-    (rw (is_come, has-shl_first (bit_and places taken), first) refl)
+    (rw (is_come, has-shl_first (bit_and states taken), first) refl)
 
 -- ---- a word of the places that aren't active, and one of the last
 
@@ -156,13 +153,13 @@ pub next-held : (free end row last : ℕ) (stay : Bool) (l : ℕ → Bool) → l
     → ((i : ℕ) → 0 < i → i < last → l i ≡ false) → stay ≡ l last → (i : ℕ) → i < last
     → not_free (bit_or free row * 2 ^ 1 % 2 ^ 64) (if stay then bit_and end (bit_or free row * 2 ^ 1 % 2 ^ 64) else bit_or free row * 2 ^ 1 % 2 ^ 64) last (suc i)
     ≡ ((not_free free end last i && not (has row i)) || (not_free free end last (suc i) && l (suc i)))
-next-held free end row last stay l fits between stays i h =
+next-held free end row last stay l fits between self_loops i h =
     let freed = bit_or free row * 2 ^ 1 % 2 ^ 64 in
     let here : (i == last) ≡ false = ne_eqb i last (λ e. omega (arith, h, e)) in
     let moved : has freed (suc i) ≡ (has free i || has row i) = has-shl (bit_or free row) i (omega (arith, h, fits)) ∙ has-or free row i in
     elim (cases_Bool (suc i == last)) [
       | inl e ↦
-          let is : stay ≡ l (suc i) = stays ∙ ap l (sym (eqb-true (suc i) last e)) in
+          let is : stay ≡ l (suc i) = self_loops ∙ ap l (sym (eqb-true (suc i) last e)) in
           elim (cases_Bool stay) [
             | inl s ↦ rw (here, e, sym is, s, has-and end freed (suc i), moved, and-true (not (has end (suc i)))) (stay-cases (has end (suc i)) (has free i) (has row i))
             | inr s ↦ rw (here, e, sym is, s, moved, and-false (not (has end (suc i)))) (drop-cases (has free i) (has row i))
@@ -173,65 +170,65 @@ next-held free end row last stay l fits between stays i h =
     ]
 
 -- at the start both words are the complement of the places
-pub begins-held : (places last i : ℕ) → places < 2 ^ 64 → i < 64 → not_free (bit_not w64 places) (bit_not w64 places) last i ≡ has places i
-begins-held places last i fits h =
-    let same : not (has (bit_not w64 places) i) ≡ has places i = ap not (has-not places i fits h) ∙ not-not (has places i) in
+pub begins-held : (states last i : ℕ) → states < 2 ^ 64 → i < 64 → not_free (bit_not w64 states) (bit_not w64 states) last i ≡ has states i
+begins-held states last i fits h =
+    let same : not (has (bit_not w64 states) i) ≡ has states i = ap not (has_not states i fits h) ∙ not-not (has states i) in
     elim (cases_Bool (i == last)) [ inl e ↦ rw e same | inr e ↦ rw e same ]
 
 -- what stays at a byte, by the places that stay at a slash and at any other
-pub first-stays : (stays stays_at_slash overs last b : ℕ) (last_stays last_stays_at_slash : Bool) → StayAtEnds stays stays_at_slash overs last last_stays last_stays_at_slash
-    → has (if b == slash then stays_at_slash else stays) 0 ≡ true
-first-stays stays stays_at_slash overs last b last_stays last_stays_at_slash ends = elim (cases_Bool (b == slash)) [ inl e ↦ rw e ends.first_at_slash | inr e ↦ rw e ends.first ]
+pub first-self_loops : (self_loops slash_loops skippable last b : ℕ) (last_loops last_loops_at_slash : Bool) → LoopAtEnds self_loops slash_loops skippable last last_loops last_loops_at_slash
+    → has (if b == slash then slash_loops else self_loops) 0 ≡ true
+first-self_loops self_loops slash_loops skippable last b last_loops last_loops_at_slash ends = elim (cases_Bool (b == slash)) [ inl e ↦ rw e ends.first_at_slash | inr e ↦ rw e ends.first ]
 
-pub none-stays : (stays stays_at_slash overs last b : ℕ) (last_stays last_stays_at_slash : Bool) → StayAtEnds stays stays_at_slash overs last last_stays last_stays_at_slash
-    → (i : ℕ) → 0 < i → i < last → has (if b == slash then stays_at_slash else stays) i ≡ false
-none-stays stays stays_at_slash overs last b last_stays last_stays_at_slash ends i some below =
+pub none-self_loops : (self_loops slash_loops skippable last b : ℕ) (last_loops last_loops_at_slash : Bool) → LoopAtEnds self_loops slash_loops skippable last last_loops last_loops_at_slash
+    → (i : ℕ) → 0 < i → i < last → has (if b == slash then slash_loops else self_loops) i ≡ false
+none-self_loops self_loops slash_loops skippable last b last_loops last_loops_at_slash ends i some below =
     elim (cases_Bool (b == slash)) [ inl e ↦ rw e (ends.between_at_slash i some below) | inr e ↦ rw e (ends.between i some below) ]
 
-pub last-stays : (stays stays_at_slash overs last b : ℕ) (last_stays last_stays_at_slash : Bool) → StayAtEnds stays stays_at_slash overs last last_stays last_stays_at_slash
-    → (if b == slash then last_stays_at_slash else last_stays) ≡ has (if b == slash then stays_at_slash else stays) last
-last-stays stays stays_at_slash overs last b last_stays last_stays_at_slash ends =
+pub last-self_loops : (self_loops slash_loops skippable last b : ℕ) (last_loops last_loops_at_slash : Bool) → LoopAtEnds self_loops slash_loops skippable last last_loops last_loops_at_slash
+    → (if b == slash then last_loops_at_slash else last_loops) ≡ has (if b == slash then slash_loops else self_loops) last
+last-self_loops self_loops slash_loops skippable last b last_loops last_loops_at_slash ends =
     elim (cases_Bool (b == slash)) [ inl e ↦ rw e ends.at_last_at_slash | inr e ↦ rw e ends.at_last ]
 
 -- no place behind the first may be passed over
-pub none-passed : (overs i : ℕ) → overs / 2 ≡ 0 → has overs (suc i) ≡ false
-none-passed overs i none = ap (λ x. x == 1) (bit_at-suc overs i ∙ ap (λ n. bit_at n i) none) ∙ has-zero i
+pub none-passed : (skippable i : ℕ) → skippable / 2 ≡ 0 → has skippable (suc i) ≡ false
+none-passed skippable i none = ap (λ x. x == 1) (bit_at-suc skippable i ∙ ap (λ n. bit_at n i) none) ∙ has-zero i
 
 -- the end of a text leads on from the last place alone
-pub leads-end : (mode : Mode) (case : Case) (cs : List Cell) (last : Loop) (f : ℕ → Bool) → set_leads mode case cs last f [] ≡ f (length cs)
+pub leads-end : (mode : Mode) (case : Case) (cs : List Cell) (last : SelfLoop) (f : ℕ → Bool) → set_leads mode case cs last f [] ≡ f (length cs)
 leads-end mode case [] last f = and-true (f 0)
 leads-end mode case (c ∷ cs) last f = rw (and-false (f 0)) (leads-end mode case cs last (λ i. f (suc i)))
 
 -- no place leads to no text
-pub leads-none : (mode : Mode) (case : Case) (cs : List Cell) (last : Loop) (f : ℕ → Bool) (text : List ℕ) → ((i : ℕ) → f i ≡ false) → set_leads mode case cs last f text ≡ false
+pub leads-none : (mode : Mode) (case : Case) (cs : List Cell) (last : SelfLoop) (f : ℕ → Bool) (text : List ℕ) → ((i : ℕ) → f i ≡ false) → set_leads mode case cs last f text ≡ false
 leads-none mode case [] last f text none = rw (none 0) refl
 leads-none mode case (c ∷ cs) last f text none = rw (none 0) (leads-none mode case cs last (λ i. f (suc i)) text (λ i. none (suc i)))
 
 -- where a text was read, or no place is active, the places lead to what is left just where the last is active
-pub leads-rest : (mode : Mode) (case : Case) (cs : List Cell) (last : Loop) (places read : ℕ) (text : List ℕ) → (read < length text → places ≡ 0)
-    → set_leads mode case cs last (has places) (drop read text) ≡ has places (length cs)
-leads-rest mode case cs last places read text halted = elim (cases_lt read (length text)) [
+pub leads-rest : (mode : Mode) (case : Case) (cs : List Cell) (last : SelfLoop) (states read : ℕ) (text : List ℕ) → (read < length text → states ≡ 0)
+    → set_leads mode case cs last (has states) (drop read text) ≡ has states (length cs)
+leads-rest mode case cs last states read text halted = elim (cases_lt read (length text)) [
   | inl h ↦
-      let none : (i : ℕ) → has places i ≡ false = λ i. rw (halted h) (has-zero i) in
-      leads-none mode case cs last (has places) (drop read text) none ∙ sym (none (length cs))
+      let none : (i : ℕ) → has states i ≡ false = λ i. rw (halted h) (has-zero i) in
+      leads-none mode case cs last (has states) (drop read text) none ∙ sym (none (length cs))
   | inr h ↦
       let ended : drop read text ≡ [] = drop_of_length-le text {i = read} h in
-      rw ended (leads-end mode case cs last (has places))
+      rw ended (leads-end mode case cs last (has states))
 ]
 
 -- The first place, with the one that it may be passed over to, leads to what the cells match.
-pub set-begins : (mode : Mode) (case : Case) (cs : List Cell) (last : Loop) (t : ℕ → Bool) (kept overs over result : ℕ) (b : ℕ) (bs : List ℕ)
-    → length cs < 64 → Rules mode case cs last t (has kept) (has overs) b → ((i : ℕ) → i < length cs → (has overs i && has overs (suc i)) ≡ false)
-    → over ≡ bit_and 1 overs * 2 ^ 1 % 2 ^ 64 → result ≡ bit_or 1 over
+pub set-begins : (mode : Mode) (case : Case) (cs : List Cell) (last : SelfLoop) (t : ℕ → Bool) (kept skippable over result : ℕ) (b : ℕ) (bs : List ℕ)
+    → length cs < 64 → Rules mode case cs last t (has kept) (has skippable) b → ((i : ℕ) → i < length cs → (has skippable i && has skippable (suc i)) ≡ false)
+    → over ≡ bit_and 1 skippable * 2 ^ 1 % 2 ^ 64 → result ≡ bit_or 1 over
     → set_leads mode case cs last (has result) bs ≡ cells_match mode case cs last bs
-set-begins mode case cs last t kept overs over result b bs few rules apart is_over is_result =
-    let passed : (i : ℕ) → i < length cs → has over (suc i) ≡ (has 1 i && has overs i) =
-    λ i h. rw is_over (has-shl (bit_and 1 overs) i (omega arith) ∙ has-and 1 overs i) in
-    let first : has over 0 ≡ false = rw is_over (has-shl_first (bit_and 1 overs)) in
-    follows mode case cs last true (λ i. false) t (has kept) (has overs) (has 1) (has over) (has result) b bs rules
+set-begins mode case cs last t kept skippable over result b bs few rules apart is_over is_result =
+    let passed : (i : ℕ) → i < length cs → has over (suc i) ≡ (has 1 i && has skippable i) =
+    λ i h. rw is_over (has-shl (bit_and 1 skippable) i (omega arith) ∙ has-and 1 skippable i) in
+    let first : has over 0 ≡ false = rw is_over (has-shl_first (bit_and 1 skippable)) in
+    follows mode case cs last true (λ i. false) t (has kept) (has skippable) (has 1) (has over) (has result) b bs rules
     (λ i h. rw (is_result, has-or 1 over i) (sym (or-false _)))
     (λ i h. alone i)
     passed
-    (once overs 1 over cs first passed apart)
+    (once skippable 1 over cs first passed apart)
     refl
     ∙ rw (leads-none mode case cs last (λ i. false) (b ∷ bs) (λ i. refl)) (or-false _)

@@ -9,17 +9,7 @@ use Rattle.std.specs.Char.{to_ascii_lowercase}
 use Rattle.std.specs.Cmp.Lexicographic.{pointwise}
 use Rattle.std.specs.Cmp.Derive.Mapped.{pointwise-map}
 use Rattle.std.specs.List.{list_all}
-use Rattle.pathspec_glob.specs.declared.Mode.{Mode}
-use Rattle.pathspec_glob.specs.declared.Mode.TheVariants.{Shell, PathAware}
-use Rattle.pathspec_glob.specs.declared.Case.{Case}
-use Rattle.pathspec_glob.specs.declared.Case.TheVariants.{Sensitive, Fold}
-use Rattle.pathspec_glob.specs.Bytes.{is_empty, slash, fold_case}
-use Rattle.pathspec_glob.specs.Tokens.{Token}
-use Rattle.pathspec_glob.specs.Tokens.OneByte.{Byte}
-use Rattle.pathspec_glob.specs.Tokens.Token.{One, Star, Deep}
-use Rattle.pathspec_glob.specs.GlobRelation.{is_same_byte, takes, takes_first, matches, some_suffix, passes_over}
-use Rattle.pathspec_glob.specs.GlobSteps.{takes_byte, takes_at, is_wide_at, may_pass_over_at}
-use Rattle.pathspec_glob.specs.Globs.{folds}
+use Rattle.pathspec_glob.proofs.Words.{Mode, Shell, PathAware, Case, Sensitive, Fold, is_empty, slash, fold_case, Token, Byte, One, Star, Deep, is_same_byte, takes, takes_first, matches, some_suffix, passes_over, takes_byte, takes_at, is_wide_at, may_pass_over_at, folds}
 use Rattle.pathspec_glob.specs.GlobParts.{head_of, middle_of, tail_of, plain_tokens, takes_each, tests_each, first_token_takes}
 use Rattle.pathspec_glob.proofs.AcceptProofs.{from-place}
 use Rattle.pathspec_glob.proofs.GlobProofs.{passed}
@@ -71,11 +61,11 @@ module _ (mode : Mode) (case : Case) where
   tests_each-none (t ∷ ts) = refl
 
   -- a text that is shorter is taken by no end and no front of it
-  pub front-short : (ts : List Token) (text : List ℕ) → length text < length ts → takes_each mode case ts (take (length ts) text) ≡ false
-  front-short ts text h = rw (take_all (length ts) text (omega arith)) (takes_each-apart ts text (λ e. omega arith))
+  pub front_short : (ts : List Token) (text : List ℕ) → length text < length ts → takes_each mode case ts (take (length ts) text) ≡ false
+  front_short ts text h = rw (take_all (length ts) text (omega arith)) (takes_each-apart ts text (λ e. omega arith))
 
-  pub end-short : (ts : List Token) (text : List ℕ) → length text < length ts → takes_each mode case ts (drop (length text - length ts) text) ≡ false
-  end-short ts text h = let n : length text - length ts ≡ 0 = omega arith in rw n (takes_each-apart ts text (λ e. omega arith))
+  pub end_short : (ts : List Token) (text : List ℕ) → length text < length ts → takes_each mode case ts (drop (length text - length ts) text) ≡ false
+  end_short ts text h = let n : length text - length ts ≡ 0 = omega arith in rw n (takes_each-apart ts text (λ e. omega arith))
 
   -- ---- a head
 

@@ -3,16 +3,8 @@ use Rattle.std.proofs.Common.{◌≡◌, ℕ, Bool, true, false, not, ◌&&◌, 
 use Rattle.std.proofs.lemmas.Bool.{and_parts, and_from, or_cases, or_left, or_right, not-true, not_from_false, eqb-true, or_from, or_parts}
 use Rattle.std.proofs.lemmas.List.{append-nil}
 use Rattle.std.specs.List.{list_any, list_all}
-use Rattle.pathspec_glob.specs.declared.Mode.{Mode}
-use Rattle.pathspec_glob.specs.declared.Mode.TheVariants.{Shell, PathAware}
-use Rattle.pathspec_glob.specs.declared.Case.{Case}
-use Rattle.pathspec_glob.specs.Bytes.{slash}
-use Rattle.pathspec_glob.specs.Tokens.{Token}
-use Rattle.pathspec_glob.specs.Tokens.OneByte.{Byte, Quoted, Any, Bracket, Dead}
-use Rattle.pathspec_glob.specs.Tokens.Token.{One, Star, Deep}
-use Rattle.pathspec_glob.specs.GlobRelation.{Matches, matches, some_suffix, takes, passes_over, IsPassedOver}
+use Rattle.pathspec_glob.proofs.Words.{Mode, Shell, PathAware, Case, slash, Token, Byte, Quoted, Any, Bracket, Dead, One, Star, Deep, Matches, matches, some_suffix, takes, passes_over, IsPassedOver, GlobIsRelation}
 use Rattle.pathspec_glob.specs.GlobRelation.Matches.{none, one, star, deep, over}
-use Rattle.pathspec_glob.specs.Globs.{GlobIsRelation}
 
 -- where some end passes, what may be skipped stands before it
 found : (skip : ℕ → Bool) (test : List ℕ → Bool) (text : List ℕ) → some_suffix skip test text ≡ true

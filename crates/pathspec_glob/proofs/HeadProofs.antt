@@ -4,15 +4,8 @@ use Rattle.std.proofs.lemmas.Bool.{cases_Bool, eqb-true, ne_eqb, eqb-false}
 use Rattle.std.proofs.Math.Numerals.{one-add}
 use Rattle.std.specs.Prelude.{nat_eq}
 use Rattle.std.specs.List.{ends_with, list_any, prefix_len}
-use Rattle.pathspec_glob.specs.declared.Mode.{Mode}
-use Rattle.pathspec_glob.specs.declared.Mode.TheVariants.{Shell, PathAware}
-use Rattle.pathspec_glob.specs.Bytes.{slash, star, first_is, is_empty, is_wildcard}
-use Rattle.pathspec_glob.specs.Tokens.{Token, is_deep, run_token, token_before, tokens_from}
-use Rattle.pathspec_glob.specs.Tokens.OneByte.{Byte}
-use Rattle.pathspec_glob.specs.Tokens.Token.{One, Star, Deep}
-use Rattle.pathspec_glob.specs.GlobSteps.{is_wide_at}
+use Rattle.pathspec_glob.proofs.Words.{Mode, Shell, PathAware, slash, star, first_is, is_empty, is_wildcard, Token, is_deep, run_token, token_before, tokens_from, Byte, One, Star, Deep, is_wide_at, listed, listed_tokens}
 use Rattle.pathspec_glob.specs.GlobParts.{head_of, behind_head, plain_tokens}
-use Rattle.pathspec_glob.specs.ByteSets.{listed, listed_tokens}
 use Rattle.pathspec_glob.proofs.TailProofs.{slash_before_rest, tokens_from-plain}
 
 -- ---- what follows bytes

@@ -4,16 +4,7 @@ use Rattle.std.proofs.lemmas.Bool.{and_parts, or_cases, or_parts, cases_Bool, eq
 use Rattle.std.proofs.Math.Bool.{and-false}
 use Rattle.std.specs.Prelude.{codes}
 use Rattle.std.specs.List.{prefix_len}
-use Rattle.pathspec_glob.specs.declared.Mode.{Mode}
-use Rattle.pathspec_glob.specs.declared.Mode.TheVariants.{Shell, PathAware}
-use Rattle.pathspec_glob.specs.declared.Case.{Case}
-use Rattle.pathspec_glob.specs.Bytes.{backslash, close_bracket, first_is, is_one_of, is_wildcard, open_bracket, question_mark, slash, star}
-use Rattle.pathspec_glob.specs.Tokens.{Token, OneByte, Item, Items, Front, bracket_piece, bracket_with, bytes_of, front_of, item_before, items_from, items_with, run_token, single_of, token_before, tokens, tokens_from}
-use Rattle.pathspec_glob.specs.Tokens.Front.{Listed, Closed, Broken}
-use Rattle.pathspec_glob.specs.Tokens.OneByte.{Byte, Quoted, Any, Bracket, Dead}
-use Rattle.pathspec_glob.specs.Tokens.Token.{One, Star, Deep}
-use Rattle.pathspec_glob.specs.GlobRelation.{is_same_byte, matches, passes_over, some_suffix, takes}
-use Rattle.pathspec_glob.specs.LastBytes.{last_byte, is_own_end, ends_with_byte, MatchHasOwnEnd}
+use Rattle.pathspec_glob.proofs.Words.{Mode, Shell, PathAware, Case, backslash, close_bracket, first_is, is_one_of, is_wildcard, open_bracket, question_mark, slash, star, Token, OneByte, Item, Items, Front, bracket_piece, bracket_with, bytes_of, front_of, item_before, items_from, items_with, run_token, single_of, token_before, tokens, tokens_from, Listed, Closed, Broken, Byte, Quoted, Any, Bracket, Dead, One, Star, Deep, is_same_byte, matches, passes_over, some_suffix, takes, last_byte, is_own_end, ends_with_byte, MatchHasOwnEnd}
 use Rattle.pathspec_glob.proofs.TailProofs.{plain_piece}
 
 -- ---- tokens of which the last takes one byte alone, or none

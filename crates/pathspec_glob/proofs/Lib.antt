@@ -1,3 +1,4 @@
+pub mod Words
 pub mod BracketProofs
 pub mod ByteSetProofs
 pub mod TokenProofs
@@ -10,7 +11,6 @@ pub mod HeadProofs
 pub mod PartProofs
 pub mod EndProofs
 pub mod LastProofs
-pub mod FormProofs
 pub mod PlaceProofs
 pub mod AcceptProofs
 pub mod BitProofs
@@ -21,5 +21,4 @@ pub mod CellProofs
 pub mod TokenCells
 pub mod WordProofs
 pub mod AnswerProofs
-mod Asking
 mod GlobRows

@@ -4,16 +4,9 @@ use Rattle.std.proofs.Math.Numerals.{one-add}
 use Rattle.std.proofs.lemmas.Bool.{cases_Bool, and_parts, eqb-true, ne_eqb}
 use Rattle.std.proofs.lemmas.List.{take-append-drop}
 use Rattle.std.specs.List.{list_all, prefix_len}
-use Rattle.pathspec_glob.specs.declared.Mode.{Mode}
-use Rattle.pathspec_glob.specs.declared.Mode.TheVariants.{Shell, PathAware}
-use Rattle.pathspec_glob.specs.declared.tokens.Token.{Token as Part}
-use Rattle.pathspec_glob.specs.Tokens.{Token}
-use Rattle.pathspec_glob.specs.Tokens.OneByte.{Byte}
-use Rattle.pathspec_glob.specs.Tokens.Token.{One, Star, Deep}
-use Rattle.pathspec_glob.specs.GlobRelation.{passes_over}
-use Rattle.pathspec_glob.specs.GlobForms.{token_view, tokens_view}
-use Rattle.pathspec_glob.specs.GlobSteps.{is_wide, may_pass_over_at}
+use Rattle.pathspec_glob.proofs.Words.{Mode, Shell, PathAware, Token, Byte, One, Star, Deep, passes_over, token_view, tokens_view, is_wide, may_pass_over_at}
 use Rattle.pathspec_glob.specs.GlobParts.{head_size, own_size, wide_size, head_of, behind_head, middle_of, tail_of}
+use Rattle.pathspec_glob.specs.declared.tokens.Token.{Token as Part}
 
 -- the size of a head, read off the parts
 pub head_size-view : (parts : List Part) → head_size (tokens_view parts) ≡ prefix_len (λ t. not (is_wide (token_view t))) parts

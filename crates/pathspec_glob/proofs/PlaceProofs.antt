@@ -2,10 +2,8 @@
 use Rattle.std.proofs.Common.{◌≡◌, ℕ, ◌+◌, ◌<◌, sym, ◌∙◌, ap, subst, arith, ◌-◌, true, List, [], ◌∷◌, length, get_or, take, drop, map}
 use Rattle.std.proofs.lemmas.List.{drop_more, drop-map, length-map, length-drop, take_all}
 use Rattle.pathspec_glob.specs.declared.tokens.Token.{Token as Part}
-use Rattle.pathspec_glob.specs.Tokens.{Token}
+use Rattle.pathspec_glob.proofs.Words.{Token, token_view, tokens_view, is_wide_at}
 use Rattle.pathspec_glob.specs.GlobCells.{cell_count}
-use Rattle.pathspec_glob.specs.GlobForms.{token_view, tokens_view}
-use Rattle.pathspec_glob.specs.GlobSteps.{is_wide_at}
 
 -- where the first takes any number of bytes there is one
 pub some-token : (ts : List Token) → is_wide_at ts ≡ true → 0 < length ts

@@ -3,14 +3,8 @@ use Rattle.std.proofs.Common.{◌≡◌, ℕ, zero, suc, ◌+◌, ◌-◌, Bool,
 use Rattle.std.proofs.lemmas.Bool.{cases_Bool, and_parts, eqb-true}
 use Rattle.std.proofs.Math.Numerals.{one-add}
 use Rattle.std.specs.List.{prefix_len}
-use Rattle.pathspec_glob.specs.declared.Mode.{Mode}
-use Rattle.pathspec_glob.specs.Bytes.{slash, star, question_mark, open_bracket, backslash, is_one_of, first_is}
-use Rattle.pathspec_glob.specs.Tokens.{Items, Token, Piece, escaped_piece, bracket_with, bracket_piece, items_from, run_piece, piece_of, token_before, tokens_from, tokens}
-use Rattle.pathspec_glob.specs.Tokens.OneByte.{Byte, Quoted, Any, Bracket, Dead}
-use Rattle.pathspec_glob.specs.Tokens.Token.{One, Star, Deep}
-use Rattle.pathspec_glob.specs.GlobSteps.{is_wide}
+use Rattle.pathspec_glob.proofs.Words.{Mode, slash, star, question_mark, open_bracket, backslash, is_one_of, first_is, Items, Token, Piece, escaped_piece, bracket_with, bracket_piece, items_from, run_piece, piece_of, token_before, tokens_from, tokens, Byte, Quoted, Any, Bracket, Dead, One, Star, Deep, is_wide, listed, listed_tokens}
 use Rattle.pathspec_glob.specs.GlobCells.{alternates_behind}
-use Rattle.pathspec_glob.specs.ByteSets.{listed, listed_tokens}
 
 abbrev is_star : ℕ → Bool
 is_star b = b == star
@@ -121,11 +115,11 @@ take-alternates wide (suc n) (t ∷ ts) h =
     rw (both.0, take-alternates (is_wide t) n ts both.1) refl
 
 -- No two tokens that take any number of bytes stand side by side in a pattern,
-pub all-alternates : (mode : Mode) (pattern : List ℕ) → alternates_behind false (listed_tokens mode pattern) ≡ true
-all-alternates mode pattern = listed-alternates false (tokens mode pattern) ∙ from-alternates mode 0 true false pattern refl
+pub all_alternates : (mode : Mode) (pattern : List ℕ) → alternates_behind false (listed_tokens mode pattern) ≡ true
+all_alternates mode pattern = listed-alternates false (tokens mode pattern) ∙ from-alternates mode 0 true false pattern refl
 
 -- nor in a part of one.
 pub part-alternates : (mode : Mode) (pattern : List ℕ) (from count : ℕ) → alternates_behind false (take count (drop from (listed_tokens mode pattern))) ≡ true
 part-alternates mode pattern from count =
     take-alternates false count (drop from (listed_tokens mode pattern))
-    (drop-alternates false from (listed_tokens mode pattern) (all-alternates mode pattern))
+    (drop-alternates false from (listed_tokens mode pattern) (all_alternates mode pattern))

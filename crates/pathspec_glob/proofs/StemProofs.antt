@@ -5,13 +5,7 @@ use Rattle.std.proofs.lemmas.List.{take-append-drop}
 use Rattle.std.proofs.Math.Numerals.{one-add}
 use Rattle.std.specs.List.{list_any, before_first, position, position_or_len}
 use Rattle.std.specs.Char.{eq_ignore_ascii_case}
-use Rattle.pathspec_glob.specs.declared.Mode.{Mode}
-use Rattle.pathspec_glob.specs.declared.Case.{Case}
-use Rattle.pathspec_glob.specs.declared.Case.TheVariants.{Sensitive, Fold}
-use Rattle.pathspec_glob.specs.Bytes.{begins_with, fold_case, is_wildcard}
-use Rattle.pathspec_glob.specs.Tokens.{Token, tokens}
-use Rattle.pathspec_glob.specs.GlobRelation.{matches}
-use Rattle.pathspec_glob.specs.Globs.{folds, MatchBeginsStem}
+use Rattle.pathspec_glob.proofs.Words.{Mode, Case, Sensitive, Fold, begins_with, fold_case, is_wildcard, Token, tokens, matches, folds, MatchBeginsStem}
 use Rattle.pathspec_glob.specs.GlobParts.{plain_tokens}
 use Rattle.pathspec_glob.proofs.BracketProofs.{first-Some}
 use Rattle.pathspec_glob.proofs.TailProofs.{tokens_from-plain}
@@ -27,8 +21,8 @@ before_first-none p (x ∷ xs) = elim (cases_Bool (p x)) [
 ]
 
 -- nor where that one is found
-pub none-before : {X : Type 0} (p : X → Bool) (xs : List X) (place : ℕ) → position p xs ≡ Some place → list_any p (take place xs) ≡ false
-none-before p xs place e = subst (λ n. list_any p (take n xs) ≡ false) (first-Some p xs place e).1 (before_first-none p xs)
+pub none_before : {X : Type 0} (p : X → Bool) (xs : List X) (place : ℕ) → position p xs ≡ Some place → list_any p (take place xs) ≡ false
+none_before p xs place e = subst (λ n. list_any p (take n xs) ≡ false) (first-Some p xs place e).1 (before_first-none p xs)
 
 -- the rest follows it
 pub before_first-front : {X : Type 0} (p : X → Bool) (xs : List X) → xs ≡ before_first p xs ++ drop (position_or_len p xs) xs

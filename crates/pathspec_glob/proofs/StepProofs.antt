@@ -5,14 +5,13 @@ use Rattle.std.proofs.Math.Bool.{and-true, or-false}
 use Rattle.std.proofs.lemmas.List.{get_or_past}
 use Rattle.std.proofs.Math.ListN.{drop_of_length-le}
 use Rattle.std.specs.Int.Count.{count_trailing_zeros}
-use Rattle.pathspec_glob.specs.declared.Case.{Case}
+use Rattle.pathspec_glob.proofs.Words.{Case, TokenList, token_takes, takes_at}
 use Rattle.pathspec_glob.specs.GlobCells.{has}
-use Rattle.pathspec_glob.specs.declared.places.Places.{Places}
-use Rattle.pathspec_glob.specs.GlobPlaces.{arrives, is_active, stays}
+use Rattle.pathspec_glob.specs.declared.state_set.StateSet.{StateSet}
+use Rattle.pathspec_glob.specs.StateSets.{arrives, is_active, stays}
 use Rattle.pathspec_glob.specs.BitVecs.{holds}
-use Rattle.pathspec_glob.specs.GlobSteps.{TokenList, token_takes, takes_at}
-use Rattle.pathspec_glob.proofs.BitProofs.{alone, has-and, has-not, has-or, has-shl, has-shl_first, has-zero, below-lowest, lowest-stands, without-lowest}
-use Rattle.pathspec_glob.proofs.BitVecProofs.{put-true}
+use Rattle.pathspec_glob.proofs.BitProofs.{alone, has-and, has_not, has-or, has-shl, has-shl_first, has-zero, below-lowest, lowest-stands, without-lowest}
+use Rattle.pathspec_glob.proofs.BitVecProofs.{put_true}
 
 -- ---- a loop over the places of a word, lowest first
 
@@ -116,7 +115,7 @@ first-taken held takes i h = rw (le-ltb i 0 (omega arith)) (has-zero i)
 -- a place that is taken is put into the word, and another is not in it
 pub put-taken : (held seen rest next taken : ℕ) (takes : ℕ → Bool) → IsNext held seen rest next → takes next ≡ true
     → (i : ℕ) → i < 64 → has (bit_or taken (1 * 2 ^ next % 18446744073709551616)) i ≡ (if i == next then takes next else has taken i)
-put-taken held seen rest next taken takes is_next on i h = rw on (put-true taken next i is_next.fits h)
+put-taken held seen rest next taken takes is_next on i h = rw on (put_true taken next i is_next.fits h)
 
 pub leave-taken : (held seen rest next taken : ℕ) (takes : ℕ → Bool) → IsNext held seen rest next → IsTaken held takes seen taken → takes next ≡ false
     → (i : ℕ) → i < 64 → has taken i ≡ (if i == next then takes next else has taken i)
@@ -155,7 +154,7 @@ not-of-bits E S place i entered staying e s none =
 
 -- the places of a word that aren't of another
 pub has-but : (n m i : ℕ) → m < 2 ^ 64 → i < 64 → has (bit_and n (18446744073709551615 - m)) i ≡ (has n i && not (has m i))
-has-but n m i fits h = has-and n (18446744073709551615 - m) i ∙ ap (λ b. has n i && b) (has-not m i fits h)
+has-but n m i fits h = has-and n (18446744073709551615 - m) i ∙ ap (λ b. has n i && b) (has_not m i fits h)
 
 -- a word of at most one place, and that the first, has no other
 pub only-first : (n i : ℕ) → n < 2 → has n (suc i) ≡ false
@@ -173,22 +172,22 @@ carried-further n carry i few h = has-or (n * 2 ^ 1 % 18446744073709551616) carr
 -- ---- what a byte leads to, place by place
 
 -- a place before which none is active isn't led to
-pub arrives-none : (parts : TokenList) (case : Case) (places : Places) (b i : ℕ) → ((j : ℕ) → suc j ≡ i → is_active places j ≡ false) → arrives parts case places b i ≡ false
-arrives-none parts case places b zero none = refl
-arrives-none parts case places b (suc i) none = rw (none i refl) refl
+pub arrives-none : (parts : TokenList) (case : Case) (states : StateSet) (b i : ℕ) → ((j : ℕ) → suc j ≡ i → is_active states j ≡ false) → arrives parts case states b i ≡ false
+arrives-none parts case states b zero none = refl
+arrives-none parts case states b (suc i) none = rw (none i refl) refl
 
 -- a place that isn't active doesn't stay
-pub stays-none : (parts : TokenList) (case : Case) (places : Places) (b i : ℕ) → is_active places i ≡ false → stays parts case places b i ≡ false
-stays-none parts case places b i none = rw none refl
+pub stays-none : (parts : TokenList) (case : Case) (states : StateSet) (b i : ℕ) → is_active states i ≡ false → stays parts case states b i ≡ false
+stays-none parts case states b i none = rw none refl
 
 -- behind the tokens no place is led to
-pub arrives-behind : (parts : TokenList) (case : Case) (places : Places) (b i : ℕ) → length parts.tokens ≤ i → arrives parts case places b (suc i) ≡ false
-arrives-behind parts case places b i past = rw (behind-none parts case i b past, and_right (is_active places i) false refl) refl
+pub arrives-behind : (parts : TokenList) (case : Case) (states : StateSet) (b i : ℕ) → length parts.tokens ≤ i → arrives parts case states b (suc i) ≡ false
+arrives-behind parts case states b i past = rw (behind-none parts case i b past, and_right (is_active states i) false refl) refl
 
 -- a place that is led to is one of the tokens or the end
-pub arrives-within : (parts : TokenList) (case : Case) (places : Places) (b i : ℕ) → arrives parts case places b i ≡ true → i ≤ length parts.tokens
-arrives-within parts case places b zero on = omega arith
-arrives-within parts case places b (suc i) on = elim (cases_lt i (length parts.tokens)) [
+pub arrives-within : (parts : TokenList) (case : Case) (states : StateSet) (b i : ℕ) → arrives parts case states b i ≡ true → i ≤ length parts.tokens
+arrives-within parts case states b zero on = omega arith
+arrives-within parts case states b (suc i) on = elim (cases_lt i (length parts.tokens)) [
   | inl l ↦ omega arith
-  | inr g ↦ absurd (true≢false (sym on ∙ arrives-behind parts case places b i g))
+  | inr g ↦ absurd (true≢false (sym on ∙ arrives-behind parts case states b i g))
 ]

@@ -8,17 +8,8 @@ use Rattle.std.specs.List.{list_any, list_all, ends_with, prefix_len}
 use Rattle.std.specs.Cmp.Lexicographic.{pointwise}
 use Rattle.std.specs.Char.{to_ascii_lowercase}
 use Rattle.std.specs.Cmp.Derive.Mapped.{pointwise-map}
-use Rattle.pathspec_glob.specs.declared.Mode.{Mode}
-use Rattle.pathspec_glob.specs.declared.Mode.TheVariants.{Shell, PathAware}
-use Rattle.pathspec_glob.specs.declared.Case.{Case}
-use Rattle.pathspec_glob.specs.declared.Case.TheVariants.{Sensitive, Fold}
-use Rattle.pathspec_glob.specs.Bytes.{slash, star, question_mark, open_bracket, backslash, fold_case, is_wildcard}
-use Rattle.pathspec_glob.specs.Tokens.{Token, piece_of, tokens, tokens_from}
-use Rattle.pathspec_glob.specs.Tokens.OneByte.{Byte}
-use Rattle.pathspec_glob.specs.Tokens.Token.{One, Star, Deep}
-use Rattle.pathspec_glob.specs.GlobRelation.{matches, some_suffix, is_same_byte}
+use Rattle.pathspec_glob.proofs.Words.{Mode, Shell, PathAware, Case, Sensitive, Fold, slash, star, question_mark, open_bracket, backslash, fold_case, is_wildcard, Token, piece_of, tokens, tokens_from, Byte, One, Star, Deep, matches, some_suffix, is_same_byte, folds, is_tail_pattern}
 use Rattle.pathspec_glob.specs.GlobParts.{plain_tokens}
-use Rattle.pathspec_glob.specs.Globs.{folds, is_tail_pattern}
 
 -- ---- the one end that has the rest's length
 

@@ -2,14 +2,9 @@
 use Rattle.std.proofs.Common.{◌≡◌, ℕ, Bool, true, not, ◌&&◌, ◌||◌, refl, sym, ◌∙◌, ap, List, [], ◌∷◌, ◌==◌}
 use Rattle.std.proofs.Math.Bool.{or-false}
 use Rattle.std.specs.List.{list_all}
-use Rattle.pathspec_glob.specs.declared.Mode.{Mode}
-use Rattle.pathspec_glob.specs.declared.Case.{Case}
-use Rattle.pathspec_glob.specs.Bytes.{slash}
-use Rattle.pathspec_glob.specs.Tokens.{OneByte, Token}
-use Rattle.pathspec_glob.specs.Tokens.Token.{One, Star, Deep}
-use Rattle.pathspec_glob.specs.GlobRelation.{takes, matches, some_suffix, passes_over}
-use Rattle.pathspec_glob.specs.GlobCells.{Loop, keeps, after_kept, cells_match, cells_of, loop_behind, alternates, looped, over_at}
-use Rattle.pathspec_glob.specs.GlobCells.Loop.{Nothing, Names, Anything}
+use Rattle.pathspec_glob.proofs.Words.{Mode, Case, slash, OneByte, Token, One, Star, Deep, takes, matches, some_suffix, passes_over}
+use Rattle.pathspec_glob.specs.GlobCells.{SelfLoop, keeps, after_kept, cells_match, cells_of, loop_behind, alternates, looped, over_at}
+use Rattle.pathspec_glob.specs.GlobCells.SelfLoop.{Nothing, Names, Anything}
 
 -- the same rest behind the same cell
 pub after_kept-same : (keep take : ℕ → Bool) (f g : List ℕ → Bool) → ((v : List ℕ) → f v ≡ g v) → (text : List ℕ) → after_kept keep take f text ≡ after_kept keep take g text
@@ -38,7 +33,7 @@ all-true [] = refl
 all-true (b ∷ bs) = all-true bs
 
 -- what a loop and then one token match is a cell, before what follows
-pub looped-one : (mode : Mode) (case : Case) (loop : Loop) (single : OneByte) (ts : List Token) (text : List ℕ)
+pub looped-one : (mode : Mode) (case : Case) (loop : SelfLoop) (single : OneByte) (ts : List Token) (text : List ℕ)
     → looped mode case loop (One single ∷ ts) text ≡ (after_kept (keeps loop) (takes mode case single) (matches mode case ts) text || (over_at mode loop single && matches mode case ts text))
 unfolding matches
 looped-one mode case Nothing single ts [] = refl
@@ -47,7 +42,7 @@ looped-one mode case Names single ts text = end-within mode case (λ b. not (b =
 looped-one mode case Anything single ts text = ap (λ x. x || (passes_over mode (One single) && matches mode case ts text)) (end-within mode case (λ b. true) single ts text)
 
 -- a loop at the end of all
-pub looped-end : (mode : Mode) (case : Case) (loop : Loop) (text : List ℕ) → looped mode case loop [] text ≡ list_all (keeps loop) text
+pub looped-end : (mode : Mode) (case : Case) (loop : SelfLoop) (text : List ℕ) → looped mode case loop [] text ≡ list_all (keeps loop) text
 unfolding matches
 looped-end mode case Nothing [] = refl
 looped-end mode case Nothing (b ∷ bs) = refl
@@ -55,7 +50,7 @@ looped-end mode case Names text = end-all mode case (λ b. not (b == slash)) tex
 looped-end mode case Anything text = sym (all-true text)
 
 -- Tokens match what their cells match.
-pub cells-match : (mode : Mode) (case : Case) (loop : Loop) (ts : List Token) → alternates loop ts ≡ true → (text : List ℕ)
+pub cells-match : (mode : Mode) (case : Case) (loop : SelfLoop) (ts : List Token) → alternates loop ts ≡ true → (text : List ℕ)
     → looped mode case loop ts text ≡ cells_match mode case (cells_of mode loop ts) (loop_behind loop ts) text
 cells-match mode case loop [] h text = looped-end mode case loop text
 cells-match mode case loop (One single ∷ ts) h text =

@@ -6,15 +6,7 @@ use Rattle.std.proofs.lemmas.List.{length-map}
 use Rattle.std.proofs.lemmas.List.Sums.{prefix_len-le-length}
 use Rattle.std.proofs.Math.ListN.{drop_of_length-le}
 use Rattle.std.proofs.Math.Numerals.{one-add, add-one}
-use Rattle.pathspec_glob.specs.declared.Mode.{Mode}
-use Rattle.pathspec_glob.specs.declared.Mode.TheVariants.{Shell, PathAware}
-use Rattle.pathspec_glob.specs.Bytes.{slash, star, question_mark, open_bracket, backslash, is_one_of, first_is}
-use Rattle.pathspec_glob.specs.Tokens.{Items, Front, Token, Piece, front_of, single_of, bytes_of, items_with, items_from, escaped_piece, bracket_with, bracket_piece, is_deep, run_token, run_piece, piece_of, token_before, tokens_from, tokens}
-use Rattle.pathspec_glob.specs.Tokens.Front.{Listed, Closed, Broken}
-use Rattle.pathspec_glob.specs.Tokens.OneByte.{Byte, Quoted, Any, Bracket, Dead}
-use Rattle.pathspec_glob.specs.Tokens.Token.{One, Star, Deep}
-use Rattle.pathspec_glob.specs.GlobRelation.{items_hold}
-use Rattle.pathspec_glob.specs.ByteSets.{literals, listed, listed_piece, listed_tokens, ReadsOn}
+use Rattle.pathspec_glob.proofs.Words.{Mode, Shell, PathAware, slash, star, question_mark, open_bracket, backslash, is_one_of, first_is, Items, Front, Token, Piece, front_of, single_of, bytes_of, items_with, items_from, escaped_piece, bracket_with, bracket_piece, is_deep, run_token, run_piece, piece_of, token_before, tokens_from, tokens, Listed, Closed, Broken, Byte, Quoted, Any, Bracket, Dead, One, Star, Deep, items_hold, literals, listed, listed_piece, listed_tokens, ReadsOn}
 use Rattle.pathspec_glob.proofs.ByteSetProofs.{literals-same}
 
 -- a bracket's items end before the bytes do

@@ -2,17 +2,14 @@
 use Rattle.std.proofs.Common.{◌≡◌, ℕ, zero, suc, ◌+◌, ◌-◌, ◌<◌, ◌≤◌, Bool, true, false, not, ◌&&◌, ◌||◌, refl, sym, ◌∙◌, ap, add-one, arith, List, [], ◌∷◌, length, drop, get_or, inl, inr, ◌==◌, if◌then◌else◌}
 use Rattle.std.proofs.Math.Bool.{or-false, not-not}
 use Rattle.std.proofs.lemmas.Bool.{cases_Bool, and_parts, eqb-true}
-use Rattle.pathspec_glob.specs.declared.Mode.{Mode}
-use Rattle.pathspec_glob.specs.declared.Case.{Case}
-use Rattle.pathspec_glob.specs.Bytes.{slash}
-use Rattle.pathspec_glob.specs.Tokens.{Token}
-use Rattle.pathspec_glob.specs.Tokens.Token.{One, Star, Deep}
-use Rattle.pathspec_glob.specs.GlobSteps.{TokenList, is_wide, is_wide_at, takes_at, takes_byte, may_pass_over_at}
-use Rattle.pathspec_glob.specs.GlobCells.{Loop, Rules, Masked, IsTable, alternates, alternates_behind, cell_count, cells_of, further, has, keeps, kept_at, loop_behind, over_at, passed_at, taken_at, with_first}
-use Rattle.pathspec_glob.specs.GlobCells.Loop.{Nothing, Names, Anything}
+use Rattle.pathspec_glob.proofs.Words.{Mode, Case, slash, OneByte, Token, One, Star, Deep, TokenList, is_wide, is_wide_at, may_pass_over_at}
+use Rattle.pathspec_glob.specs.declared.tokens.word.Question.{Question}
+use Rattle.pathspec_glob.specs.declared.tokens.word.Question.TheVariants.{Takes, Loops, Skips}
+use Rattle.pathspec_glob.specs.GlobCells.{SelfLoop, Rules, Masked, IsTable, alternates, alternates_behind, answers, cell_count, cells_of, further, has, keeps, loop_behind, over_at, set_of, with_first}
+use Rattle.pathspec_glob.specs.GlobCells.SelfLoop.{Nothing, Names, Anything}
 use Rattle.pathspec_glob.proofs.AcceptProofs.{from-place}
 
--- ---- one token more
+-- ---- the states of tokens
 
 further-same : (first : Bool) (f g : ℕ → Bool) → ((i : ℕ) → i < 64 → f i ≡ g i) → (i : ℕ) → i < 64 → further first f i ≡ further first g i
 further-same first f g same zero h = refl
@@ -27,74 +24,32 @@ pub before-place : (ts : List Token) (place : ℕ) → 0 < place → place ≤ l
 before-place ts zero some within = absurd (let no : ⊥ = omega arith in no)
 before-place ts (suc place) some within = let less : suc place - 1 ≡ place = omega arith in rw less (from-place ts place (omega arith))
 
-taken-token : (mode : Mode) (case : Case) (t : Token) (ts : List Token) (b i : ℕ)
-    → taken_at mode case (t ∷ ts) b i ≡ (if is_wide t then taken_at mode case ts b i else further (takes_byte mode case t b) (taken_at mode case ts b) i)
-taken-token mode case (One s) ts b i = refl
-taken-token mode case Star ts b i = refl
-taken-token mode case Deep ts b i = refl
-
--- what takes a byte, from the place before on
-pub taken-more : (mode : Mode) (case : Case) (ts : List Token) (place b : ℕ) (word : ℕ → Bool) → 0 < place → place ≤ length ts
-    → ((i : ℕ) → i < 64 → word i ≡ taken_at mode case (drop place ts) b i) → (i : ℕ) → i < 64
-    → (if is_wide_at (drop (place - 1) ts) then word i else further (takes_at mode case (drop (place - 1) ts) b) word i) ≡ taken_at mode case (drop (place - 1) ts) b i
-taken-more mode case ts place b word some within holds i h =
-    let t = get_or ts (place - 1) Star in
-    rw (before-place ts place some within, holds i h, further-same (takes_byte mode case t b) word (taken_at mode case (drop place ts) b) holds i h) (sym (taken-token mode case t (drop place ts) b i))
-
-kept-token : (mode : Mode) (case : Case) (t : Token) (ts : List Token) (b i : ℕ)
-    → kept_at (t ∷ ts) b i ≡ (if is_wide t then with_first (takes_byte mode case t b) (kept_at ts b) i else further false (kept_at ts b) i)
-kept-token mode case (One s) ts b i = refl
-kept-token mode case Star ts b i = refl
-kept-token mode case Deep ts b i = refl
-
--- what may stay at a byte
-pub kept-more : (mode : Mode) (case : Case) (ts : List Token) (place b : ℕ) (word : ℕ → Bool) → 0 < place → place ≤ length ts
-    → ((i : ℕ) → i < 64 → word i ≡ kept_at (drop place ts) b i) → (i : ℕ) → i < 64
-    → (if is_wide_at (drop (place - 1) ts) then with_first (takes_at mode case (drop (place - 1) ts) b) word i else further false word i) ≡ kept_at (drop (place - 1) ts) b i
-kept-more mode case ts place b word some within holds i h =
-    let t = get_or ts (place - 1) Star in
-    rw (
-      before-place ts place some within,
-      with_first-same (takes_byte mode case t b) word (kept_at (drop place ts) b) holds i h,
-      further-same false word (kept_at (drop place ts) b) holds i h,
-    )
-    (sym (kept-token mode case t (drop place ts) b i))
-
-passed-token : (mode : Mode) (t : Token) (ts : List Token) (i : ℕ)
-    → passed_at mode (t ∷ ts) i ≡ (if is_wide t then with_first (may_pass_over_at mode (t ∷ ts)) (passed_at mode ts) i else further false (passed_at mode ts) i)
-passed-token mode (One s) ts i = refl
-passed-token mode Star ts i = refl
-passed-token mode Deep ts i = refl
-
--- what may be passed over
-pub passed-more : (mode : Mode) (ts : List Token) (place : ℕ) (word : ℕ → Bool) → 0 < place → place ≤ length ts
-    → ((i : ℕ) → i < 64 → word i ≡ passed_at mode (drop place ts) i) → (i : ℕ) → i < 64
-    → (if is_wide_at (drop (place - 1) ts) then with_first (may_pass_over_at mode (drop (place - 1) ts)) word i else further false word i) ≡ passed_at mode (drop (place - 1) ts) i
-passed-more mode ts place word some within holds i h =
-    let t = get_or ts (place - 1) Star in
-    rw (
-      before-place ts place some within,
-      with_first-same (may_pass_over_at mode (t ∷ drop place ts)) word (passed_at mode (drop place ts)) holds i h,
-      further-same false word (passed_at mode (drop place ts)) holds i h,
-    )
-    (sym (passed-token mode t (drop place ts) i))
+-- one token more
+pub set-more : (mode : Mode) (question : Question) (ts : List Token) (place : ℕ) (word : ℕ → Bool) → 0 < place → place ≤ length ts
+    → ((i : ℕ) → i < 64 → word i ≡ set_of mode question (drop place ts) i) → (i : ℕ) → i < 64
+    → (if is_wide_at (drop (place - 1) ts) then with_first (answers mode question (drop (place - 1) ts)) word i else further (answers mode question (drop (place - 1) ts)) word i)
+    ≡ set_of mode question (drop (place - 1) ts) i
+set-more mode question ts place word some within holds i h =
+    let yes = answers mode question (get_or ts (place - 1) Star ∷ drop place ts) in
+    let set = set_of mode question (drop place ts) in
+    rw (before-place ts place some within, with_first-same yes word set holds i h, further-same yes word set holds i h) refl
 
 -- ---- cells
 
 -- the cells are as many as the tokens for one byte
-pub length-cells_of : (mode : Mode) (loop : Loop) (ts : List Token) → length (cells_of mode loop ts) ≡ cell_count ts
+pub length-cells_of : (mode : Mode) (loop : SelfLoop) (ts : List Token) → length (cells_of mode loop ts) ≡ cell_count ts
 length-cells_of mode loop [] = refl
 length-cells_of mode loop (One s ∷ ts) = ap suc (length-cells_of mode Nothing ts)
 length-cells_of mode loop (Star ∷ ts) = length-cells_of mode Names ts
 length-cells_of mode loop (Deep ∷ ts) = length-cells_of mode Anything ts
 
 -- a loop that takes any number of bytes
-abbrev pub is_loop : Loop → Bool
+abbrev pub is_loop : SelfLoop → Bool
 is_loop Nothing = false
 is_loop Names = true
 is_loop Anything = true
 
-pub alternates-loop : (loop : Loop) (ts : List Token) → alternates_behind (is_loop loop) ts ≡ true → alternates loop ts ≡ true
+pub alternates-loop : (loop : SelfLoop) (ts : List Token) → alternates_behind (is_loop loop) ts ≡ true → alternates loop ts ≡ true
 alternates-loop loop [] h = refl
 alternates-loop loop (One s ∷ ts) h = alternates-loop Nothing ts (and_parts (not (is_loop loop && false)) (alternates_behind false ts) h).1
 alternates-loop Nothing (Star ∷ ts) h = alternates-loop Names ts h
@@ -105,7 +60,7 @@ alternates-loop Anything (Star ∷ ts) h = cc
 alternates-loop Anything (Deep ∷ ts) h = cc
 
 -- the first place may be passed over, where this loop stands before the tokens
-abbrev pub first_passed : Mode → Loop → List Token → Bool
+abbrev pub first_passed : Mode → SelfLoop → List Token → Bool
 first_passed mode Nothing ts = false
 first_passed mode Names ts = false
 first_passed mode Anything ts = may_pass_over_at mode (Deep ∷ ts)
@@ -114,72 +69,77 @@ pub with_first-none : (f : ℕ → Bool) (i : ℕ) → with_first false f i ≡ 
 with_first-none f zero = or-false (f 0)
 with_first-none f (suc i) = refl
 
-star-stays : (mode : Mode) (ts : List Token) → may_pass_over_at mode (Star ∷ ts) ≡ false
-star-stays mode [] = refl
-star-stays mode (t ∷ ts) = refl
+star-stands : (mode : Mode) (ts : List Token) → may_pass_over_at mode (Star ∷ ts) ≡ false
+star-stands mode [] = refl
+star-stands mode (t ∷ ts) = refl
 
--- Sets that hold what takes a byte, stays at it and may be passed over keep the rules of the cells.
-pub rules-of : (mode : Mode) (case : Case) (loop : Loop) (ts : List Token) (t l p : ℕ → Bool) (b : ℕ) → alternates loop ts ≡ true
-    → ((i : ℕ) → i ≤ length (cells_of mode loop ts) → t i ≡ taken_at mode case ts b i)
-    → ((i : ℕ) → i ≤ length (cells_of mode loop ts) → l i ≡ with_first (keeps loop b) (kept_at ts b) i)
-    → ((i : ℕ) → i ≤ length (cells_of mode loop ts) → p i ≡ with_first (first_passed mode loop ts) (passed_at mode ts) i)
+one-stands : (mode : Mode) (single : OneByte) (ts : List Token) → may_pass_over_at mode (One single ∷ ts) ≡ false
+one-stands mode single [] = refl
+one-stands mode single (t ∷ ts) = refl
+
+-- Sets that hold what takes a byte, loops at it and may be skipped keep the rules of the cells.
+pub rules-of : (mode : Mode) (case : Case) (loop : SelfLoop) (ts : List Token) (t l p : ℕ → Bool) (b : ℕ) → alternates loop ts ≡ true
+    → ((i : ℕ) → i ≤ length (cells_of mode loop ts) → t i ≡ set_of mode (Takes b case) ts i)
+    → ((i : ℕ) → i ≤ length (cells_of mode loop ts) → l i ≡ with_first (keeps loop b) (set_of mode (Loops b) ts) i)
+    → ((i : ℕ) → i ≤ length (cells_of mode loop ts) → p i ≡ with_first (first_passed mode loop ts) (set_of mode Skips ts) i)
     → Rules mode case (cells_of mode loop ts) (loop_behind loop ts) t l p b
 rules-of mode case loop [] t l p b alt taken kept passed = kept 0 (omega arith)
 rules-of mode case loop (One s ∷ ts) t l p b alt taken kept passed = (
   taken 0 (omega arith),
   kept 0 (omega arith),
-  first-over loop (passed 0 (omega arith)),
+  first-over loop (rw (one-stands mode s ts) at (passed 0 (omega arith))),
   rules-of mode case Nothing ts (λ i. t (suc i)) (λ i. l (suc i)) (λ i. p (suc i)) b alt (λ i h. taken (suc i) (omega arith))
-      (λ i h. kept (suc i) (omega arith) ∙ sym (with_first-none (kept_at ts b) i))
-      (λ i h. passed (suc i) (omega arith) ∙ sym (with_first-none (passed_at mode ts) i)),
+      (λ i h. kept (suc i) (omega arith) ∙ sym (with_first-none (set_of mode (Loops b) ts) i))
+      (λ i h. passed (suc i) (omega arith) ∙ sym (with_first-none (set_of mode Skips ts) i)),
 ) where
-  first-over : (loop : Loop) → p 0 ≡ with_first (first_passed mode loop (One s ∷ ts)) (passed_at mode (One s ∷ ts)) 0 → p 0 ≡ over_at mode loop s
+  first-over : (loop : SelfLoop) → p 0 ≡ first_passed mode loop (One s ∷ ts) → p 0 ≡ over_at mode loop s
   first-over Nothing h = h
   first-over Names h = h
   first-over Anything h = h
 rules-of mode case Nothing (Star ∷ ts) t l p b alt taken kept passed =
-    rules-of mode case Names ts t l p b alt taken
-    (λ i h. kept i h ∙ with_first-none (kept_at (Star ∷ ts) b) i)
-    (λ i h. passed i h ∙ with_first-none (passed_at mode (Star ∷ ts)) i ∙ ap (λ x. with_first x (passed_at mode ts) i) (star-stays mode ts))
+    rules-of mode case Names ts t l p b alt (λ i h. taken i h ∙ with_first-none (set_of mode (Takes b case) ts) i)
+    (λ i h. kept i h ∙ with_first-none (set_of mode (Loops b) (Star ∷ ts)) i)
+    (λ i h. passed i h ∙ with_first-none (set_of mode Skips (Star ∷ ts)) i ∙ ap (λ x. with_first x (set_of mode Skips ts) i) (star-stands mode ts))
 rules-of mode case Nothing (Deep ∷ ts) t l p b alt taken kept passed =
-    rules-of mode case Anything ts t l p b alt taken
-    (λ i h. kept i h ∙ with_first-none (kept_at (Deep ∷ ts) b) i)
-    (λ i h. passed i h ∙ with_first-none (passed_at mode (Deep ∷ ts)) i)
+    rules-of mode case Anything ts t l p b alt (λ i h. taken i h ∙ with_first-none (set_of mode (Takes b case) ts) i)
+    (λ i h. kept i h ∙ with_first-none (set_of mode (Loops b) (Deep ∷ ts)) i)
+    (λ i h. passed i h ∙ with_first-none (set_of mode Skips (Deep ∷ ts)) i)
 rules-of mode case Names (Star ∷ ts) t l p b alt taken kept passed = cc
 rules-of mode case Names (Deep ∷ ts) t l p b alt taken kept passed = cc
 rules-of mode case Anything (Star ∷ ts) t l p b alt taken kept passed = cc
 rules-of mode case Anything (Deep ∷ ts) t l p b alt taken kept passed = cc
 
--- what may stay at any byte other than a slash
-kept-other : (ts : List Token) (b i : ℕ) → b == slash ≡ false → kept_at ts 0 i ≡ kept_at ts b i
-kept-other [] b i h = refl
-kept-other (One s ∷ ts) b zero h = refl
-kept-other (One s ∷ ts) b (suc i) h = kept-other ts b i h
-kept-other (Star ∷ ts) b zero h = rw (kept-other ts b 0 h, h) refl
-kept-other (Star ∷ ts) b (suc i) h = kept-other ts b (suc i) h
-kept-other (Deep ∷ ts) b zero h = ap (λ x. x || true) (kept-other ts b 0 h)
-kept-other (Deep ∷ ts) b (suc i) h = kept-other ts b (suc i) h
+-- what loops at any byte other than a slash
+kept-other : (mode : Mode) (ts : List Token) (b i : ℕ) → b == slash ≡ false → set_of mode (Loops 0) ts i ≡ set_of mode (Loops b) ts i
+kept-other mode [] b i h = refl
+kept-other mode (One s ∷ ts) b zero h = refl
+kept-other mode (One s ∷ ts) b (suc i) h = kept-other mode ts b i h
+kept-other mode (Star ∷ ts) b zero h = rw (kept-other mode ts b 0 h, h) refl
+kept-other mode (Star ∷ ts) b (suc i) h = kept-other mode ts b (suc i) h
+kept-other mode (Deep ∷ ts) b zero h = ap (λ x. x || true) (kept-other mode ts b 0 h)
+kept-other mode (Deep ∷ ts) b (suc i) h = kept-other mode ts b (suc i) h
 
-kept-byte : (ts : List Token) (stays stays_at_slash b i : ℕ) → has stays i ≡ kept_at ts 0 i → has stays_at_slash i ≡ kept_at ts slash i → has (if b == slash then stays_at_slash else stays) i ≡ kept_at ts b i
-kept-byte ts stays stays_at_slash b i l d = elim (cases_Bool (b == slash)) [
+kept-byte : (mode : Mode) (ts : List Token) (self_loops slash_loops b i : ℕ) → has self_loops i ≡ set_of mode (Loops 0) ts i → has slash_loops i ≡ set_of mode (Loops slash) ts i
+    → has (if b == slash then slash_loops else self_loops) i ≡ set_of mode (Loops b) ts i
+kept-byte mode ts self_loops slash_loops b i l d = elim (cases_Bool (b == slash)) [
   | inl e ↦ rw (e, d, eqb-true b slash e) refl
-  | inr e ↦ rw (e, l) (kept-other ts b i e)
+  | inr e ↦ rw (e, l) (kept-other mode ts b i e)
 ]
 
 -- The words of tokens are masks of their cells.
-pub masked : (parts : TokenList) (case : Case) (rows : List ℕ) (stays stays_at_slash overs : ℕ) → cell_count parts.tokens < 64 → alternates_behind false parts.tokens ≡ true
-    → IsTable parts case rows → ((i : ℕ) → i < 64 → has stays i ≡ kept_at parts.tokens 0 i) → ((i : ℕ) → i < 64 → has stays_at_slash i ≡ kept_at parts.tokens slash i)
-    → ((i : ℕ) → i < 64 → has overs i ≡ passed_at parts.mode parts.tokens i) → ((i : ℕ) → (has overs i && has overs (suc i)) ≡ false)
-    → Masked parts.mode case (cells_of parts.mode Nothing parts.tokens) (loop_behind Nothing parts.tokens) rows stays stays_at_slash overs
-masked parts case rows stays stays_at_slash overs few alternate table stays_are stays_at_slash_are overs_are apart =
+pub masked : (parts : TokenList) (case : Case) (rows : List ℕ) (self_loops slash_loops skippable : ℕ) → cell_count parts.tokens < 64 → alternates_behind false parts.tokens ≡ true
+    → IsTable parts case rows → ((i : ℕ) → i < 64 → has self_loops i ≡ set_of parts.mode (Loops 0) parts.tokens i) → ((i : ℕ) → i < 64 → has slash_loops i ≡ set_of parts.mode (Loops slash) parts.tokens i)
+    → ((i : ℕ) → i < 64 → has skippable i ≡ set_of parts.mode Skips parts.tokens i) → ((i : ℕ) → (has skippable i && has skippable (suc i)) ≡ false)
+    → Masked parts.mode case (cells_of parts.mode Nothing parts.tokens) (loop_behind Nothing parts.tokens) rows self_loops slash_loops skippable
+masked parts case rows self_loops slash_loops skippable few alternate table loops_are loops_at_slash_are skippable_are apart =
     let ts = parts.tokens in
     let size = length-cells_of parts.mode Nothing ts in
     record {
       few = omega (arith, few, size);
-      rules = λ b fits. rules-of parts.mode case Nothing ts (λ i. not (has (get_or rows b 0) i)) (has (if b == slash then stays_at_slash else stays)) (has overs) b (alternates-loop Nothing ts alternate)
-          (λ i h. ap not (table b i fits (omega (arith, few, size, h))) ∙ not-not (taken_at parts.mode case ts b i))
-          (λ i h. let low : i < 64 = omega (arith, few, size, h) in kept-byte ts stays stays_at_slash b i (stays_are i low) (stays_at_slash_are i low) ∙ sym (with_first-none (kept_at ts b) i))
-          (λ i h. overs_are i (omega (arith, few, size, h)) ∙ sym (with_first-none (passed_at parts.mode ts) i));
+      rules = λ b fits. rules-of parts.mode case Nothing ts (λ i. not (has (get_or rows b 0) i)) (has (if b == slash then slash_loops else self_loops)) (has skippable) b (alternates-loop Nothing ts alternate)
+          (λ i h. ap not (table b i fits (omega (arith, few, size, h))) ∙ not-not (set_of parts.mode (Takes b case) ts i))
+          (λ i h. let low : i < 64 = omega (arith, few, size, h) in kept-byte parts.mode ts self_loops slash_loops b i (loops_are i low) (loops_at_slash_are i low) ∙ sym (with_first-none (set_of parts.mode (Loops b) ts) i))
+          (λ i h. skippable_are i (omega (arith, few, size, h)) ∙ sym (with_first-none (set_of parts.mode Skips ts) i));
       apart = λ i h. apart i;
     }
 

@@ -13,4 +13,4 @@ words_hold words place = has (get_or words (place / 64) 0) (place % 64)
 
 -- the truth values that words are, of so many places
 abbrev pub bits_of : List ℕ → ℕ → List Bool
-bits_of words places = map (words_hold words) (range_with_len 0 places)
+bits_of words states = map (words_hold words) (range_with_len 0 states)

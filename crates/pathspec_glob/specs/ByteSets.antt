@@ -18,7 +18,7 @@ literals_below (suc end) holds = if holds end then Literal end ∷ literals_belo
 abbrev pub literals : (ℕ → Bool) → List Item
 literals holds = literals_below 256 holds
 
--- what one byte has to be, where a bracket lists each byte that its items hold
+-- a rule for one byte, whose bracket lists each byte that its items hold
 abbrev pub listed_single : OneByte → OneByte
 listed_single (Byte b) = Byte b
 listed_single (Quoted b) = Quoted b
@@ -26,7 +26,7 @@ listed_single Any = Any
 listed_single (Bracket negated items) = Bracket negated (literals (items_hold items))
 listed_single Dead = Dead
 
--- a token, a piece and tokens with such brackets
+-- a token and a piece, whose brackets list each byte that they hold
 abbrev pub listed : Token → Token
 listed (One single) = One (listed_single single)
 listed Star = Star
@@ -35,15 +35,15 @@ listed Deep = Deep
 abbrev pub listed_piece : Piece → Piece
 listed_piece piece = record { token = listed piece.token; size = piece.size }
 
--- The tokens of a pattern, with such brackets.
+-- The tokens of a pattern, whose brackets list each byte that they hold.
 abbrev pub listed_tokens : Mode → List ℕ → List Token
 listed_tokens mode pattern = map listed (tokens mode pattern)
 
--- the same with the mode of the pattern
+-- the tokens of a pattern, whose brackets list each byte that they hold, with its mode
 abbrev pub listed_token_list : Mode → List ℕ → TokenList
 listed_token_list mode pattern = record { mode = mode; tokens = listed_tokens mode pattern }
 
--- Of a text so many bytes were read: the tokens that were read by now, and those of what is left, are those from before and those of the text.
+-- The first bytes of a text were read, `size` of them: the new tokens and those of the rest are the old tokens and those of the text.
 pub record ReadsOn (mode : Mode) (after_slash : Bool) (text : List ℕ) (old new : List Token) (size : ℕ) : Type 0 where
   pub some : 1 ≤ size
   pub within : size ≤ length text

@@ -46,7 +46,7 @@ backslash = 92
 abbrev pub close_bracket : ℕ
 close_bracket = 93
 
--- the byte is one of these
+-- the byte is one of a list
 abbrev pub is_one_of : List ℕ → ℕ → Bool
 is_one_of bytes b = list_any (nat_eq b) bytes
 

@@ -2,7 +2,7 @@
 use Rattle.std.specs.Prelude.{◌≡◌, ◌≤◌, ℕ, ◌+◌, ◌%◌, ◌^◌}
 use Rattle.pathspec_glob.specs.declared.scratch.Steps.{Steps}
 
--- so many steps were counted between two counts, which go round at 2 ^ 128
+-- n steps were counted between two counts, which go round at 2 ^ 128
 abbrev pub Counts : ℕ → ℕ → ℕ → Type 0
 Counts before n after = after % 2 ^ 128 ≡ (before + n) % 2 ^ 128
 
@@ -16,7 +16,7 @@ pub record BeginsAnew (old new : Steps) : Type 0 where
   pub last : new.last ≡ 0
   pub total : new.total ≡ old.total
 
--- where the steps of the match were counted in the total before, they still are, and none of them is taken back
+-- the steps of the match stay counted in the total, where they were before, and none of them is taken back
 pub record KeepsCount (old new : Steps) : Type 0 where
   pub goes_on : (before : ℕ) → Counts before old.last old.total → Counts before new.last new.total
   pub rises : old.last ≤ new.last

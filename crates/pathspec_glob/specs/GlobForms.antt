@@ -1,4 +1,4 @@
--- What a clause reads of a compiled glob: the items and tokens of `Tokens`.
+-- A compiled glob as clauses see it: the items and tokens of `Tokens`.
 use Rattle.std.specs.Prelude.{ℕ, List, [], ◌∷◌, map, codes}
 use Rattle.pathspec_glob.specs.declared.brackets.Class.{Class as Named}
 use Rattle.pathspec_glob.specs.declared.brackets.Class.TheVariants as named
@@ -8,8 +8,8 @@ use Rattle.pathspec_glob.specs.declared.brackets.Front.{Front as Seen}
 use Rattle.pathspec_glob.specs.declared.brackets.Front.TheVariants as seen
 use Rattle.pathspec_glob.specs.declared.brackets.Read.{Read}
 use Rattle.pathspec_glob.specs.declared.reading.Piece.{Piece as Taken}
-use Rattle.pathspec_glob.specs.declared.tokens.FirstForm.{FirstForm}
-use Rattle.pathspec_glob.specs.declared.tokens.FirstForm.TheVariants as form
+use Rattle.pathspec_glob.specs.declared.tokens.LoneStar.{LoneStar}
+use Rattle.pathspec_glob.specs.declared.tokens.LoneStar.TheVariants as form
 use Rattle.pathspec_glob.specs.declared.tokens.OneByte.{OneByte as Tested}
 use Rattle.pathspec_glob.specs.declared.tokens.OneByte.TheVariants as tested
 use Rattle.pathspec_glob.specs.declared.tokens.Token.{Token as Part}
@@ -52,13 +52,13 @@ items_view items = map item_view items
 abbrev pub bracket_view : Read → Items
 bracket_view read = record { items = items_view read.items.items; rest = read.rest.now }
 
--- what stands at the front of what is left of a bracket
+-- the front of the unread part of a bracket
 abbrev pub front_view : Seen → Front
 front_view (seen.Listed item size) = Listed (item_view item) size
 front_view seen.Closed = Closed
 front_view seen.Broken = Broken
 
--- what one byte of a text has to be
+-- the rule for one byte that a `OneByte` is
 abbrev pub one_byte_view : Tested → OneByte
 one_byte_view (tested.Byte byte) = Byte byte
 one_byte_view (tested.Quoted byte) = Quoted byte
@@ -76,11 +76,11 @@ token_view part.Deep = Deep
 abbrev pub tokens_view : List Part → List Token
 tokens_view parts = map token_view parts
 
--- the tokens that a `FirstForm` is
-abbrev pub form_view : FirstForm → List Token
-form_view form.Star = Star ∷ []
-form_view form.Deep = Deep ∷ []
-form_view form.DeepSlashStar = Deep ∷ One (Byte slash) ∷ Star ∷ []
+-- the tokens that a `LoneStar` is
+abbrev pub star_view : LoneStar → List Token
+star_view form.Star = Star ∷ []
+star_view form.Deep = Deep ∷ []
+star_view form.DeepSlashStar = Deep ∷ One (Byte slash) ∷ Star ∷ []
 
 -- the piece that a `Piece` is
 abbrev pub piece_view : Taken → Piece

@@ -15,12 +15,12 @@ use Rattle.pathspec_glob.specs.ByteSets.{listed_tokens}
 abbrev pub head_size : List Token → ℕ
 head_size ts = prefix_len (λ t. not (is_wide t)) ts
 
--- how many stand up to a token that takes any number of bytes, with a slash that it may be left out with
+-- the count of the first token, where it takes any number of bytes, with a slash that it may be left out with; else 0
 abbrev pub own_size : Mode → List Token → ℕ
 own_size mode [] = 0
 own_size mode (t ∷ ts) = if is_wide t then (if may_pass_over_at mode (t ∷ ts) then 2 else 1) else 0
 
--- the same of the last such token
+-- how many tokens stand up to the last that takes any number of bytes, with a slash that this one may be left out with
 abbrev pub wide_size : Mode → List Token → ℕ
 wide_size mode [] = 0
 wide_size mode (t ∷ ts) = if wide_size mode ts == 0 then own_size mode (t ∷ ts) else suc (wide_size mode ts)
@@ -32,11 +32,11 @@ head_of ts = take (head_size ts) ts
 abbrev pub behind_head : List Token → List Token
 behind_head ts = drop (head_size ts) ts
 
--- What stands between head and tail: the tokens up to the last that takes any number of bytes, with a slash that this one may be left out with.
+-- The middle: the tokens behind the head, up to the last that takes any number of bytes, with a slash that this one may be left out with.
 abbrev pub middle_of : Mode → List Token → List Token
 middle_of mode ts = take (wide_size mode (behind_head ts)) (behind_head ts)
 
--- the tokens behind those
+-- the tail: the tokens behind the middle
 abbrev pub tail_of : Mode → List Token → List Token
 tail_of mode ts = drop (wide_size mode (behind_head ts)) (behind_head ts)
 
@@ -46,24 +46,24 @@ takes_each mode case [] text = is_empty text
 takes_each mode case (t ∷ ts) [] = false
 takes_each mode case (t ∷ ts) (b ∷ bs) = takes_byte mode case t b && takes_each mode case ts bs
 
--- how many of them are tested, up to one that doesn't take its byte
+-- how many tokens are tested on the text, one a byte, up to one that doesn't take its byte
 abbrev pub tests_each : Mode → Case → List Token → List ℕ → ℕ
 tests_each mode case [] text = 0
 tests_each mode case (t ∷ ts) [] = 0
 tests_each mode case (t ∷ ts) (b ∷ bs) = suc (if takes_byte mode case t b then tests_each mode case ts bs else 0)
 
--- tokens that want these bytes, one each
+-- tokens that want some bytes, one each
 abbrev pub plain_tokens : List ℕ → List Token
 plain_tokens bytes = map (λ b. One (Byte b)) bytes
 
--- they take the front of the text, or its end
+-- the tokens take the front of the text, or its end
 abbrev pub takes_front : TokenList → Case → List ℕ → Bool
 takes_front parts case text = takes_each parts.mode case parts.tokens (take (length parts.tokens) text)
 
 abbrev pub takes_end : TokenList → Case → List ℕ → Bool
 takes_end parts case text = takes_each parts.mode case parts.tokens (drop (length text - length parts.tokens) text)
 
--- what stands behind that front, or before that end
+-- the text behind the front that the tokens take, or before the end that they take
 abbrev pub behind_front : TokenList → List ℕ → List ℕ
 behind_front parts text = drop (length parts.tokens) text
 

@@ -54,7 +54,7 @@ takes mode case Dead b = false
 
 -- ---- the relation
 
--- Where the mode is PathAware, a deep token before a plain slash may stand for nothing, the slash with it.
+-- A deep token before a plain slash may stand for nothing, the slash with it, where the mode is PathAware.
 abbrev pub IsPassedOver : Mode → Token → Type 0
 IsPassedOver Shell t = ⊥
 IsPassedOver PathAware t = t ≡ One (Byte slash)
@@ -72,7 +72,7 @@ pub data Matches (mode : Mode) (case : Case) : List Token → List ℕ → Type 
   -- deep before a plain slash may be left out, the slash with it
   over : {t : Token} {ts : List Token} {text : List ℕ} → IsPassedOver mode t → Matches mode case ts text → Matches mode case (Deep ∷ t ∷ ts) text
 
--- ---- the same as a function
+-- ---- the relation as a function
 
 -- some end of the text passes the test, where what stands before it may be left out
 abbrev pub some_suffix : (ℕ → Bool) → (List ℕ → Bool) → List ℕ → Bool

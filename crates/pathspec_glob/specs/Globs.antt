@@ -5,7 +5,7 @@ use Rattle.pathspec_glob.specs.declared.Mode.{Mode}
 use Rattle.pathspec_glob.specs.declared.Mode.TheVariants.{Shell}
 use Rattle.pathspec_glob.specs.declared.Case.{Case}
 use Rattle.pathspec_glob.specs.declared.Case.TheVariants.{Sensitive, Fold}
-use Rattle.pathspec_glob.specs.declared.places.Places.{Places}
+use Rattle.pathspec_glob.specs.declared.state_set.StateSet.{StateSet}
 use Rattle.pathspec_glob.specs.declared.scratch.Steps.{Steps}
 use Rattle.pathspec_glob.specs.Bytes.{slash, star, first_is, begins_with, fold_case, is_wildcard}
 use Rattle.pathspec_glob.specs.Tokens.{Token, tokens}
@@ -31,8 +31,8 @@ abbrev pub room_for : ℕ → Room
 room_for tokens = record { tokens = tokens; steps = 0; total_steps = 0 }
 
 -- the room that a set of places and a count make
-abbrev pub room_of : Places → Steps → Room
-room_of places steps = record { tokens = length places.staying; steps = steps.last; total_steps = steps.total }
+abbrev pub room_of : StateSet → Steps → Room
+room_of states steps = record { tokens = length states.staying; steps = steps.last; total_steps = steps.total }
 
 -- case does not count
 abbrev pub folds : Case → Bool

@@ -7,10 +7,10 @@ pub mod GlobSteps
 pub mod GlobParts
 pub mod GlobEnds
 pub mod GlobCells
-pub mod GlobWords
+pub mod WordAutomata
 pub mod BitVecs
-pub mod GlobPlaces
-pub mod GlobWays
+pub mod StateSets
+pub mod Matchers
 pub mod Globs
 pub mod LastBytes
 pub mod DirectoryGlobs

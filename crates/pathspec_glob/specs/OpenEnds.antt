@@ -8,7 +8,7 @@ abbrev pub is_any_run : Token → Bool
 is_any_run Deep = true
 is_any_run _ = false
 
--- the last of the tokens does
+-- the last of the tokens takes any bytes
 abbrev pub is_open : List Token → Bool
 is_open [] = false
 is_open (t ∷ []) = is_any_run t

@@ -9,7 +9,7 @@ use Rattle.pathspec_glob.specs.Bytes.{slash, star, question_mark, open_bracket, 
 
 -- ---- brackets
 
--- what a bracket lists
+-- an item of a bracket
 pub data Item : Type 0 where
   Literal : (byte : ℕ) → Item
   -- from the first to the last, and nothing where the last is below the first
@@ -37,7 +37,7 @@ class_of name =
 abbrev pub known_class : List ℕ → Option (List ℕ)
 known_class name = if is_some (class_of name) then Some name else None
 
--- what stands at the front of a bracket's rest: an item of so many bytes, its closing `]`, or nothing that can be read
+-- the front of a bracket's rest: an item of so many bytes, its closing `]`, or nothing that can be read
 pub data Front : Type 0 where
   Listed : (item : Item) (size : ℕ) → Front
   Closed : Front
@@ -54,16 +54,16 @@ range_item low [] = Broken
 range_item low (c ∷ []) = if c == backslash then Broken else Listed (Range low c) 2
 range_item low (c ∷ x ∷ rest) = if c == backslash then Listed (Range low x) 3 else Listed (Range low c) 2
 
--- where it does: a single byte stands directly before it, and the next byte is there and is no `]`
+-- where a `-` makes a range: a single byte stands directly before it, and the next byte is there and is no `]`
 abbrev pub makes_range : Option ℕ → List ℕ → Bool
 makes_range last rest = is_some last && first_is (λ b. not (b == close_bracket)) rest
 
--- the same where there is such a byte
+-- the range from the last single byte, where there is one
 abbrev pub range_from : Option ℕ → List ℕ → Front
 range_from None rest = Broken
 range_from (Some low) rest = range_item low rest
 
--- what stands before the last byte, where that one is `:`
+-- the text before its last byte, where that one is `:`
 abbrev pub before_last_colon : List ℕ → Option (List ℕ)
 before_last_colon text =
     let front = length text - 1 in
@@ -117,7 +117,7 @@ abbrev pub item_before : Item → Option Items → Option Items
 item_before item None = None
 item_before item (Some others) = Some (record { items = item ∷ others.items; rest = others.rest })
 
--- the items when the front is this, the bytes after its first are these, and those others follow
+-- the items of a bracket's rest: its front, the bytes after its first, and the items that follow the front
 abbrev pub items_with : Front → List ℕ → Option Items → Option Items
 items_with (Listed item size) bs others = item_before item others
 items_with Closed bs others = Some (record { items = []; rest = bs })
@@ -133,7 +133,7 @@ items_from zero first last (b ∷ bs) =
 
 -- ---- tokens
 
--- what one byte of a text has to be
+-- a rule for one byte of a text
 pub data OneByte : Type 0 where
   -- a byte, as it stands or after a backslash
   Byte : (byte : ℕ) → OneByte

@@ -10,7 +10,7 @@ use std::marker::Model;
 #[derive(Drop)]
 pub struct BitVec {
     words: Vec<u64>,
-    /// How many values it has.
+    /// The count of values.
     len: usize,
 }
 
@@ -26,10 +26,10 @@ impl Model for BitVec {
 }
 
 impl BitVec {
-    /// So many values, all false.
+    /// Makes a vector of `len` values, all false.
     ///
     /// # Errors
-    /// Memory runs out, or no memory holds so many.
+    /// Memory runs out, or `len` is 2^62 or more.
     pub fn of_len(alloc: Global, len: usize) -> Result<BitVec, AllocError>
         ensures bits { IfOk result (λ bits. bits ≡ replicate len false) }
         ensures small { OnOk result (len < 2 ^ 62) }
@@ -43,7 +43,7 @@ impl BitVec {
         })
     }
 
-    /// How many values it has.
+    /// The count of values.
     pub fn len(&self) -> usize
         ensures { result ≡ length self.now }
     {
@@ -58,7 +58,7 @@ impl BitVec {
         (self.words[place / 64] >> (place % 64)) & 1 == 1
     }
 
-    /// The values of a word, as bits.
+    /// The 64 values of the word at an index, as bits.
     pub fn word(&self, index: usize) -> u64
         requires { index * 64 ≤ length self.now }
         ensures { (i : ℕ) → i < 64 → index * 64 + i < length self.now
@@ -67,7 +67,7 @@ impl BitVec {
         self.words[index]
     }
 
-    /// Sets the values of a word.
+    /// Sets the 64 values of the word at an index.
     pub fn set_word(&mut self, index: usize, word: u64)
         requires { index * 64 ≤ length self.old }
         ensures there { (i : ℕ) → i < 64 → index * 64 + i < length self.old
@@ -88,7 +88,7 @@ impl BitVec {
         self.words[place / 64] = word;
     }
 
-    /// Makes the first values false, and it may be others behind them.
+    /// Sets the first `count` values to false, and perhaps others behind them.
     pub fn leave(&mut self, count: usize)
         requires { count ≤ length self.old }
         ensures left { take count self.new ≡ replicate count false }
@@ -98,7 +98,7 @@ impl BitVec {
     }
 }
 
-/// A word with this bit set or not.
+/// The word with the bit at a place set or not, as `value` says.
 pub fn with_bit(word: u64, place: usize, value: bool) -> u64
     requires { place < 64 }
     ensures { (i : ℕ) → i < 64 → has result i ≡ (if i == place then value else has word i) }
@@ -110,7 +110,7 @@ pub fn with_bit(word: u64, place: usize, value: bool) -> u64
     }
 }
 
-/// Makes the first words 0.
+/// Sets the first `count` words to 0.
 fn clear(words: &mut [u64], count: usize)
     requires { count ≤ length words.old }
     ensures { words.new ≡ replicate count 0 ++ drop count words.old }

@@ -40,7 +40,7 @@ pub enum Class {
 }
 
 impl Class {
-    /// The class of this name.
+    /// The class with the given name, as `digit`.
     fn from_name(name: &[u8]) -> Option<Class>
         ensures { option_map class_name result ≡ known_class name.now }
     {
@@ -73,7 +73,7 @@ impl Class {
         }
     }
 
-    /// Whether it has the byte.
+    /// Whether the class has the byte.
     pub fn holds(self, byte: u8) -> bool
         ensures { result ≡ passes (class_of (class_name self)) byte }
     {
@@ -94,19 +94,19 @@ impl Class {
     }
 }
 
-/// What a bracket lists.
+/// One item of a bracket.
 #[derive(Clone, Copy)]
 pub enum Item {
     /// One byte.
     Literal(u8),
-    /// From the first to the last, and nothing where the last is below the first.
+    /// The bytes from the first to the last; none where the last is below the first.
     Range(u8, u8),
     /// The bytes of a class.
     Class(Class),
 }
 
 impl Item {
-    /// The byte that a next `-` may start from.
+    /// The byte from which a following `-` may begin a range.
     fn single(self) -> Option<u8>
         ensures { (size : ℕ) → result ≡ single_of (Listed (item_view self) size) }
     {
@@ -117,27 +117,25 @@ impl Item {
     }
 }
 
-/// The items of a bracket, and what follows its `]`.
+/// The items of a bracket, and the pattern behind its `]`.
 #[derive(Drop)]
 pub struct Read<'p> {
     pub items: Vec<Item>,
     pub rest: &'p [u8],
 }
 
-/// What stands at the front of what is left of a bracket.
+/// The front of the unread part of a bracket.
 enum Front {
-    /// An item of so many bytes.
+    /// An item, and how many bytes it takes.
     Listed(Item, usize),
     /// The closing `]`.
     Closed,
-    /// Nothing that can be read.
+    /// A front that can't be read.
     Broken,
 }
 
-/// The items up to the closing `]` of a bracket, whose `[` and negation stand before these bytes; None where they
-/// can't be read.
-///
-/// The cost is linear in the bytes up to that `]`, or in all of them where no `]` closes the bracket.
+/// Reads the items of a bracket up to its closing `]`; None where they can't be read. The `[` and the negation stand before
+/// `bytes`. The cost is linear in the bytes up to that `]`, or in all of them where no `]` closes the bracket.
 ///
 /// # Errors
 /// Memory runs out.
@@ -168,8 +166,8 @@ pub fn read_items<'p>(alloc: Global, bytes: &'p [u8]) -> Result<Option<Read<'p>>
     }
 }
 
-/// The front of what is left of a bracket: in the place of its first item or not, after a single byte or not, and
-/// with the first `]` at this place.
+/// Reads the front of the unread part of a bracket. `first` says whether its first item stands here, `last` is a single byte
+/// directly before, and `closing` is the place of the first `]`.
 fn read_front(first: bool, last: Option<u8>, bytes: &[u8], closing: Option<usize>) -> Front
     requires { closing ≡ position (λ b. b == close_bracket) bytes.now }
     ensures { front_view result ≡ front_of first last bytes.now }
@@ -190,7 +188,7 @@ fn read_front(first: bool, last: Option<u8>, bytes: &[u8], closing: Option<usize
     }
 }
 
-/// The byte at the front, after a backslash, which its size counts.
+/// Reads the byte at the front, which stands after a backslash. Its size counts the backslash.
 fn escaped_front(bytes: &[u8]) -> Front
     ensures { front_view result ≡ escaped_item bytes.now }
 {
@@ -200,15 +198,14 @@ fn escaped_front(bytes: &[u8]) -> Front
     }
 }
 
-/// Whether `-` makes a range, with these bytes after it.
+/// Whether a `-` makes a range with the bytes after it: a single byte stands before it, and one other than `]` behind it.
 fn makes_range(last: Option<u8>, bytes: &[u8]) -> bool
     ensures { result ≡ makes_range last bytes.now }
 {
     last.is_some() && matches!(bytes, [byte, ..] if *byte != b']')
 }
 
-/// The range from the last single byte to the byte at the front, which may stand after a backslash. Its size counts
-/// the `-`.
+/// Reads the range from the last single byte to the byte at the front, which a backslash may quote. Its size counts the `-`.
 fn range_front(last: Option<u8>, bytes: &[u8]) -> Front
     ensures { front_view result ≡ range_from last bytes.now }
 {
@@ -226,7 +223,7 @@ fn begins_with_colon(bytes: &[u8]) -> bool
     matches!(bytes, [b':', ..])
 }
 
-/// The class whose `[:` stands before these bytes, or the `[` as a byte.
+/// Reads the class whose `[:` stands before the bytes, or the `[` as a byte.
 fn class_front(bytes: &[u8], closing: Option<usize>) -> Front
     requires { closing ≡ position (λ b. b == close_bracket) bytes.now }
     ensures { front_view result ≡ class_item bytes.now }
@@ -247,7 +244,7 @@ fn is_same(name: &[u8], other: &[u8]) -> bool
     name == other
 }
 
-/// What stands before the last byte, where that one is `:`.
+/// The bytes before the last one, if that is `:`.
 fn name_before_colon(bytes: &[u8]) -> Option<&[u8]>
     ensures { option_map (λ name. name.now) result ≡ before_last_colon bytes.now }
 {
@@ -257,7 +254,7 @@ fn name_before_colon(bytes: &[u8]) -> Option<&[u8]>
     }
 }
 
-/// The class of this name, which stands between `[:` and `:]`.
+/// The front that is a class with the given name, which stands between `[:` and `:]`.
 fn named_front(name: &[u8]) -> Front
     ensures { front_view result ≡ named_class name.now }
 {
@@ -274,7 +271,7 @@ fn first_closing(bytes: &[u8]) -> Option<usize>
     bytes.iter().position(|byte| *byte == b']')
 }
 
-/// The place of the first `]` after the first bytes, where the first of all has this place.
+/// The place of the first `]` behind the first `size` bytes. `closing` is the place of the first of all.
 fn closing_after(bytes: &[u8], size: usize, closing: Option<usize>) -> Option<usize>
     requires size { size ≤ length bytes.now }
     requires closing { closing ≡ position (λ b. b == close_bracket) bytes.now }

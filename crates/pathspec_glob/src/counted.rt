@@ -1,18 +1,18 @@
-//! What a text is tested with, and the count of tests. Nothing else in this crate compares a byte of a text with what a glob wants.
+//! Tests of tokens on bytes, all counted. Nothing else in this crate compares a byte of a text with what a glob wants.
 ghost use Rattle.std.specs.Prelude.{◌≡◌, ◌+◌, ◌*◌, ◌<◌, ◌^◌, bytes_eq, length, get_or, vec_len};
 ghost use Rattle.pathspec_glob.specs.Bytes.{fold_case};
-ghost use Rattle.pathspec_glob.specs.GlobForms.{form_view, tokens_view};
+ghost use Rattle.pathspec_glob.specs.GlobForms.{star_view, tokens_view};
 ghost use Rattle.pathspec_glob.specs.declared.Case.{Case};
 ghost use Rattle.pathspec_glob.specs.Globs.{folds};
 ghost use Rattle.pathspec_glob.specs.GlobSteps.{token_takes};
 
 use crate::scratch::Key;
-use crate::tokens::{FirstForm, Token};
+use crate::tokens::{LoneStar, Token};
 use crate::{Case, Mode};
 use std::marker::Model;
 
-/// How many questions were put, each of which tests so many tokens on a byte. Only questions raise it, and it can't be
-/// copied or let go but to a scratch, which counts a step for each test.
+/// A count of questions, each of which tests `tokens` tokens on a byte. Only questions raise it. It can't be copied, and only
+/// a scratch takes it, which counts a step for each test.
 pub struct Tests {
     count: usize,
     tokens: usize,
@@ -25,10 +25,10 @@ pub struct CountedTokens {
     mode: Mode,
 }
 
-/// Tokens of which the first takes any number of bytes, and is tested alone.
+/// The star of a glob without other tokens between head and tail. A question tests it on one byte.
 #[derive(Drop)]
-pub struct CountedFirst {
-    form: FirstForm,
+pub struct CountedStar {
+    form: LoneStar,
     mode: Mode,
 }
 
@@ -38,7 +38,7 @@ pub struct CountedBytes {
     all: Vec<u8>,
 }
 
-/// For each byte the places of so many tokens that don't take it. A question tests them all.
+/// The states of tokens that don't take a byte, for each byte. A question tests all the tokens.
 #[derive(Drop)]
 pub struct Table {
     rows: Vec<u64>,
@@ -47,7 +47,7 @@ pub struct Table {
 }
 
 impl Tests {
-    /// No test yet, where each question tests so many tokens.
+    /// Makes a count of no questions, each of which is to test `tokens` tokens.
     pub fn none(tokens: usize) -> Tests
         ensures count { result.count ≡ 0 }
         ensures tokens { result.tokens ≡ tokens }
@@ -55,7 +55,7 @@ impl Tests {
         Tests { count: 0, tokens }
     }
 
-    /// How many tests there were. Only a scratch has the key.
+    /// The count of tests. Only a scratch has the key.
     pub fn spend(self, _key: &Key) -> u128
         requires { self.tokens * self.count < 2 ^ 128 }
         ensures { result ≡ self.tokens * self.count }
@@ -102,32 +102,32 @@ impl CountedTokens {
     }
 }
 
-impl Model for CountedFirst {
-    ghost use Rattle.pathspec_glob.specs.GlobForms.{form_view};
+impl Model for CountedStar {
+    ghost use Rattle.pathspec_glob.specs.GlobForms.{star_view};
     ghost use Rattle.pathspec_glob.specs.GlobSteps.{TokenList};
 
     ghost Value = { TokenList };
 
-    ghost view = { λ t. record { mode = t.mode; tokens = form_view t.form } };
+    ghost view = { λ t. record { mode = t.mode; tokens = star_view t.form } };
 }
 
-impl CountedFirst {
-    pub fn new(mode: Mode, form: FirstForm) -> CountedFirst
-        ensures { result ≡ record { mode = mode; tokens = form_view form } }
+impl CountedStar {
+    pub fn new(mode: Mode, form: LoneStar) -> CountedStar
+        ensures { result ≡ record { mode = mode; tokens = star_view form } }
     {
-        CountedFirst { form, mode }
+        CountedStar { form, mode }
     }
 
     pub fn len(&self) -> usize
         ensures { result ≡ length self.now.tokens }
     {
         match self.form {
-            FirstForm::Star | FirstForm::Deep => 1,
-            FirstForm::DeepSlashStar => 3,
+            LoneStar::Star | LoneStar::Deep => 1,
+            LoneStar::DeepSlashStar => 3,
         }
     }
 
-    /// Whether the first token takes a byte, with others.
+    /// Whether the star takes a byte, alone or with others.
     #[inline(always)]
     pub fn test(&self, byte: u8, tests: &mut Tests) -> bool
         requires alone { tests.old.tokens ≡ 1 }
@@ -138,8 +138,8 @@ impl CountedFirst {
     {
         tests.count += 1;
         match self.form {
-            FirstForm::Star => byte != b'/',
-            FirstForm::Deep | FirstForm::DeepSlashStar => true,
+            LoneStar::Star => byte != b'/',
+            LoneStar::Deep | LoneStar::DeepSlashStar => true,
         }
     }
 }
@@ -157,7 +157,7 @@ impl CountedBytes {
         self.all.len()
     }
 
-    /// Whether each byte of a text is the one at its place, up to case where it doesn't count.
+    /// Whether a text equals the bytes, up to case where it doesn't count.
     #[inline(always)]
     pub fn test(&self, text: &[u8], case: Case, tests: &mut Tests) -> bool
         requires len { length text.now ≡ length self.now.all.items }
@@ -176,7 +176,7 @@ impl CountedBytes {
     }
 }
 
-/// Whether two texts are one. It compares the last byte first, in which most paths differ from an end.
+/// Whether two texts are equal. The last byte is compared first, in which most paths differ from an end.
 #[inline(always)]
 fn is_same_text(left: &[u8], right: &[u8]) -> bool
     ensures { result ≡ bytes_eq left.now right.now }
@@ -193,7 +193,7 @@ impl Table {
         Table { rows, tokens }
     }
 
-    /// No test yet of the table's tokens.
+    /// Makes a count of no questions to the table.
     pub fn no_tests(&self) -> Tests
         ensures count { result.count ≡ 0 }
         ensures tokens { result.tokens ≡ self.now.tokens }
@@ -201,7 +201,7 @@ impl Table {
         Tests::none(self.tokens)
     }
 
-    /// The places whose tokens don't take the byte.
+    /// The states whose tokens don't take the byte.
     #[inline(always)]
     pub fn refused(&self, byte: u8, tests: &mut Tests) -> u64
         requires tokens { tests.old.tokens ≡ self.now.tokens }

@@ -1,4 +1,4 @@
-//! Globs that are asked of directories, whose paths they take with a slash behind them.
+//! Globs that are matched with a directory's path and a slash.
 ghost use Rattle.std.specs.Prelude.{◌≡◌, ◌≤◌, ◌↔◌, [], ◌∷◌, ◌++◌, length, IfOk, IsTrue};
 ghost use Rattle.pathspec_glob.specs.Bytes.{slash};
 ghost use Rattle.pathspec_glob.specs.Globs.{glob_tokens, AnswersGlob, GlobIsRelation};
@@ -14,14 +14,12 @@ use std::alloc::{AllocError, Global};
 use std::fmt;
 use std::marker::Model;
 
-/// A compiled glob (git's wildmatch) that is asked of directories: whether it matches a directory's path with a slash
-/// behind it.
-///
+/// A compiled glob (git's wildmatch) that is matched with a directory's path and a slash: `a/**` matches the directory `a`.
 /// The path is given without that slash, so no copy of it is made.
 #[derive(Drop)]
 pub struct DirectoryGlob {
     source: Source,
-    /// All its tokens, as what stands between a head and a tail without any.
+    /// All the tokens, as the middle of a glob without head and tail.
     tokens: Middle,
     /// Whether the last token takes any bytes.
     open_end: bool,
@@ -47,8 +45,8 @@ impl fmt::Debug for DirectoryGlob {
 }
 
 impl DirectoryGlob {
-    /// The glob of a pattern. Every byte string is one. The cost is linear in the pattern, and so is the memory. Of one that begins
-    /// with a star and has an open end, up to 63 tokens for one byte may be tested on every byte here, for a table of 4 kB.
+    /// Compiles a pattern, which any byte string is. The cost and the memory are linear in it. If it begins with a star and
+    /// its end is open, up to 63 tokens may be tested on every byte, for a table of 4 kB.
     ///
     /// # Errors
     /// Memory runs out.
@@ -57,7 +55,7 @@ impl DirectoryGlob {
     {
         let tokens = Tokens::of_pattern(alloc, pattern, mode)?;
         let open_end = tokens.has_open_end();
-        // One that begins with bytes mostly fails at the first, and one without an open end is rarely asked.
+        // A pattern that begins with bytes mostly fails at the first, and one without an open end is rarely asked.
         let tokens = if open_end && tokens.head_size() == 0 {
             Middle::of_tokens(alloc, tokens)?
         } else {
@@ -70,7 +68,7 @@ impl DirectoryGlob {
         })
     }
 
-    /// How many tokens it has, which are at most the pattern's bytes.
+    /// The count of tokens: at most one for each byte of the pattern.
     pub fn tokens(&self) -> usize
         ensures tokens { result ≡ length (glob_tokens self.now) }
         ensures few { result ≤ length self.now.pattern }
@@ -78,27 +76,26 @@ impl DirectoryGlob {
         self.tokens.len()
     }
 
-    /// Whether its last token takes any bytes, as `**` behind a slash does, and in [`Mode::Shell`] any `*`. It takes
-    /// constant time.
+    /// Whether the last token takes any bytes, as `**` behind a slash, and in [`Mode::Shell`] any `*`. Takes constant time.
     pub fn has_open_end(&self) -> bool
         ensures { result ≡ is_open (glob_tokens self.now) }
     {
         self.open_end
     }
 
-    /// Whether the scratch was made for at least as many tokens.
+    /// Whether the scratch was made for at least as many tokens as the glob has.
     pub fn fits(&self, scratch: &Scratch) -> bool
         ensures { IsTrue result ↔ (length (glob_tokens self.now) ≤ scratch.now.tokens) }
     {
-        self.tokens() <= scratch.places.room()
+        self.tokens() <= scratch.states.room()
     }
 
-    /// Whether the directory's path matches with a slash behind it. The path is given without that slash. It takes no
-    /// memory. It keeps the set of places in the tokens that the front of the path leads to, and stops at a byte where no
-    /// place is left. So it takes at most (pattern bytes + 1) × (path bytes + 2) steps.
+    /// Whether the glob matches the directory's path and a slash. The path is given without that slash.
     ///
-    /// A true answer counts as many steps as the path has bytes and one for the slash, at least; for `*rest` without a
-    /// wildcard in `rest`, as `rest` has.
+    /// The call takes no memory. It keeps the set of places in the tokens that the front of the path leads to, and stops where
+    /// none is left. So it takes at most (pattern bytes + 1) × (path bytes + 2) steps. A true answer counts at least one for
+    /// each byte of the path and for the slash. With `*rest`, without a wildcard in `rest`, it counts at least one for each
+    /// byte of `rest`.
     pub fn matches(&self, directory: &[u8], case: Case, scratch: &mut Scratch) -> bool
         requires { length (glob_tokens self.now) ≤ scratch.old.tokens }
         ensures answer { AnswersGlob self.now.mode case self.now.pattern
@@ -108,10 +105,10 @@ impl DirectoryGlob {
         ensures counted { Counts scratch.old.total_steps scratch.new.steps scratch.new.total_steps }
         ensures room { scratch.new.tokens ≡ scratch.old.tokens }
     {
-        let places = &mut scratch.places;
+        let states = &mut scratch.states;
         let steps = &mut scratch.steps;
         steps.begin();
         self.tokens
-            .matches_directory(directory, case, places, steps)
+            .matches_directory(directory, case, states, steps)
     }
 }

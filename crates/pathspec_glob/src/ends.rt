@@ -17,12 +17,12 @@ pub struct End {
     tokens: EndTokens,
 }
 
-/// Those tokens, in the form that takes least room.
+/// The tokens of an end, in the form that takes least room.
 #[derive(Drop)]
 enum EndTokens {
-    /// By the bytes that they want, where each wants a byte of its own.
+    /// The bytes that the tokens want, where each wants a byte of the pattern.
     Bytes(CountedBytes, Mode),
-    /// One by one.
+    /// Any tokens, which are tested one by one.
     Any(CountedTokens),
 }
 
@@ -36,7 +36,7 @@ impl Model for End {
 }
 
 impl End {
-    /// These tokens. The cost is linear in them, and so is the memory: a byte for each, where each wants a byte of its own.
+    /// Makes an end of tokens. The cost and the memory are linear in them: a byte each, where all want bytes of the pattern.
     ///
     /// # Errors
     /// Memory runs out.
@@ -51,7 +51,7 @@ impl End {
         })
     }
 
-    /// Splits off the tokens from a place on, as an end. The cost and the memory are as before.
+    /// Splits off the tokens from a place on, as an end. The cost and the memory are linear in them.
     ///
     /// # Errors
     /// Memory runs out.
@@ -72,7 +72,7 @@ impl End {
         Ok(End { tokens: end })
     }
 
-    /// Tokens that want these bytes, one each. The cost is linear in them, and so is the memory.
+    /// Makes an end whose tokens want the given bytes, one each. The cost and the memory are linear in them.
     ///
     /// # Errors
     /// Memory runs out.
@@ -86,7 +86,7 @@ impl End {
         })
     }
 
-    /// How many tokens they are.
+    /// The count of tokens.
     pub fn len(&self) -> usize
         ensures { result ≡ length self.now.tokens }
     {
@@ -96,9 +96,8 @@ impl End {
         }
     }
 
-    /// What stands in a text behind the front that the tokens take, one byte each; None where they don't take it.
-    ///
-    /// It tests each token at most once, and none where the text is shorter than they are many.
+    /// The text behind the front that the tokens take, one byte each; None where they don't take it. The call tests each token
+    /// at most once, and none where the text has fewer bytes than there are tokens.
     pub fn behind_front<'t>(
         &self,
         text: &'t [u8],
@@ -130,9 +129,8 @@ impl End {
         }
     }
 
-    /// What stands in a text before the end that the tokens take, one byte each; None where they don't take it.
-    ///
-    /// It tests each token at most once, and none where the text is shorter than they are many.
+    /// The text before the end that the tokens take, one byte each; None where they don't take it. The call tests each token
+    /// at most once, and none where the text has fewer bytes than there are tokens.
     pub fn before_end<'t>(&self, text: &'t [u8], case: Case, steps: &mut Steps) -> Option<&'t [u8]>
         requires { steps.old.last + length text.now < 2 ^ 128 }
         ensures taken { is_some result ≡ takes_end self.now case text.now }
@@ -159,8 +157,8 @@ impl End {
         }
     }
 
-    /// Whether the tokens take the bytes of a text, one each. It counts a step for each token that it tests: bytes are all
-    /// tested at once, other tokens one by one, up to one that doesn't take its byte.
+    /// Whether the tokens take the bytes of a text, one each. Each tested token is one step: bytes are tested all at once,
+    /// other tokens one by one, up to one that doesn't take its byte.
     #[inline(always)]
     fn test_each(&self, text: &[u8], case: Case, steps: &mut Steps) -> bool
         requires len { length text.now ≡ length self.now.tokens }
@@ -177,8 +175,9 @@ impl End {
     }
 }
 
-/// Tests tokens that want these bytes on a text, all at once; each of them is counted as one step.
+/// Whether a text is the given bytes. They are tested all at once, and each counts as one step.
 #[inline(always)]
+#[tactic(auto, using(crate::proofs::EndProofs::takes_plain))]
 fn test_bytes(bytes: &CountedBytes, text: &[u8], case: Case, steps: &mut Steps) -> bool
     requires len { length text.now ≡ length bytes.now.all.items }
     requires room { steps.old.last + length text.now < 2 ^ 128 }
@@ -194,8 +193,8 @@ fn test_bytes(bytes: &CountedBytes, text: &[u8], case: Case, steps: &mut Steps) 
 }
 
 // Out of line, since heads and tails are mostly bytes alone.
-/// Tests tokens on the bytes of a text one by one, up to a byte that its token doesn't take, each of which is counted as
-/// one step: whether they take them all.
+/// Whether the tokens take the bytes of a text, one each. They are tested one by one, up to a byte that its token doesn't
+/// take, and each test is one step.
 #[inline(never)]
 fn test_tokens(tokens: &CountedTokens, text: &[u8], case: Case, steps: &mut Steps) -> bool
     requires len { length text.now ≡ length tokens.now.tokens }

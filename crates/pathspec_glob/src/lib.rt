@@ -14,11 +14,11 @@ mod directory_glob;
 mod ends;
 mod matcher;
 mod middle;
-mod places;
 mod reading;
 mod scratch;
 mod sets;
 mod source;
+mod state_set;
 mod tokens;
 mod wildcards;
 
@@ -28,7 +28,7 @@ pub use scratch::Scratch;
 pub use tokens::is_same_byte;
 pub use wildcards::is_wildcard;
 
-/// What the wildcards of a glob may take.
+/// The rule for what the wildcards of a glob may take.
 #[derive(Clone, Copy, Debug, PartialEq, Eq)]
 pub enum Mode {
     /// `*`, `?` and brackets take `/` too, as in a pathspec without `:(glob)`.
@@ -40,17 +40,15 @@ pub enum Mode {
 /// Whether ASCII case counts in a comparison.
 #[derive(Clone, Copy, Debug, PartialEq, Eq)]
 pub enum Case {
-    /// `a` and `A` are two.
+    /// `a` and `A` differ.
     Sensitive,
-    /// `a` and `A` are one.
+    /// `a` and `A` are equal.
     Fold,
 }
 
-/// The place of the first `*`, `?`, `[` or `\`.
+/// The place of the first `*`, `?`, `[` or `\`. The bytes before it begin each text that the pattern matches as a glob.
 ///
-/// What stands before it begins each text that the pattern matches as a glob.
-///
-/// It looks at each byte up to that one, and at most at fifteen behind it.
+/// The call looks at each byte up to that one, and at most at fifteen behind it.
 pub fn first_wildcard(text: &[u8]) -> Option<usize>
     ensures place { result ≡ position is_wildcard text.now }
     ensures found { is_some result ≡ list_any is_wildcard text.now }
@@ -59,9 +57,9 @@ pub fn first_wildcard(text: &[u8]) -> Option<usize>
     wildcards::place_of_wildcard(text)
 }
 
-/// The byte that every text ends with that the pattern matches as a glob, up to case where it doesn't count: `s` of `src/*.rs`.
+/// The last byte of every text that the pattern matches as a glob, up to case where it doesn't count: `s` for `src/*.rs`.
 ///
-/// None where the pattern ends with `/`, `]` or a wildcard byte, and for the empty pattern. It looks at one byte.
+/// None where the pattern ends with `/`, `]` or a wildcard byte, and for the empty pattern. The call looks at one byte.
 pub fn last_byte(pattern: &[u8]) -> Option<u8>
     ensures byte { result ≡ own_end pattern.now }
     ensures ends { MatchHasOwnEnd }

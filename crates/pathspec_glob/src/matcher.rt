@@ -1,20 +1,18 @@
-//! Globs and texts: the head of a glob and its tail first, and then what stands between.
+//! The match of a glob with a text: by its tail and its head first, and then by the tokens between them.
 ghost use Rattle.std.specs.Prelude.{◌≡◌, ◌==◌, ◌≤◌, ◌++◌, ◌↔◌, length, IfOk, IfSome, IsFalse, IsTrue};
 ghost use Rattle.std.specs.List.{list_any};
 ghost use Rattle.pathspec_glob.specs.Bytes.{first_is, is_wildcard, star};
 ghost use Rattle.pathspec_glob.specs.ByteSets.{listed_tokens};
-ghost use Rattle.pathspec_glob.specs.GlobParts.{behind_head, head_of, plain_tokens};
-ghost use Rattle.pathspec_glob.specs.GlobWays.{IsFormOf};
+ghost use Rattle.pathspec_glob.specs.GlobParts.{behind_head, head_of};
 ghost use Rattle.pathspec_glob.specs.Globs.{glob_tokens, is_tail_pattern, AnswersGlob, AnswersTail, GlobIsRelation};
 ghost use Rattle.pathspec_glob.specs.Counts.{Counts};
 
-use crate::counted::CountedFirst;
 use crate::ends::End;
 use crate::middle::Middle;
 use crate::scratch::Scratch;
 use crate::source::Source;
 use crate::tokens::Tokens;
-use crate::{Case, Mode, first_wildcard, reading};
+use crate::{Case, Mode, first_wildcard};
 use std::alloc::{AllocError, Global};
 use std::fmt;
 use std::marker::Model;
@@ -22,7 +20,7 @@ use std::marker::Model;
 /// A compiled glob (git's wildmatch).
 #[derive(Drop)]
 pub struct Glob {
-    /// In a box, so that a glob is moved and dropped as one.
+    /// The pattern and its tokens, in a box, so that a glob is moved and dropped as one.
     parts: Box<Parts>,
 }
 
@@ -30,11 +28,11 @@ pub struct Glob {
 #[derive(Drop)]
 struct Parts {
     source: Source,
-    /// The tokens before the first that takes any number of bytes.
+    /// Tokens before the first star, each of which takes one byte.
     head: End,
-    /// Those up to the last that does, with a slash that this one may stand for nothing with.
+    /// Tokens from the first star to the last. A `/` after a final `**` belongs here, since `**/` may match nothing.
     middle: Middle,
-    /// Those behind.
+    /// Tokens behind the last star.
     tail: End,
 }
 
@@ -64,8 +62,8 @@ impl fmt::Debug for Glob {
 }
 
 impl Glob {
-    /// The glob of a pattern. Every byte string is one. The cost is linear in the pattern, and so is the memory. Up to 63 tokens
-    /// for one byte between head and tail may be tested on every byte here, for a table of 4 kB.
+    /// Compiles a pattern, which any byte string is. The cost and the memory are linear in it. Up to 63 tokens for one byte
+    /// between head and tail may be tested on every byte here, for a table of 4 kB.
     ///
     /// # Errors
     /// Memory runs out.
@@ -77,7 +75,7 @@ impl Glob {
         })
     }
 
-    /// How many tokens it has, which are at most the pattern's bytes.
+    /// The count of tokens: at most one for each byte of the pattern.
     pub fn tokens(&self) -> usize
         ensures tokens { result ≡ length (glob_tokens self.now) }
         ensures few { result ≤ length self.now.pattern }
@@ -86,21 +84,23 @@ impl Glob {
         parts.head.len() + parts.middle.len() + parts.tail.len()
     }
 
-    /// Whether the scratch was made for at least as many tokens.
+    /// Whether the scratch was made for at least as many tokens as the glob has.
     pub fn fits(&self, scratch: &Scratch) -> bool
         ensures { IsTrue result ↔ (length (glob_tokens self.now) ≤ scratch.now.tokens) }
     {
-        self.tokens() <= scratch.places.room()
+        self.tokens() <= scratch.states.room()
     }
 
-    /// Whether the whole text matches. It takes no memory. The tokens after the last star are tested on the text's end, one a
-    /// byte, and those before the first star on its front, all at once where they are bytes of the pattern. Then it keeps
-    /// the set of places in the others that the front of the rest leads to. So it takes at most (pattern bytes + 1) ×
-    /// (text bytes + 1) steps.
+    /// Whether the glob matches the whole text.
     ///
-    /// A true answer counts as many steps as the text has bytes, at least; for `*rest` without a wildcard in `rest`, as
-    /// `rest` has, and any answer to such a pattern counts at most as many as the text has. To it the answer is whether the
-    /// text ends with `rest`, where the mode is [`Mode::Shell`] or the text has no `/`.
+    /// The call takes no memory. It tests the tokens behind the last star on the text's end, one a byte, and those before the
+    /// first on its front. Then it keeps the set of places in the other tokens that the front of the rest leads to. So it
+    /// takes at most (pattern bytes + 1) × (text bytes + 1) steps. A true answer counts at least as many steps as the text has
+    /// bytes.
+    ///
+    /// For `*rest`, without a wildcard in `rest`, a true answer counts at least a step for each byte of `rest`. Any answer
+    /// counts at most one for each byte of the text. It is whether the text ends with `rest`, in [`Mode::Shell`] or where the
+    /// text has no `/`.
     pub fn matches(&self, text: &[u8], case: Case, scratch: &mut Scratch) -> bool
         requires { length (glob_tokens self.now) ≤ scratch.old.tokens }
         ensures answer { AnswersGlob self.now.mode case self.now.pattern text.now
@@ -114,7 +114,7 @@ impl Glob {
         ensures room { scratch.new.tokens ≡ scratch.old.tokens }
     {
         let parts = &*self.parts;
-        let places = &mut scratch.places;
+        let states = &mut scratch.states;
         let steps = &mut scratch.steps;
         steps.begin();
         let Some(before) = parts.tail.before_end(text, case, steps) else {
@@ -123,39 +123,18 @@ impl Glob {
         let Some(between) = parts.head.behind_front(before, case, steps) else {
             return false;
         };
-        parts.middle.matches(between, case, places, steps)
+        parts.middle.matches(between, case, states, steps)
     }
 }
 
 impl Parts {
     ghost use Rattle.pathspec_glob.specs.GlobParts.{IsParted};
 
-    /// The parts of a pattern.
+    /// Reads a pattern into tokens, and cuts them into its parts.
     ///
     /// # Errors
     /// Memory runs out.
     fn of_pattern(alloc: Global, pattern: &[u8], mode: Mode) -> Result<Parts, AllocError>
-        ensures mode { IfOk result (λ parts. parts.head.mode ≡ mode) }
-        ensures pattern { IfOk result (λ parts. parts.source.pattern ≡ pattern.now) }
-        ensures parted { IfOk result (λ parts.
-            IsParted mode pattern.now parts.head parts.middle parts.tail) }
-    {
-        match split_plain(pattern, mode) {
-            Some(PlainParts { head, first, tail }) => Ok(Parts {
-                source: Source::of(pattern),
-                head: End::of_bytes(alloc, head, mode)?,
-                middle: Middle::of_first(first),
-                tail: End::of_bytes(alloc, tail, mode)?,
-            }),
-            None => Parts::of_tokens(alloc, pattern, mode),
-        }
-    }
-
-    /// The parts of a pattern, by its tokens.
-    ///
-    /// # Errors
-    /// Memory runs out.
-    fn of_tokens(alloc: Global, pattern: &[u8], mode: Mode) -> Result<Parts, AllocError>
         ensures mode { IfOk result (λ parts. parts.head.mode ≡ mode) }
         ensures pattern { IfOk result (λ parts. parts.source.pattern ≡ pattern.now) }
         ensures parted { IfOk result (λ parts.
@@ -173,29 +152,8 @@ impl Parts {
     }
 }
 
-/// The parts of a pattern whose head and tail are bytes without a wildcard, where the tokens between them match just what the
-/// first of them takes. In `src/**/*.c` they are `src/`, the deep `**/` and `.c`.
-struct PlainParts<'p> {
-    head: &'p [u8],
-    first: CountedFirst,
-    tail: &'p [u8],
-}
-
-/// The parts of a pattern that are read off its bytes, with no token made, as those of `src/**/*.c`.
-fn split_plain(pattern: &[u8], mode: Mode) -> Option<PlainParts<'_>>
-    ensures head { IfSome result (λ parts.
-        plain_tokens parts.head.now ≡ head_of (listed_tokens mode pattern.now)) }
-    ensures mode { IfSome result (λ parts. parts.first.mode ≡ mode) }
-    ensures form { IfSome result (λ parts. IsFormOf mode parts.first.tokens parts.tail.now
-        (behind_head (listed_tokens mode pattern.now))) }
-{
-    let (head, rest) = split_at_star(pattern)?;
-    let (first, tail) = reading::first_and_tail(head, rest, mode)?;
-    Some(PlainParts { head, first, tail })
-}
-
-/// The head of a pattern, and the tokens behind it. Where no other wildcard byte stands before the first star, the bytes
-/// before it are kept as they stand, and aren't read as tokens.
+/// Splits a pattern into its head and the tokens behind it. Where the first wildcard byte is a star, the bytes before it are
+/// kept as they stand, and aren't read as tokens.
 ///
 /// # Errors
 /// Memory runs out.
@@ -214,7 +172,7 @@ fn split_head(alloc: Global, pattern: &[u8], mode: Mode) -> Result<(End, Tokens)
     }
 }
 
-/// What stands before the first wildcard byte of a pattern, and the rest, where that byte is a star.
+/// The pattern before its first wildcard byte, and the rest, if that byte is a star.
 fn split_at_star(pattern: &[u8]) -> Option<(&[u8], &[u8])>
     ensures plain { IfSome result (λ parts. IsFalse (list_any is_wildcard parts.0.now)) }
     ensures wide { IfSome result (λ parts. IsTrue (first_is (λ b. b == star) parts.1.now)) }
@@ -227,7 +185,7 @@ fn split_at_star(pattern: &[u8]) -> Option<(&[u8], &[u8])>
     }
 }
 
-/// The head of these tokens, and those behind it.
+/// Splits tokens into their head and those behind it.
 ///
 /// # Errors
 /// Memory runs out.

@@ -1,49 +1,49 @@
-//! What stands between the head and the tail of a glob, and the sets of places that it is matched by.
+//! The tokens between the head and the tail of a glob, matched by a lone star, in one word, or in bit vectors.
 ghost use Rattle.std.specs.Prelude.{◌≡◌, ◌≤◌, ◌<◌, ◌+◌, ◌*◌, ◌^◌, [], ◌∷◌, ◌++◌, false, length, true, IfOk, IsTrue};
 ghost use Rattle.pathspec_glob.specs.Bytes.{slash};
 ghost use Rattle.pathspec_glob.specs.Counts.{KeepsCount};
 ghost use Rattle.pathspec_glob.specs.GlobRelation.{matches};
 ghost use Rattle.pathspec_glob.specs.GlobCells.{alternates_behind};
 ghost use Rattle.pathspec_glob.specs.GlobParts.{first_token_takes, first_token_tests};
-ghost use Rattle.pathspec_glob.specs.GlobPlaces.{HasRoom, KeepsRoom};
+ghost use Rattle.pathspec_glob.specs.StateSets.{HasRoom, KeepsRoom};
 ghost use Rattle.pathspec_glob.specs.GlobSteps.{is_wide_at};
-ghost use Rattle.pathspec_glob.specs.GlobWays.{GoesByFirst};
+ghost use Rattle.pathspec_glob.specs.Matchers.{IsLoneStar};
 
 use crate::Case;
-use crate::counted::{CountedFirst, CountedTokens, Tests};
-use crate::places::Places;
-use crate::places::moves::EmptyMoves;
+use crate::counted::{CountedStar, CountedTokens, Tests};
 use crate::scratch::Steps;
+use crate::state_set::StateSet;
+use crate::state_set::moves::EmptyMoves;
 use crate::tokens::Tokens;
-use crate::tokens::word::{Answer, Word};
+use crate::tokens::word::{Answer, WordAutomaton};
 use std::alloc::{AllocError, Global};
 use std::marker::Model;
 
 /// The tokens between the head and the tail of a glob.
 #[derive(Drop)]
 pub struct Middle {
-    way: Way,
+    matcher: Matcher,
 }
 
-/// Tokens, and what they are matched by.
+/// A form of the tokens that matches them.
 #[derive(Drop)]
-enum Way {
-    /// The first token alone, which takes the same texts.
-    First(CountedFirst),
-    /// Sets of places in one word. Few globs have them, and they are large, so they lie in a box.
+enum Matcher {
+    /// A star alone.
+    LoneStar(CountedStar),
+    /// An automaton whose sets of states are one word. Few globs have one, and it is large, so it lies in a box.
     Word(Box<ByWord>),
-    /// Sets of places in bit vectors, in a box too.
+    /// Sets of states in bit vectors, in a box too.
     Sets(Box<BySets>),
 }
 
-/// Tokens as a word.
+/// Tokens and their automaton in one word.
 #[derive(Drop)]
 struct ByWord {
     tokens: CountedTokens,
-    word: Word,
+    word: WordAutomaton,
 }
 
-/// Tokens and the moves between their places.
+/// Tokens and the moves between their states.
 #[derive(Drop)]
 struct BySets {
     tokens: CountedTokens,
@@ -52,17 +52,17 @@ struct BySets {
 
 impl Model for Middle {
     ghost use Rattle.pathspec_glob.specs.GlobSteps.{TokenList};
-    ghost use Rattle.pathspec_glob.specs.GlobWays.{IsWayOf, way_view};
+    ghost use Rattle.pathspec_glob.specs.Matchers.{IsMatcherOf, matcher_view};
 
     ghost Value = { TokenList };
 
-    ghost view = { λ m. way_view m.way };
+    ghost view = { λ m. matcher_view m.matcher };
 
-    ghost invariant = { λ m. IsWayOf (way_view m.way) m.way };
+    ghost invariant = { λ m. IsMatcherOf (matcher_view m.matcher) m.matcher };
 }
 
 impl Middle {
-    /// These tokens. The cost is linear in them, and so is the memory.
+    /// Compiles tokens. The cost and the memory are linear in them.
     ///
     /// # Errors
     /// Memory runs out.
@@ -71,24 +71,14 @@ impl Middle {
         ensures { IfOk result (λ middle. middle ≡ tokens) }
     {
         Ok(Middle {
-            way: match tokens.as_first() {
-                Some(first) => Way::First(first),
-                None => Way::of_tokens(alloc, tokens)?,
+            matcher: match tokens.as_lone_star() {
+                Some(first) => Matcher::LoneStar(first),
+                None => Matcher::of_tokens(alloc, tokens)?,
             },
         })
     }
 
-    /// Tokens that match just what the first of them takes.
-    pub fn of_first(first: CountedFirst) -> Middle
-        requires { GoesByFirst first }
-        ensures { result ≡ first }
-    {
-        Middle {
-            way: Way::First(first),
-        }
-    }
-
-    /// These tokens by bit vectors, whatever they are: nothing is asked of each byte.
+    /// Compiles any tokens for bit vectors, and tests none of them.
     ///
     /// # Errors
     /// Memory runs out.
@@ -96,53 +86,52 @@ impl Middle {
         ensures { IfOk result (λ middle. middle ≡ tokens) }
     {
         Ok(Middle {
-            way: Way::by_sets(alloc, tokens)?,
+            matcher: Matcher::by_sets(alloc, tokens)?,
         })
     }
 
-    /// How many tokens they are.
+    /// The count of tokens.
     pub fn len(&self) -> usize
         ensures { result ≡ length self.now.tokens }
     {
-        match &self.way {
-            Way::First(tokens) => tokens.len(),
-            Way::Word(own) => own.tokens.len(),
-            Way::Sets(own) => own.tokens.len(),
+        match &self.matcher {
+            Matcher::LoneStar(tokens) => tokens.len(),
+            Matcher::Word(own) => own.tokens.len(),
+            Matcher::Sets(own) => own.tokens.len(),
         }
     }
 
-    /// Whether the tokens match the whole of a text, by what they were made into: the first alone, sets of places in one word,
-    /// or sets in bit vectors. The answer and the bounds are the same by each. It takes no memory.
+    /// Whether the tokens match the whole text. The answer and the bounds are those of any matcher. Takes no memory.
     #[inline(always)]
-    pub fn matches(&self, text: &[u8], case: Case, places: &mut Places, steps: &mut Steps) -> bool
-        requires room { HasRoom (length self.now.tokens) places.old }
+    pub fn matches(&self, text: &[u8], case: Case, states: &mut StateSet, steps: &mut Steps) -> bool
+        requires room { HasRoom (length self.now.tokens) states.old }
         requires steps { steps.old.last + length self.now.tokens * length text.now < 2 ^ 128 }
         ensures answer { result ≡ matches self.now.mode case self.now.tokens text.now }
         ensures most { steps.new.last ≤ steps.old.last + length self.now.tokens * length text.now }
         ensures least { IsTrue result → steps.old.last + length text.now ≤ steps.new.last }
         ensures counted { KeepsCount steps.old steps.new }
-        ensures room { KeepsRoom places.old places.new }
+        ensures room { KeepsRoom states.old states.new }
     {
-        match &self.way {
-            Way::First(tokens) => test_first(tokens, text, steps),
-            Way::Word(own) => {
+        match &self.matcher {
+            Matcher::LoneStar(tokens) => test_star(tokens, text, steps),
+            Matcher::Word(own) => {
                 let Answer { accepted, tests } = own.word.run(text, case);
                 steps.add(tests);
                 accepted
             }
-            Way::Sets(own) => places.run(&own.tokens, &own.moves, text, case, steps),
+            Matcher::Sets(own) => states.run(&own.tokens, &own.moves, text, case, steps),
         }
     }
 
-    /// Whether the tokens match a directory's path with a slash behind it, in the same way. It takes no memory.
+    /// Whether the tokens match a directory's path and a slash. Takes no memory.
     pub fn matches_directory(
         &self,
         directory: &[u8],
         case: Case,
-        places: &mut Places,
+        states: &mut StateSet,
         steps: &mut Steps,
     ) -> bool
-        requires room { HasRoom (length self.now.tokens) places.old }
+        requires room { HasRoom (length self.now.tokens) states.old }
         requires steps { steps.old.last + length self.now.tokens * (length directory.now + 1)
             < 2 ^ 128 }
         ensures answer { result
@@ -152,64 +141,63 @@ impl Middle {
         ensures least { IsTrue result
             → steps.old.last + (length directory.now + 1) ≤ steps.new.last }
         ensures counted { KeepsCount steps.old steps.new }
-        ensures room { KeepsRoom places.old places.new }
+        ensures room { KeepsRoom states.old states.new }
     {
-        match &self.way {
-            Way::First(tokens) => {
-                test_first(tokens, directory, steps) && test_first(tokens, b"/", steps)
+        match &self.matcher {
+            Matcher::LoneStar(tokens) => {
+                test_star(tokens, directory, steps) && test_star(tokens, b"/", steps)
             }
-            Way::Word(own) => {
+            Matcher::Word(own) => {
                 let Answer { accepted, tests } = own.word.run_directory(directory, case);
                 steps.add(tests);
                 accepted
             }
-            Way::Sets(own) => {
-                places.run_directory(&own.tokens, &own.moves, directory, case, steps)
+            Matcher::Sets(own) => {
+                states.run_directory(&own.tokens, &own.moves, directory, case, steps)
             }
         }
     }
 }
 
-impl Way {
-    ghost use Rattle.pathspec_glob.specs.GlobWays.{IsWayOf, way_view};
+impl Matcher {
+    ghost use Rattle.pathspec_glob.specs.Matchers.{IsMatcherOf, matcher_view};
 
-    /// Tokens in one word, or in bit vectors where they don't fit it. No clause says which: what holds of one holds of the other.
+    /// Compiles tokens for one word, or for bit vectors where they don't fit it. No clause says which: both answer alike.
     ///
     /// # Errors
     /// Memory runs out.
-    fn of_tokens(alloc: Global, mut tokens: Tokens) -> Result<Way, AllocError>
+    fn of_tokens(alloc: Global, mut tokens: Tokens) -> Result<Matcher, AllocError>
         requires { alternates_behind false tokens.tokens ≡ true }
-        ensures view { IfOk result (λ way. way_view way ≡ tokens) }
-        ensures way { IfOk result (λ way. IsWayOf tokens way) }
+        ensures view { IfOk result (λ matcher. matcher_view matcher ≡ tokens) }
+        ensures matcher { IfOk result (λ matcher. IsMatcherOf tokens matcher) }
     {
         // The list has room for a token a byte of the pattern; `split_off` makes one that is just as long as it has to be.
         let own = tokens.split_off(0)?;
-        match Word::of_tokens(alloc, &own)? {
+        match WordAutomaton::of_tokens(alloc, &own)? {
             Some(word) => {
                 let tokens = own.counted();
-                Ok(Way::Word(Box::new(alloc, ByWord { tokens, word })?))
+                Ok(Matcher::Word(Box::new(alloc, ByWord { tokens, word })?))
             }
-            None => Way::by_sets(alloc, own),
+            None => Matcher::by_sets(alloc, own),
         }
     }
 
-    /// Tokens in bit vectors.
+    /// Compiles tokens for bit vectors.
     ///
     /// # Errors
     /// Memory runs out.
-    fn by_sets(alloc: Global, tokens: Tokens) -> Result<Way, AllocError>
-        ensures view { IfOk result (λ way. way_view way ≡ tokens) }
-        ensures way { IfOk result (λ way. IsWayOf tokens way) }
+    fn by_sets(alloc: Global, tokens: Tokens) -> Result<Matcher, AllocError>
+        ensures view { IfOk result (λ matcher. matcher_view matcher ≡ tokens) }
+        ensures matcher { IfOk result (λ matcher. IsMatcherOf tokens matcher) }
     {
         let moves = EmptyMoves::of_tokens(alloc, &tokens)?;
         let tokens = tokens.counted();
-        Ok(Way::Sets(Box::new(alloc, BySets { tokens, moves })?))
+        Ok(Matcher::Sets(Box::new(alloc, BySets { tokens, moves })?))
     }
 }
 
-/// Tests the first token, which takes any number of bytes, on the bytes of a text up to one that it doesn't take, each
-/// of which is counted as one step: whether it takes them all.
-fn test_first(tokens: &CountedFirst, text: &[u8], steps: &mut Steps) -> bool
+/// Whether a lone star takes all bytes of a text. Each is tested, as one step, up to one that the star doesn't take.
+fn test_star(tokens: &CountedStar, text: &[u8], steps: &mut Steps) -> bool
     requires wide { IsTrue (is_wide_at tokens.now.tokens) }
     requires room { steps.old.last + length text.now < 2 ^ 128 }
     ensures answer { result ≡ first_token_takes tokens.now.tokens text.now }

@@ -8,14 +8,12 @@ ghost use Rattle.pathspec_glob.specs.Tokens.{escaped_piece, bracket_piece, EndsP
 ghost use Rattle.pathspec_glob.specs.ByteSets.{listed, listed_piece, listed_tokens, ReadsOn};
 ghost use Rattle.pathspec_glob.specs.GlobParts.{behind_head};
 ghost use Rattle.pathspec_glob.specs.Tokens.Token.{One, Deep};
-ghost use Rattle.pathspec_glob.specs.GlobForms.{form_view, one_byte_view, token_view, tokens_view, piece_view};
-ghost use Rattle.pathspec_glob.specs.GlobWays.{IsFormOf};
+ghost use Rattle.pathspec_glob.specs.GlobForms.{one_byte_view, token_view, tokens_view, piece_view};
 
-use crate::counted::CountedFirst;
 use crate::sets::ByteSet;
-use crate::tokens::{FirstForm, OneByte, Token};
+use crate::tokens::{OneByte, Token};
 use crate::wildcards::is_wildcard;
-use crate::{Mode, brackets, first_wildcard};
+use crate::{Mode, brackets};
 use std::alloc::{AllocError, Global};
 
 /// A token at the front of a pattern, and how many bytes of the pattern it takes.
@@ -25,10 +23,8 @@ struct Piece {
     size: usize,
 }
 
-/// The tokens of a pattern, from left to right. Where a last backslash or a bracket that can't be read makes a dead
-/// token, it is the last.
-///
-/// The cost is linear in the pattern.
+/// Reads the tokens of a pattern, from left to right. A last backslash, or a bracket that can't be read, makes a dead token,
+/// which takes no byte and is the last. The cost is linear in the pattern.
 ///
 /// # Errors
 /// Memory runs out.
@@ -38,8 +34,8 @@ pub fn tokens(alloc: Global, pattern: &[u8], mode: Mode) -> Result<Vec<Token>, A
     tokens_from(alloc, mode, true, pattern)
 }
 
-/// The tokens of a pattern behind its head, where that is bytes without a wildcard, and the rest begins with a star. The
-/// cost is linear in the rest.
+/// Reads the tokens of a pattern behind its head, which has no wildcard byte. The rest begins with a star, and the cost is
+/// linear in it.
 ///
 /// # Errors
 /// Memory runs out.
@@ -57,68 +53,14 @@ pub fn behind_head(
     tokens_from(alloc, mode, is_after_slash(head), rest)
 }
 
-/// What stands between head and tail of a pattern, and the tail's bytes: where it is a star or deep alone, or `**/*`, and the
-/// tail has no wildcard. The head has none either, and the rest behind it begins with a star. No token is made: it takes no
-/// memory, and the cost is linear in the rest.
-pub fn first_and_tail<'p>(
-    head: &[u8],
-    rest: &'p [u8],
-    mode: Mode,
-) -> Option<(CountedFirst, &'p [u8])>
-    requires plain { IsFalse (list_any is_wildcard head.now) }
-    requires wide { IsTrue (first_is (λ b. b == star) rest.now) }
-    ensures mode { IfSome result (λ parts. parts.0.mode ≡ mode) }
-    ensures form { IfSome result (λ parts. IsFormOf mode parts.0.tokens parts.1.now
-        (behind_head (listed_tokens mode (head.now ++ rest.now)))) }
-{
-    let stars = count_stars(rest);
-    let (form, tail) = form_and_tail(mode, is_after_slash(head), stars, &rest[stars..])?;
-    match first_wildcard(tail) {
-        Some(_) => None,
-        None => Some((CountedFirst::new(mode, form), tail)),
-    }
-}
-
-/// The form that a run of stars and what follows it begin with, and the rest, which is the tail where it has no wildcard.
-fn form_and_tail(
-    mode: Mode,
-    after_slash: bool,
-    stars: usize,
-    behind: &[u8],
-) -> Option<(FirstForm, &[u8])>
-    ensures { IfSome result (λ parts. IsFalse (list_any is_wildcard parts.1.now)
-        → IsFormOf mode (form_view parts.0) parts.1.now
-        (run_token mode after_slash stars behind.now
-        ∷ map listed (tokens_from mode 0 false behind.now))) }
-{
-    match mode {
-        Mode::Shell => Some((FirstForm::Deep, behind)),
-        Mode::PathAware if is_deep(after_slash, stars, behind) => deep_and_tail(behind),
-        Mode::PathAware => Some((FirstForm::Star, behind)),
-    }
-}
-
-/// The same of a run that takes directories: `**` at the pattern's end, or `**/*`.
-fn deep_and_tail(behind: &[u8]) -> Option<(FirstForm, &[u8])>
-    ensures { IfSome result (λ parts. IsFalse (list_any is_wildcard parts.1.now)
-        → IsFormOf PathAware (form_view parts.0) parts.1.now
-        (Deep ∷ map listed (tokens_from PathAware 0 false behind.now))) }
-{
-    match behind {
-        [] => Some((FirstForm::Deep, behind)),
-        [b'/', b'*', tail @ ..] => Some((FirstForm::DeepSlashStar, tail)),
-        _ => None,
-    }
-}
-
-/// Whether what follows this front of a pattern stands after a slash or begins the whole.
+/// Whether the pattern behind a front stands after a slash, or begins the whole.
 fn is_after_slash(front: &[u8]) -> bool
     ensures { result ≡ (is_empty front.now || ends_with nat_eq front.now (codes "/")) }
 {
     front.is_empty() || front.ends_with(b"/")
 }
 
-/// The tokens of the rest of a pattern, which begins the whole or stands after a slash, or does neither.
+/// Reads the remaining pattern. `after_slash` says whether a leading `**` may take directories.
 ///
 /// # Errors
 /// Memory runs out.
@@ -140,8 +82,8 @@ fn tokens_from(
     Ok(all)
 }
 
-/// Adds what stands at the front of a pattern of this byte and this rest, which begins the whole or stands after a
-/// slash, or does neither. It gives how many bytes that takes, and all of them where it is dead.
+/// Adds the first token of the pattern `byte` and `rest`, and gives how many bytes of it the token takes. A dead token takes
+/// them all. `after_slash` says whether a leading `**` may take directories.
 ///
 /// # Errors
 /// Memory runs out.
@@ -170,7 +112,7 @@ fn push_front(
 }
 
 // Out of line, since most bytes of patterns stand for themselves.
-/// The same of a `?`, `[` or backslash.
+/// Adds the token of a `?`, `[` or backslash, and gives how many bytes of the pattern it takes. A dead token takes them all.
 ///
 /// # Errors
 /// Memory runs out.
@@ -192,7 +134,7 @@ fn push_single(
     Ok(if ends { rest.len() + 1 } else { size })
 }
 
-/// Whether a token is dead, so that what stands after it doesn't count.
+/// Whether a token is dead, so that the pattern behind it doesn't count.
 fn is_dead(token: &Token) -> bool
     ensures last { IsTrue result → EndsPattern (token_view token.now) }
     ensures more { IsFalse result → StandsBefore (token_view token.now) }
@@ -200,7 +142,7 @@ fn is_dead(token: &Token) -> bool
     matches!(token, Token::One(OneByte::Dead))
 }
 
-/// What stands at the front of a pattern of this rest and a `?`, `[` or backslash before it.
+/// The token of a `?`, `[` or backslash, with `rest` behind it, and its size.
 fn single_piece(alloc: Global, byte: u8, rest: &[u8]) -> Result<Piece, AllocError>
     requires { IsTrue (is_one_of (codes "?[\\") byte) }
     ensures { (mode : Mode) (after_slash : Bool) → IfOk result (λ piece. piece_view piece
@@ -213,7 +155,7 @@ fn single_piece(alloc: Global, byte: u8, rest: &[u8]) -> Result<Piece, AllocErro
     })
 }
 
-/// What a single byte of a pattern says.
+/// The piece that a single byte of a pattern is.
 fn single_byte(single: OneByte) -> Piece
     ensures { piece_view result ≡ record { token = One (one_byte_view single); size = 1 } }
 {
@@ -223,7 +165,7 @@ fn single_byte(single: OneByte) -> Piece
     }
 }
 
-/// The byte that a backslash quotes. A last backslash is dead.
+/// The piece of a backslash and the byte that it quotes. A last backslash is dead.
 fn escaped_piece(rest: &[u8]) -> Piece
     ensures { piece_view result ≡ listed_piece (escaped_piece rest.now) }
 {
@@ -236,7 +178,7 @@ fn escaped_piece(rest: &[u8]) -> Piece
     }
 }
 
-/// The bracket whose `[` stands before this rest: one `!` or `^` negates it. One that can't be read is dead.
+/// The piece of the bracket whose `[` stands before `rest`. One `!` or `^` negates it. A bracket that can't be read is dead.
 fn bracket_piece(alloc: Global, rest: &[u8]) -> Result<Piece, AllocError>
     ensures { IfOk result (λ piece. piece_view piece ≡ listed_piece (bracket_piece rest.now)) }
 {
@@ -258,7 +200,7 @@ fn is_negated(bytes: &[u8]) -> bool
     matches!(bytes, [b'!' | b'^', ..])
 }
 
-/// How many stars stand in front.
+/// The count of stars at the front of a text.
 fn count_stars(text: &[u8]) -> usize
     ensures count { result ≡ prefix_len (λ c. c == star) text.now }
     ensures within { result ≤ length text.now }
@@ -266,7 +208,7 @@ fn count_stars(text: &[u8]) -> usize
     text.iter().take_while(|byte| **byte == b'*').count()
 }
 
-/// The token of a run of stars before this rest.
+/// The token of a run of stars, with `rest` behind it.
 fn run_token(mode: Mode, after_slash: bool, stars: usize, rest: &[u8]) -> Token
     ensures { token_view result ≡ run_token mode after_slash stars rest.now }
 {
@@ -277,8 +219,8 @@ fn run_token(mode: Mode, after_slash: bool, stars: usize, rest: &[u8]) -> Token
     }
 }
 
-/// Whether a run of stars takes directories: it has two or more, at the pattern's start or after a slash, and stands
-/// before the end or a slash, which may be quoted.
+/// Whether a run of stars takes directories. It has two or more, at the pattern's start or after a slash. Behind it the
+/// pattern ends, or a slash stands, which may be quoted.
 fn is_deep(after_slash: bool, stars: usize, rest: &[u8]) -> bool
     ensures { result ≡ is_deep after_slash stars rest.now }
 {

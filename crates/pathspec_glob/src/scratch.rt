@@ -4,30 +4,30 @@ ghost use Rattle.pathspec_glob.specs.Counts.{BeginsAnew, HasNoSteps, KeepsCount}
 ghost use Rattle.pathspec_glob.specs.Globs.{room_for};
 
 use crate::counted::Tests;
-use crate::places::Places;
+use crate::state_set::StateSet;
 use std::alloc::{AllocError, Global};
 use std::fmt;
 use std::marker::Model;
 
-/// What tests are given to. Only the count of a scratch has one, so no test goes to another count.
+/// The key that counts of tests are spent with. Only the count of a scratch has one, so no test goes to another count.
 #[derive(Drop)]
 pub struct Key {
     own: (),
 }
 
-/// How many steps were taken. A step is one token tested at one position of a text: only such tests raise a count, and
-/// only a scratch has one.
+/// Counts of steps. A step is one token tested at one position of a text. Only tests raise a count, and only a scratch has
+/// one.
 #[derive(Drop)]
 pub struct Steps {
-    /// In the last match.
+    /// Steps of the last match.
     last: u128,
-    /// In all matches together, modulo 2^128.
+    /// Steps of all matches together, modulo 2^128.
     total: u128,
     key: Key,
 }
 
 impl Steps {
-    /// No step yet.
+    /// Makes counts of no steps.
     fn none() -> Steps
         ensures { HasNoSteps result }
     {
@@ -38,7 +38,7 @@ impl Steps {
         }
     }
 
-    /// Begins the count of a match, and lets that of all matches go on.
+    /// Sets the count of the last match to 0. The total stays.
     pub fn begin(&mut self)
         ensures { BeginsAnew self.old self.new }
     {
@@ -60,36 +60,36 @@ impl Steps {
     }
 }
 
-/// The room that a match works in.
+/// The room that a match works in, with the counts of its steps.
 #[derive(Drop)]
 pub struct Scratch {
-    pub(crate) places: Places,
+    pub(crate) states: StateSet,
     pub(crate) steps: Steps,
 }
 
 impl Model for Scratch {
     ghost use Rattle.std.specs.Prelude.{◌≡◌};
-    ghost use Rattle.pathspec_glob.specs.GlobPlaces.{IsPaired};
+    ghost use Rattle.pathspec_glob.specs.StateSets.{IsPaired};
     ghost use Rattle.pathspec_glob.specs.Globs.{Room, room_of};
 
     ghost Value = { Room };
 
-    ghost view = { λ s. room_of s.places s.steps };
+    ghost view = { λ s. room_of s.states s.steps };
 
-    ghost invariant = { λ s. IsPaired s.places };
+    ghost invariant = { λ s. IsPaired s.states };
 }
 
 impl fmt::Debug for Scratch {
     fn fmt<W: fmt::Write>(&self, f: &mut fmt::Formatter<W>) -> fmt::Result {
         f.debug_struct("Scratch")
-            .field("tokens", &self.places.room())
+            .field("tokens", &self.states.room())
             .field("last_steps", &self.steps.last)
             .finish()
     }
 }
 
 impl Scratch {
-    /// Room for globs of at most so many tokens.
+    /// Makes room for globs of at most `tokens` tokens.
     ///
     /// # Errors
     /// Memory runs out.
@@ -97,20 +97,19 @@ impl Scratch {
         ensures { IfOk result (λ scratch. scratch ≡ room_for tokens) }
     {
         Ok(Scratch {
-            places: Places::for_tokens(alloc, tokens)?,
+            states: StateSet::for_tokens(alloc, tokens)?,
             steps: Steps::none(),
         })
     }
 
-    /// How many steps the last match took, and 0 before the first. A step is one token tested at one position of the
-    /// text.
+    /// The count of steps of the last match; 0 before the first. A step is one token tested at one position of the text.
     pub fn last_steps(&self) -> u128
         ensures { result ≡ self.now.steps }
     {
         self.steps.last
     }
 
-    /// How many steps all its matches together took, modulo 2^128.
+    /// The count of steps of all matches together, modulo 2^128.
     pub fn total_steps(&self) -> u128
         ensures { result ≡ self.now.total_steps }
     {

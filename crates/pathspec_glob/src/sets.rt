@@ -1,4 +1,4 @@
-//! Sets of bytes, as which brackets are compiled.
+//! Sets of bytes, into which brackets are compiled.
 ghost use Rattle.std.specs.Prelude.{◌≡◌, ◌<◌, ◌==◌, ◌||◌, ℕ};
 ghost use Rattle.pathspec_glob.specs.GlobForms.{item_view, items_view};
 ghost use Rattle.pathspec_glob.specs.GlobRelation.{bracket_holds, item_holds, items_hold};
@@ -16,7 +16,7 @@ pub struct ByteSet {
 }
 
 impl ByteSet {
-    /// The bytes that items hold. The cost is linear in the items: each adds at most 256 bytes.
+    /// Makes the set of the bytes that items hold. The cost is linear in the items: each adds at most 256 bytes.
     pub fn of_items(items: &[Item]) -> ByteSet
         ensures { (b : ℕ) → b < 256
             → words_hold result.words b ≡ items_hold (items_view items.now) b }
@@ -71,7 +71,7 @@ impl ByteSet {
         self.words[index] = with_bit(self.words[index], (byte % 64) as usize, true);
     }
 
-    /// Whether it holds the byte; without case, its lower or its upper form.
+    /// Whether the set holds the byte, or without case its lower or its upper form.
     pub fn holds(&self, case: Case, byte: u8) -> bool
         ensures { result ≡ bracket_holds case (literals (words_hold self.now.words)) byte }
     {
@@ -82,7 +82,7 @@ impl ByteSet {
         }
     }
 
-    /// Whether it holds the byte.
+    /// Whether the set holds the byte.
     fn has(&self, byte: u8) -> bool
         ensures { result ≡ words_hold self.now.words byte }
     {

@@ -1,4 +1,4 @@
-//! What a glob was compiled from, which only clauses see.
+//! The pattern that a glob was compiled from, which only clauses see.
 ghost use Rattle.std.specs.Prelude.{◌≡◌, ℕ, List};
 ghost use Rattle.std.specs.Borrow.{ftrue};
 
@@ -20,7 +20,7 @@ unsafe impl Send for Source {}
 unsafe impl Sync for Source {}
 
 impl Source {
-    /// The source that clauses see as this pattern. It takes no memory, and reads no byte.
+    /// Makes the source that clauses see as the given pattern. It takes no memory, and reads no byte.
     pub(crate) fn of(_pattern: &[u8]) -> Source
         ensures { result.pattern ≡ _pattern.now }
     {

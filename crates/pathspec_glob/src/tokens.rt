@@ -8,29 +8,29 @@ ghost use Rattle.pathspec_glob.specs.GlobSteps.{is_wide, is_wide_at, may_pass_ov
 ghost use Rattle.pathspec_glob.specs.OpenEnds.{is_any_run, is_open};
 ghost use Rattle.pathspec_glob.specs.ByteSets.{listed_tokens, listed_token_list};
 ghost use Rattle.pathspec_glob.specs.GlobParts.{plain_tokens, behind_head, head_size, takes_each, tests_each, wide_size, first_token_takes, first_token_tests};
-ghost use Rattle.pathspec_glob.specs.GlobWays.{GoesByFirst};
+ghost use Rattle.pathspec_glob.specs.Matchers.{IsLoneStar};
 ghost use Rattle.pathspec_glob.specs.Tokens.OneByte.{Byte};
 ghost use Rattle.pathspec_glob.specs.Tokens.Token.{One, Star};
 ghost use Rattle.pathspec_glob.specs.Counts.{BeginsAnew, HasNoSteps, KeepsCount};
 
 pub mod word;
 
-use crate::counted::{CountedBytes, CountedFirst, CountedTokens};
+use crate::counted::{CountedBytes, CountedStar, CountedTokens};
 use crate::sets::ByteSet;
 use crate::{Case, Mode, reading};
 use std::alloc::{AllocError, Global};
 use std::marker::Model;
 
-/// What one byte of a text has to be.
+/// A rule for one byte of a text.
 #[derive(Drop)]
 pub enum OneByte {
-    /// This byte.
+    /// The byte itself.
     Byte(u8),
-    /// This byte, which stands after a backslash in the pattern.
+    /// The byte itself, which stands after a backslash in the pattern.
     Quoted(u8),
-    /// Any byte.
+    /// Any byte; in PathAware none that is `/`.
     Any,
-    /// A byte of a set, or, where the bracket is negated, a byte that isn't.
+    /// A byte of the set, or where the bracket is negated any other; in PathAware none that is `/`.
     Bracket(bool, ByteSet),
     /// No byte.
     Dead,
@@ -47,14 +47,14 @@ pub enum Token {
     Deep,
 }
 
-/// Tokens that may match just what the first of them takes.
+/// The star of a glob without other tokens between head and tail.
 #[derive(Clone, Copy)]
-pub enum FirstForm {
-    /// Any bytes without `/`, alone.
+pub enum LoneStar {
+    /// Any bytes without `/`.
     Star,
-    /// Any bytes, alone.
+    /// Any bytes.
     Deep,
-    /// Any bytes, and behind them a plain `/` and any bytes without one: `**/*`.
+    /// `**/*`, which matches any bytes.
     DeepSlashStar,
 }
 
@@ -75,7 +75,7 @@ impl Model for Tokens {
 }
 
 impl Tokens {
-    /// The tokens of a pattern. The cost is linear in the pattern.
+    /// Reads the tokens of a pattern. The cost is linear in the pattern.
     ///
     /// # Errors
     /// Memory runs out.
@@ -88,8 +88,8 @@ impl Tokens {
         })
     }
 
-    /// The tokens of a pattern behind its head, where that is bytes without a wildcard, and the rest begins with a star. The
-    /// cost is linear in the rest.
+    /// Reads the tokens of a pattern behind its head, which has no wildcard byte. The rest begins with a star, and the cost is
+    /// linear in it.
     ///
     /// # Errors
     /// Memory runs out.
@@ -112,21 +112,21 @@ impl Tokens {
         })
     }
 
-    /// The mode of their pattern.
+    /// The mode of the pattern.
     pub fn mode(&self) -> Mode
         ensures { result ≡ self.now.mode }
     {
         self.mode
     }
 
-    /// How many they are.
+    /// The count of tokens.
     pub fn len(&self) -> usize
         ensures { result ≡ length self.now.tokens }
     {
         self.all.len()
     }
 
-    /// Whether the token at this place takes any number of bytes.
+    /// Whether the token at a place takes any number of bytes.
     pub fn is_wide(&self, place: usize) -> bool
         requires { place < length self.now.tokens }
         ensures { result ≡ is_wide_at (drop place self.now.tokens) }
@@ -134,8 +134,7 @@ impl Tokens {
         self.all[place].is_wide()
     }
 
-    /// Whether the token at this place may stand for nothing together with the next: in PathAware, where it takes
-    /// any bytes and the next is a plain `/`.
+    /// Whether the token at a place and the next are a `**/` that may match nothing: in PathAware, `**` before a plain `/`.
     pub fn may_pass_over(&self, place: usize) -> bool
         requires { place < length self.now.tokens }
         ensures over { result ≡ may_pass_over_at self.now.mode (drop place self.now.tokens) }
@@ -144,22 +143,22 @@ impl Tokens {
         may_pass_over(self.mode, &self.all[place..])
     }
 
-    /// The same tokens, where they match just what the first of them takes, which takes any number of bytes: it stands
-    /// alone, or they are `**/*`, where `**` and the slash may stand for nothing.
-    pub fn as_first(&self) -> Option<CountedFirst>
+    /// The lone star that matches what the tokens match, if they are `*`, `**` or `**/*`. The last matches any text, as `**`
+    /// does, since its `**/` may match nothing.
+    pub fn as_lone_star(&self) -> Option<CountedStar>
         ensures whole { IfSome result (λ first. first ≡ self.now) }
-        ensures alone { IfSome result GoesByFirst }
+        ensures alone { IfSome result IsLoneStar }
     {
         let form = match self.all.as_slice() {
-            [first] if first.is_deep() => FirstForm::Deep,
-            [first] if first.is_star() => FirstForm::Star,
-            [_, _, last] if last.is_star() && self.may_pass_over(0) => FirstForm::DeepSlashStar,
+            [first] if first.is_deep() => LoneStar::Deep,
+            [first] if first.is_star() => LoneStar::Star,
+            [_, _, last] if last.is_star() && self.may_pass_over(0) => LoneStar::DeepSlashStar,
             _ => return None,
         };
-        Some(CountedFirst::new(self.mode, form))
+        Some(CountedStar::new(self.mode, form))
     }
 
-    /// Whether the last of them takes any bytes.
+    /// Whether the last token takes any bytes.
     pub fn has_open_end(&self) -> bool
         ensures { result ≡ is_open self.now.tokens }
     {
@@ -195,7 +194,7 @@ impl Tokens {
         })
     }
 
-    /// How many tokens stand before the first that takes any number of bytes.
+    /// The count of tokens before the first that takes any number of bytes.
     pub fn head_size(&self) -> usize
         ensures size { result ≡ head_size self.now.tokens }
         ensures within { result ≤ length self.now.tokens }
@@ -203,8 +202,7 @@ impl Tokens {
         head_size(&self.all)
     }
 
-    /// How many tokens stand up to the last that takes any number of bytes, with a slash that this one may stand for
-    /// nothing with.
+    /// The count of tokens up to the last that takes any number of bytes, and the `/` behind it where `**/` may match nothing.
     pub fn wide_size(&self) -> usize
         ensures size { result ≡ wide_size self.now.mode self.now.tokens }
         ensures within { result ≤ length self.now.tokens }
@@ -222,7 +220,7 @@ impl Tokens {
         size
     }
 
-    /// The bytes that those from a place on want, where each is a byte of the pattern; None where one isn't.
+    /// The bytes that the tokens from a place on want, where each is a byte of the pattern; None where one isn't.
     ///
     /// # Errors
     /// Memory runs out.
@@ -241,14 +239,14 @@ impl Tokens {
         })
     }
 
-    /// Leaves the tokens before a place.
+    /// Keeps the tokens before a place.
     pub fn truncate(&mut self, place: usize)
         ensures { self.new ≡ record { mode = self.old.mode; tokens = take place self.old.tokens } }
     {
         self.all.truncate(place);
     }
 
-    /// The same tokens, whose only question about a text is the counted one.
+    /// Wraps the tokens, so that each question about a text is counted.
     pub fn counted(self) -> CountedTokens
         ensures { result ≡ self }
     {
@@ -256,7 +254,7 @@ impl Tokens {
     }
 }
 
-/// The bytes that the tokens want, where each is a byte of the pattern.
+/// The bytes that the tokens want, if each is a byte of the pattern.
 fn bytes_of(alloc: Global, tokens: &[Token]) -> Result<Option<Vec<u8>>, AllocError>
     ensures { IfOk result (λ found.
         IfSome found (λ bytes. tokens_view tokens.now ≡ plain_tokens bytes.items)) }
@@ -271,7 +269,7 @@ fn bytes_of(alloc: Global, tokens: &[Token]) -> Result<Option<Vec<u8>>, AllocErr
     Ok(Some(bytes))
 }
 
-/// How many tokens stand before the first that takes any number of bytes.
+/// The count of tokens before the first that takes any number of bytes.
 fn head_size(tokens: &[Token]) -> usize
     ensures size { result ≡ prefix_len (λ t. not (is_wide (token_view t))) tokens.now }
     ensures within { result ≤ length tokens.now }
@@ -279,7 +277,7 @@ fn head_size(tokens: &[Token]) -> usize
     tokens.iter().take_while(|token| !token.is_wide()).count()
 }
 
-/// Whether the first of the tokens may stand for nothing together with the second.
+/// Whether the first two tokens are a `**/` that may match nothing.
 fn may_pass_over(mode: Mode, tokens: &[Token]) -> bool
     ensures { result ≡ may_pass_over_at mode (tokens_view tokens.now) }
 {
@@ -290,35 +288,35 @@ fn may_pass_over(mode: Mode, tokens: &[Token]) -> bool
 }
 
 impl Token {
-    /// Whether it takes any bytes.
+    /// Whether the token takes any bytes.
     fn is_deep(&self) -> bool
         ensures { result ≡ is_any_run (token_view self.now) }
     {
         matches!(self, Token::Deep)
     }
 
-    /// Whether it takes any bytes without `/`.
+    /// Whether the token takes any bytes without `/`.
     fn is_star(&self) -> bool
         ensures { IsTrue result → token_view self.now ≡ Star }
     {
         matches!(self, Token::Star)
     }
 
-    /// Whether deep before it may stand for nothing with it.
+    /// Whether a `**` before the token may match nothing with it: in PathAware, before a plain `/`.
     fn is_passed_over(&self, mode: Mode) -> bool
         ensures { result ≡ passes_over mode (token_view self.now) }
     {
         mode == Mode::PathAware && matches!(self, Token::One(OneByte::Byte(b'/')))
     }
 
-    /// Whether it takes any number of bytes.
+    /// Whether the token takes any number of bytes.
     fn is_wide(&self) -> bool
         ensures { result ≡ is_wide (token_view self.now) }
     {
         !matches!(self, Token::One(_))
     }
 
-    /// The byte of the pattern that it is.
+    /// The byte of the pattern that the token is, if it is one.
     fn byte(&self) -> Option<u8>
         ensures { IfSome result (λ byte. token_view self.now ≡ One (Byte byte)) }
     {
@@ -328,12 +326,12 @@ impl Token {
         }
     }
 
-    /// Whether it takes a byte, alone or with others.
+    /// Whether the token takes a byte, alone or with others.
     pub fn takes(&self, mode: Mode, case: Case, byte: u8) -> bool
         ensures { result ≡ takes_byte mode case (token_view self.now) byte }
     {
         match self {
-            // The same as of other tokens for one byte, and in line.
+            // As the other tokens for one byte, but in line.
             Token::One(OneByte::Byte(own)) => is_same_byte(case, *own, byte),
             Token::One(single) => single.takes(mode, case, byte),
             Token::Star => byte != b'/',
@@ -343,7 +341,7 @@ impl Token {
 }
 
 impl OneByte {
-    /// Whether a byte is as this wants it.
+    /// Whether the rule admits a byte.
     #[inline(never)]
     fn takes(&self, mode: Mode, case: Case, byte: u8) -> bool
         ensures { result ≡ takes mode case (one_byte_view self.now) byte }
@@ -359,7 +357,7 @@ impl OneByte {
     }
 }
 
-/// Whether two bytes are one, up to ASCII case where it doesn't count.
+/// Whether two bytes are equal, up to ASCII case where it doesn't count.
 pub fn is_same_byte(case: Case, own: u8, byte: u8) -> bool
     ensures { result ≡ is_same_byte case own byte }
 {

@@ -6,7 +6,7 @@ ghost use Rattle.pathspec_glob.specs.Bytes.{is_wildcard};
 
 use std::simd::prelude::*;
 
-/// How many bytes are looked at together.
+/// The count of bytes that are looked at together.
 const LANES: usize = 16;
 
 /// The wildcard bytes.
@@ -24,8 +24,8 @@ pub fn place_of_wildcard(text: &[u8]) -> Option<usize>
     }
 }
 
-/// How many bytes stand before the first wildcard byte, or in all where there is none. The last sixteen bytes of a text
-/// are looked at together, so some may be looked at twice.
+/// The count of bytes before the first wildcard byte, or of all where there is none. The last sixteen bytes of a text are
+/// looked at together, so some may be looked at twice.
 fn plain_bytes(text: &[u8]) -> usize
     ensures { result ≡ position_or_len is_wildcard text.now }
 {
@@ -44,14 +44,14 @@ fn plain_bytes(text: &[u8]) -> usize
     last + plain_lanes(text, last)
 }
 
-/// The same of a short text.
+/// The count of bytes of a short text before its first wildcard byte, looked at one by one.
 fn plain_bytes_one_by_one(text: &[u8]) -> usize
     ensures { result ≡ position_or_len is_wildcard text.now }
 {
     text.iter().take_while(|byte| !is_wildcard(**byte)).count()
 }
 
-/// How many of the sixteen bytes from a place on stand before the first wildcard byte among them, or all of them.
+/// The count of bytes, among the sixteen from a place on, before the first wildcard byte; 16 without one.
 #[inline(always)]
 fn plain_lanes(text: &[u8], at: usize) -> usize
     requires { at + LANES ≤ length text.now }
@@ -64,7 +64,7 @@ fn plain_lanes(text: &[u8], at: usize) -> usize
     first_set((runs | quotes).to_bitmask(), LANES)
 }
 
-/// The place of the lowest bit that is set, or this number where none is.
+/// The place of the lowest bit that is set, or `none` without one.
 #[inline(always)]
 fn first_set(mask: u64, none: usize) -> usize
     ensures { result ≡ (if mask == 0 then none else trailing_zeros w64 mask) }

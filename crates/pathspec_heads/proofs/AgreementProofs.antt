@@ -1,6 +1,6 @@
 -- How far texts agree, step by step, and what stands between two texts that agree.
 use Rattle.std.proofs.Common.{◌≡◌, ◌≢◌, ℕ, suc, zero, ◌+◌, ◌<◌, ◌≤◌, Bool, true, false, ltb, inl, inr, refl, sym, ◌∙◌, ap, List, [], ◌∷◌, ◌++◌, length, get_or, arith, nat_eq, take}
-use Rattle.std.proofs.lemmas.Bool.{cases_Bool, cases_lt, false≢true}
+use Rattle.std.proofs.lemmas.Bool.{cases_Bool, cases_lt, false≢true, false_from_ne_true}
 use Rattle.std.proofs.lemmas.List.Sums.{common_prefix_len-le}
 use Rattle.std.proofs.lemmas.Bool.Decides.{nat_tests}
 use Rattle.pathspec_glob.specs.Bytes.{begins_with}
@@ -138,10 +138,6 @@ begins-between x m t h p q =
     let in_t : length x ≤ agreement t x = omega (arith, agreement-front x t h, agreement-sym x t) in
     front-agreement x m (omega (arith, squeezed (length x) x m t x in_x in_t p q, agreement-sym x m))
 
-pub not_true : (b : Bool) → (b ≡ true → ⊥) → b ≡ false
-not_true true n = absurd (n refl)
-not_true false n = refl
-
 pub both : (a b : Bool) → (a ≡ true → b ≡ true) → (b ≡ true → a ≡ true) → a ≡ b
 both true b f g = sym (f refl)
 both false true f g = g refl
@@ -153,7 +149,7 @@ begins-not_behind x t h = not_behind x t (agreement-front x t h)
 
 -- what agrees with a text no longer begins it where it is behind
 pub behind-not_front : (x t : List ℕ) → is_behind x t ≡ true → begins_with t x ≡ false
-behind-not_front x t h = not_true (begins_with t x) (λ e. false≢true (sym (begins-not_behind x t e) ∙ h))
+behind-not_front x t h = false_from_ne_true (begins_with t x) (λ e. false≢true (sym (begins-not_behind x t e) ∙ h))
 
 -- what stands behind what is behind
 pub behind-further : (x y t : List ℕ) → is_behind x t ≡ true → is_behind x y ≡ false → is_behind y t ≡ true
@@ -162,7 +158,7 @@ behind-further x y t h p = elim (cases_Bool (is_behind y t)) [
   | inr s ↦ absurd (false≢true (sym (not_behind-through x y t p s) ∙ h))
 ]
 
-same_agreed : (n : ℕ) (x t : List ℕ) → n ≤ agreement x t → take n x ≡ take n t
+pub same_agreed : (n : ℕ) (x t : List ℕ) → n ≤ agreement x t → take n x ≡ take n t
 same_agreed zero x t h = refl
 same_agreed (suc n) [] t h = absurd (omega (arith, h))
 same_agreed (suc n) (b ∷ x) [] h = absurd (omega (arith, h))

@@ -1,5 +1,5 @@
 -- Groups of places, as they grow entry by entry, and when they have all places.
-use Rattle.std.proofs.Common.{◌≡◌, ℕ, suc, zero, ◌+◌, ◌-◌, ◌<◌, ◌≤◌, true, false, inl, inr, refl, sym, ◌∙◌, ap, subst, List, [], ◌∷◌, ◌++◌, length, get_or, arith, length-append, add-one, map, bytes_eq}
+use Rattle.std.proofs.Common.{◌≡◌, ℕ, ◌+◌, ◌-◌, ◌<◌, ◌≤◌, true, false, inl, inr, refl, sym, ◌∙◌, ap, subst, List, [], ◌∷◌, ◌++◌, length, get_or, arith, length-append, map, bytes_eq}
 use Rattle.std.specs.Ordering.{nat_cmp, ordering_then, ordering_reverse, is_lt, is_eq}
 use Rattle.std.specs.declared.cmp.Ordering.TheVariants.{Less, Equal, Greater}
 use Rattle.std.specs.declared.cmp.Ordering.{Ordering}
@@ -7,14 +7,12 @@ use Rattle.std.specs.Cmp.Lexicographic.{slice_cmp}
 use Rattle.std.proofs.lemmas.Bool.{cases_Bool}
 use Rattle.std.proofs.lemmas.Bool.Decides.{nat_tests}
 use Rattle.std.proofs.lemmas.Cmp.{nat_list_cmp_total}
-use Rattle.std.proofs.lemmas.List.{get_or_append_left, get_or-map, length-map}
+use Rattle.std.proofs.lemmas.List.{get_or_append_left, get_or_push, get_or-map, length-map, get_or_default, get_or_past}
 use Rattle.std.proofs.lemmas.Map.Text.{is_eq-slice_cmp}
 use Rattle.std.proofs.lemmas.Slice.Eq.{bytes_eq-Decides}
-use Rattle.std.proofs.Math.Seq.{get_or-append_seam}
-use Rattle.pathspec_heads.specs.Heads.{head_at}
-use Rattle.pathspec_heads.specs.Groups.{Placed, entry_at, placed_cmp, IsAscending, IsSortedPlaces, start_of, end_of, IsOrder, IsGrouped, IsGroupedFront, ends_with_head, AddsPlace}
+use Rattle.pathspec_heads.specs.Heads.{head_at, IsRising, ends_with_head}
+use Rattle.pathspec_heads.specs.Groups.{Placed, entry_at, placed_cmp, IsAscending, IsSortedPlaces, start_of, end_of, IsOrder, IsGrouped, IsGroupedFront, AddsPlace}
 use Rattle.pathspec_heads.proofs.HeadProofs.{le_split}
-use Rattle.pathspec_heads.proofs.PlacedProofs.{get_or-inside, get_or-past}
 
 -- ---- what order says of two entries
 
@@ -57,20 +55,21 @@ module _ (entries : List Placed) (ascending : IsAscending entries) (n : ℕ) (he
 
   places-more : (j : ℕ) → j < n + 1 → get_or (order ++ place ∷ []) j 0 ≡ (entry_at entries j).1
   places-more j b = elim (le_split j n (omega (arith, b))) [
-    | inl e ↦ ap (λ k. get_or (order ++ place ∷ []) k 0) (e ∙ sym f.counted) ∙ (get_or-append_seam order place [] 0 ∙ (ap (λ (x : Placed). x.1) (sym is) ∙ ap (λ k. (entry_at entries k).1) (sym e)))
+    | inl e ↦ get_or_push order place 0 j (f.counted ∙ sym e) ∙ (ap (λ (x : Placed). x.1) (sym is) ∙ ap (λ k. (entry_at entries k).1) (sym e))
     | inr s ↦ get_or_append_left order (place ∷ []) 0 j (omega (arith, s, f.counted)) ∙ f.places j s
   ]
 
   -- the place goes to the last group
   module _ (some : 0 < length heads) (last : head_at heads (length heads - 1) ≡ head) where
     inner : (k : ℕ) → k + 1 < length heads → end_of starts (order ++ place ∷ []) k ≡ end_of starts order k
-    inner k l = get_or-inside starts (k + 1) (length (order ++ place ∷ [])) (length order) (omega (arith, l, f.all))
+    inner k l = get_or_default starts (k + 1) (length (order ++ place ∷ [])) (length order) (omega (arith, l, f.all))
 
     outer : (k : ℕ) → k + 1 ≡ length heads → (end_of starts order k ≡ n) × (end_of starts (order ++ place ∷ []) k ≡ n + 1)
-    outer k e = (get_or-past starts (k + 1) (length order) (omega (arith, e, f.all)) ∙ f.counted, get_or-past starts (k + 1) (length (order ++ place ∷ [])) (omega (arith, e, f.all)) ∙ length-more)
+    outer k e = (get_or_past starts (k + 1) (length order) (omega (arith, e, f.all)) ∙ f.counted, get_or_past starts (k + 1) (length (order ++ place ∷ [])) (omega (arith, e, f.all)) ∙ length-more)
 
     pub grouped-known : IsGroupedFront entries (n + 1) heads starts (order ++ place ∷ [])
     grouped-known = record {
+      few = omega (arith, f.few);
       all = f.all;
       counted = length-more;
       places = places-more;
@@ -110,29 +109,29 @@ module _ (entries : List Placed) (ascending : IsAscending entries) (n : ℕ) (he
     old_head k l = get_or_append_left heads (head ∷ []) [] k l
 
     new_head : (k : ℕ) → k ≡ length heads → head_at (heads ++ head ∷ []) k ≡ head
-    new_head k e = ap (head_at (heads ++ head ∷ [])) e ∙ get_or-append_seam heads head [] []
+    new_head k e = get_or_push heads head [] k (sym e)
 
     old_start : (k : ℕ) → k < length heads → start_of (starts ++ length order ∷ []) k ≡ start_of starts k
     old_start k l = get_or_append_left starts (length order ∷ []) 0 k (omega (arith, l, f.all))
 
     new_start : (k : ℕ) → k ≡ length heads → start_of (starts ++ length order ∷ []) k ≡ n
-    new_start k e = ap (start_of (starts ++ length order ∷ [])) (e ∙ sym f.all) ∙ (get_or-append_seam starts (length order) [] 0 ∙ f.counted)
+    new_start k e = get_or_push starts (length order) 0 k (f.all ∙ sym e) ∙ f.counted
 
     old_end : (k : ℕ) → k < length heads → end_of (starts ++ length order ∷ []) (order ++ place ∷ []) k ≡ end_of starts order k
     old_end k l = elim (le_split (k + 1) (length starts) (omega (arith, l, f.all))) [
-      | inl e ↦ ap (λ i. get_or (starts ++ length order ∷ []) i (length (order ++ place ∷ []))) e ∙ (get_or-append_seam starts (length order) [] (length (order ++ place ∷ [])) ∙ sym (get_or-past starts (k + 1) (length order) (omega (arith, e))))
-      | inr s ↦ get_or_append_left starts (length order ∷ []) (length (order ++ place ∷ [])) (k + 1) s ∙ get_or-inside starts (k + 1) (length (order ++ place ∷ [])) (length order) s
+      | inl e ↦ get_or_push starts (length order) (length (order ++ place ∷ [])) (k + 1) (sym e) ∙ sym (get_or_past starts (k + 1) (length order) (omega (arith, e)))
+      | inr s ↦ get_or_append_left starts (length order ∷ []) (length (order ++ place ∷ [])) (k + 1) s ∙ get_or_default starts (k + 1) (length (order ++ place ∷ [])) (length order) s
     ]
 
     new_end : (k : ℕ) → k ≡ length heads → end_of (starts ++ length order ∷ []) (order ++ place ∷ []) k ≡ n + 1
-    new_end k e = get_or-past (starts ++ length order ∷ []) (k + 1) (length (order ++ place ∷ [])) (omega (arith, e, f.all, length-append starts (length order ∷ []))) ∙ length-more
+    new_end k e = get_or_past (starts ++ length order ∷ []) (k + 1) (length (order ++ place ∷ [])) (omega (arith, e, f.all, length-append starts (length order ∷ []))) ∙ length-more
 
     last-less : (i : ℕ) → i < length heads → slice_cmp nat_cmp (head_at heads i) head ≡ Less
     last-less i l =
         let k = length heads - 1 in
         let inside_k : k < length heads = omega (arith, l) in
         let part = f.part k inside_k in
-        let ends : end_of starts order k ≡ n = get_or-past starts (k + 1) (length order) (omega (arith, l, f.all)) ∙ f.counted in
+        let ends : end_of starts order k ≡ n = get_or_past starts (k + 1) (length order) (omega (arith, l, f.all)) ∙ f.counted in
         let before : n - 1 < end_of starts order k = omega (arith, part.0, ends) in
         let has : (entry_at entries (n - 1)).0 ≡ head_at heads k = f.headed k (n - 1) inside_k (omega (arith, part.0, ends)) before in
         let new : (entry_at entries n).0 ≡ head = ap (λ (x : Placed). x.0) is in
@@ -153,8 +152,17 @@ module _ (entries : List Placed) (ascending : IsAscending entries) (n : ℕ) (he
         bytes_eq-swap : (x y x' y' : List ℕ) → x ≡ x' → y ≡ y' → bytes_eq x y ≡ false → bytes_eq y' x' ≡ false
         bytes_eq-swap x y x' y' p q h = differ x' y' (subst (λ z. bytes_eq x' z ≡ false) q (subst (λ z. bytes_eq z y ≡ false) p h))
 
+    rising-begun : IsRising (heads ++ head ∷ [])
+    rising-begun i j l b = elim (le_split j (length heads) (omega (arith, b, count-heads))) [
+      | inl e ↦
+          let before : i < length heads = omega (arith, l, e) in
+          subst (λ x. slice_cmp nat_cmp x (head_at (heads ++ head ∷ []) j) ≡ Less) (sym (old_head i before)) (subst (λ y. slice_cmp nat_cmp (head_at heads i) y ≡ Less) (sym (new_head j e)) (last-less i before))
+      | inr s ↦ subst (λ x. slice_cmp nat_cmp x (head_at (heads ++ head ∷ []) j) ≡ Less) (sym (old_head i (omega (arith, l, s)))) (subst (λ y. slice_cmp nat_cmp (head_at heads i) y ≡ Less) (sym (old_head j s)) (f.rising i j l s))
+    ]
+
     pub grouped-begun : IsGroupedFront entries (n + 1) (heads ++ head ∷ []) (starts ++ length order ∷ []) (order ++ place ∷ [])
     grouped-begun = record {
+      few = omega (arith, f.few, count-heads);
       all = omega (arith, f.all, length-append starts (length order ∷ []), count-heads);
       counted = length-more;
       places = places-more;
@@ -172,12 +180,7 @@ module _ (entries : List Placed) (ascending : IsAscending entries) (n : ℕ) (he
         | inl here ↦ (length heads, omega (arith, count-heads), omega (arith, here, new_start (length heads) refl), omega (arith, here, new_end (length heads) refl))
         | inr s ↦ let c = f.covered j s in (c.0, omega (arith, c.1, count-heads), omega (arith, c.2, old_start c.0 c.1), omega (arith, c.3, old_end c.0 c.1))
       ];
-      rising = λ i j l b. elim (le_split j (length heads) (omega (arith, b, count-heads))) [
-        | inl e ↦
-            let before : i < length heads = omega (arith, l, e) in
-            subst (λ x. slice_cmp nat_cmp x (head_at (heads ++ head ∷ []) j) ≡ Less) (sym (old_head i before)) (subst (λ y. slice_cmp nat_cmp (head_at heads i) y ≡ Less) (sym (new_head j e)) (last-less i before))
-        | inr s ↦ subst (λ x. slice_cmp nat_cmp x (head_at (heads ++ head ∷ []) j) ≡ Less) (sym (old_head i (omega (arith, l, s)))) (subst (λ y. slice_cmp nat_cmp (head_at heads i) y ≡ Less) (sym (old_head j s)) (f.rising i j l s))
-      ];
+      rising = rising-begun;
     }
 
   ends_with-split : (hs : List (List ℕ)) → ends_with_head hs head ≡ true → (0 < length hs) × (head_at hs (length hs - 1) ≡ head)
@@ -203,6 +206,9 @@ module _ (entries : List Placed) (ascending : IsAscending entries) (n : ℕ) (he
         (subst (λ xs. IsGroupedFront entries (n + 1) xs (starts ++ length order ∷ []) (order ++ place ∷ [])) (sym k.0) (grouped-begun (ends_with-not heads g))))
   ]
 
+  grouped-rises : ends_with_head heads head ≡ false → IsRising (heads ++ head ∷ [])
+  grouped-rises g = rising-begun (ends_with-not heads g)
+
 -- ---- all entries
 
 module _ (texts : List (List ℕ)) (entries : List Placed) (sorted : IsSortedPlaces texts entries) (heads : List (List ℕ)) (starts order : List ℕ) (f : IsGroupedFront entries (length entries) heads starts order) where
@@ -219,21 +225,9 @@ module _ (texts : List (List ℕ)) (entries : List Placed) (sorted : IsSortedPla
         omega (arith, le, f.places i (omega (arith, m, inside)), f.places j inside);
   }
 
-  starts-grow : (k : ℕ) → k < length heads → k ≤ start_of starts k
-  starts-grow zero l = omega arith
-  starts-grow (suc k) l =
-      let p = f.part k (omega (arith, l)) in
-      let next : end_of starts order k ≡ start_of starts (k + 1) = get_or-inside starts (k + 1) (length order) 0 (omega (arith, l, f.all)) in
-      let here : start_of starts (k + 1) ≡ start_of starts (suc k) = ap (start_of starts) (add-one k) in
-      omega (arith, starts-grow k (omega (arith, l)), p.0, next, here)
-
-  few_heads : (n : ℕ) → n ≡ length heads → n ≤ length entries
-  few_heads zero e = omega arith
-  few_heads (suc k) e = let l : k < length heads = omega (arith, e) in let p = f.part k l in omega (arith, starts-grow k l, p.0, p.1)
-
   pub all-grouped : IsGrouped texts heads starts order
   all-grouped = record {
-    few = omega (arith, few_heads (length heads) refl, sorted.count);
+    few = omega (arith, f.few, sorted.count);
     stands = λ k l.
         let q = f.part k l in
         let j = start_of starts k in
@@ -257,10 +251,12 @@ module _ (texts : List (List ℕ)) (entries : List Placed) (sorted : IsSortedPla
 
 -- ---- the entries as the code has them
 
+pub add-rises : {X : Type 0} (view : X → Placed) (xs : List X) (d : X) → IsAscending (map view xs) → (n : ℕ) (heads : List (List ℕ)) (starts order : List ℕ) → IsGroupedFront (map view xs) n heads starts order → n < length xs
+    → ends_with_head heads (view (get_or xs n d)).0 ≡ false → IsRising (heads ++ (view (get_or xs n d)).0 ∷ [])
+add-rises view xs d ascending n heads starts order f inside =
+    grouped-rises (map view xs) ascending n heads starts order f (omega (arith, inside, length-map xs view)) (view (get_or xs n d)).0 (view (get_or xs n d)).1 (get_or-map view xs n d ([], 0) inside)
+
 pub grouped-next : {X : Type 0} (view : X → Placed) (xs : List X) (d : X) → IsAscending (map view xs) → (n : ℕ) (heads : List (List ℕ)) (starts order : List ℕ) → IsGroupedFront (map view xs) n heads starts order → n < length xs
     → (heads' : List (List ℕ)) (starts' order' : List ℕ) → AddsPlace heads starts order heads' starts' order' (view (get_or xs n d)).0 (view (get_or xs n d)).1 → IsGroupedFront (map view xs) (n + 1) heads' starts' order'
 grouped-next view xs d ascending n heads starts order f inside =
     grouped-more (map view xs) ascending n heads starts order f (omega (arith, inside, length-map xs view)) (view (get_or xs n d)).0 (view (get_or xs n d)).1 (get_or-map view xs n d ([], 0) inside)
-
-pub counted-view : {X : Type 0} (view : X → Placed) (xs ys : List X) (heads : List (List ℕ)) (starts order : List ℕ) → ys ≡ xs → IsGroupedFront (map view ys) (length ys) heads starts order → IsGroupedFront (map view xs) (length (map view xs)) heads starts order
-counted-view view xs ys heads starts order e f = subst (λ n. IsGroupedFront (map view xs) n heads starts order) (sym (length-map xs view)) (subst (λ zs. IsGroupedFront (map view zs) (length zs) heads starts order) e f)

@@ -1,4 +1,5 @@
 pub mod AgreementProofs
+pub mod AnyProofs
 pub mod HeadProofs
 mod LaneProofs
 pub mod SpanProofs
@@ -10,4 +11,3 @@ pub mod WordProofs
 pub mod CandidateProofs
 pub mod StemProofs
 pub mod TableProofs
-pub mod PathTableProofs

@@ -2,42 +2,27 @@
 use Rattle.std.proofs.Common.{◌≡◌, ℕ, ◌+◌, ◌-◌, ◌<◌, ◌≤◌, true, false, inl, inr, refl, sym, ◌∙◌, ap, subst, List, length, get_or, arith, ◌⊎◌, take, drop, Option, Some, None, IfSome, min, ltb, length-take, length-drop}
 use Rattle.std.specs.List.{Contains, slice_range}
 use Rattle.std.specs.List.Sorted.{IsNonDecreasing, IsPartitionPoint}
-use Rattle.std.proofs.lemmas.Bool.{false≢true}
-use Rattle.std.proofs.lemmas.Bool.Decides.{nat_tests}
-use Rattle.std.proofs.lemmas.List.{get_or-drop, get_or-take}
-use Rattle.std.proofs.lemmas.Cmp.{nat_list_cmp_total}
-use Rattle.std.specs.Ordering.{is_gt, ordering_reverse}
+use Rattle.std.proofs.lemmas.Bool.{cases_lt, ltb-true, ltb-false, false≢true}
+use Rattle.std.proofs.lemmas.List.{get_or-drop, get_or-take, get_or_default}
 use Rattle.pathspec_glob.specs.Bytes.{begins_with}
-use Rattle.pathspec_heads.specs.Agreement.{is_behind}
 use Rattle.pathspec_heads.specs.Heads.{head_at, IsRising, IsLastFront}
 use Rattle.pathspec_heads.specs.Groups.{start_of, end_of, IsInGroup, IsInChain, IsOrder, IsLeastFrom, earlier}
-use Rattle.pathspec_heads.proofs.AgreementProofs.{begins-between, begins-not_behind}
-use Rattle.pathspec_heads.proofs.HeadProofs.{le_split, apart_split, rises, begins-itself}
-use Rattle.pathspec_heads.proofs.PlacedProofs.{get_or-inside}
+use Rattle.pathspec_heads.proofs.HeadProofs.{le_split, begins-itself, not_later, link-of_text}
 
 -- ---- in a list
 
-test-lt : (x y : ℕ) → ltb x y ≡ true → x < y
-test-lt x y h = grind (arith, nat_tests)
-
-test-ge : (x y : ℕ) → ltb x y ≡ false → y ≤ x
-test-ge x y h = grind (arith, nat_tests)
-
 module _ (xs : List ℕ) (from at : ℕ) (up : IsNonDecreasing xs) (p : IsPartitionPoint (λ y. ltb y from ≡ true) (λ y. ltb y from ≡ false) xs at) where
   behind : (k : ℕ) → k < length xs → from ≤ get_or xs k 0 → at ≤ k
-  behind k l h = elim (apart_split at k) [
-    | inl s ↦ omega (arith, s)
-    | inr r ↦ elim r [
-      | inl e ↦ omega (arith, e)
-      | inr s ↦ absurd (omega (arith, h, test-lt (get_or xs k 0) from (p.0 k 0 (omega arith) s)))
-    ]
+  behind k l h = elim (cases_lt k at) [
+    | inl s ↦ absurd (omega (arith, h, ltb-true (get_or xs k 0) from (p.0 k 0 (omega arith) s)))
+    | inr g ↦ g
   ]
 
   pub next-found : at < length xs → IsLeastFrom (Contains xs) from (Some (get_or xs at 0))
   next-found l = record {
-    found = (test-ge (get_or xs at 0) from (p.1 at 0 (omega arith) l), (at, l, get_or-inside xs at (get_or xs at 0) 0 l));
+    found = (ltb-false (get_or xs at 0) from (p.1 at 0 (omega arith) l), (at, l, get_or_default xs at (get_or xs at 0) 0 l));
     first = λ q h c.
-        let is : get_or xs c.0 0 ≡ q = get_or-inside xs c.0 0 q c.1 ∙ c.2 in
+        let is : get_or xs c.0 0 ≡ q = get_or_default xs c.0 0 q c.1 ∙ c.2 in
         let le : get_or xs at 0 ≤ get_or xs c.0 0 = up at c.0 0 (behind c.0 c.1 (omega (arith, h, is))) c.1 in
         omega (arith, le, is);
   }
@@ -46,7 +31,7 @@ module _ (xs : List ℕ) (from at : ℕ) (up : IsNonDecreasing xs) (p : IsPartit
   next-none l = record {
     found = tt;
     first = λ q h c.
-        let is : get_or xs c.0 0 ≡ q = get_or-inside xs c.0 0 q c.1 ∙ c.2 in
+        let is : get_or xs c.0 0 ≡ q = get_or_default xs c.0 0 q c.1 ∙ c.2 in
         absurd (omega (arith, l, c.1, behind c.0 c.1 (omega (arith, h, is))));
   }
 
@@ -70,17 +55,11 @@ next-earlier P Q from (Some x) None m n = record {
   first = λ p h c. elim c [ inl l ↦ m.first p h l | inr y ↦ absurd (n.first p h y) ];
 }
 next-earlier P Q from (Some x) (Some y) m n = record {
-  found = (omega (arith, m.found.0, n.found.0), lesser (le_total x y));
+  found = (omega (arith, m.found.0, n.found.0), lesser (cases_lt x y));
   first = λ p h c. elim c [ inl l ↦ omega (arith, m.first p h l) | inr r ↦ omega (arith, n.first p h r) ];
 }
   where
-    le_total : (a b : ℕ) → (a ≤ b) ⊎ (b ≤ a)
-    le_total a b = elim (apart_split a b) [
-      | inl s ↦ inl (omega (arith, s))
-      | inr r ↦ elim r [ inl e ↦ inl (omega (arith, e)) | inr s ↦ inr (omega (arith, s)) ]
-    ]
-
-    lesser : (x ≤ y) ⊎ (y ≤ x) → P (min x y) ⊎ Q (min x y)
+    lesser : (x < y) ⊎ (y ≤ x) → P (min x y) ⊎ Q (min x y)
     lesser (inl l) = let e : x ≡ min x y = omega (arith, l) in inl (subst P e m.found.1)
     lesser (inr l) = let e : y ≡ min x y = omega (arith, l) in inr (subst Q e n.found.1)
 
@@ -104,8 +83,8 @@ module _ (heads : List (List ℕ)) (starts order : List ℕ) (o : IsOrder heads 
       let p = o.part k l in
       let inside : j < e - s = omega (arith, h, length-part order s e p.0 p.1) in
       let up : get_or order (s + i) 0 ≤ get_or order (s + j) 0 = o.ascending k (s + i) (s + j) l (omega arith) (omega (arith, m)) (omega (arith, inside)) in
-      let at_i : get_or part i d ≡ get_or order (s + i) 0 = part-at order s e p.0 p.1 i d (omega (arith, m, inside)) ∙ get_or-inside order (s + i) d 0 (omega (arith, m, inside, p.1)) in
-      let at_j : get_or part j d ≡ get_or order (s + j) 0 = part-at order s e p.0 p.1 j d inside ∙ get_or-inside order (s + j) d 0 (omega (arith, inside, p.1)) in
+      let at_i : get_or part i d ≡ get_or order (s + i) 0 = part-at order s e p.0 p.1 i d (omega (arith, m, inside)) ∙ get_or_default order (s + i) d 0 (omega (arith, m, inside, p.1)) in
+      let at_j : get_or part j d ≡ get_or order (s + j) 0 = part-at order s e p.0 p.1 j d inside ∙ get_or_default order (s + j) d 0 (omega (arith, inside, p.1)) in
       omega (arith, up, at_i, at_j)
 
   in-part : (p : ℕ) → Contains (slice_range order (start_of starts k) (end_of starts order k)) p → IsInGroup starts order k p
@@ -118,7 +97,7 @@ module _ (heads : List (List ℕ)) (starts order : List ℕ) (o : IsOrder heads 
         at = s + c.0;
         from = omega arith;
         before = omega (arith, inside);
-        is = get_or-inside order (s + c.0) 0 p (omega (arith, inside, q.1)) ∙ (sym (part-at order s e q.0 q.1 c.0 p inside) ∙ c.2);
+        is = get_or_default order (s + c.0) 0 p (omega (arith, inside, q.1)) ∙ (sym (part-at order s e q.0 q.1 c.0 p inside) ∙ c.2);
       }
 
   of-part : (p : ℕ) → IsInGroup starts order k p → Contains (slice_range order (start_of starts k) (end_of starts order k)) p
@@ -131,7 +110,7 @@ module _ (heads : List (List ℕ)) (starts order : List ℕ) (o : IsOrder heads 
       let there : s + i ≡ g.at = omega (arith, g.from) in (
         i,
         omega (arith, inside, length-part order s e q.0 q.1),
-        part-at order s e q.0 q.1 i p inside ∙ (ap (λ m. get_or order m p) there ∙ (get_or-inside order g.at p 0 (omega (arith, g.before, q.1)) ∙ g.is)),
+        part-at order s e q.0 q.1 i p inside ∙ (ap (λ m. get_or order m p) there ∙ (get_or_default order g.at p 0 (omega (arith, g.before, q.1)) ∙ g.is)),
       )
 
   pub group-next : (from : ℕ) (next : Option ℕ) → IsLeastFrom (Contains (slice_range order (start_of starts k) (end_of starts order k))) from next → IsLeastFrom (IsInGroup starts order k) from next
@@ -144,58 +123,44 @@ abbrev pub IsInChainFrom : List (List ℕ) → List ℕ → List ℕ → ℕ →
 IsInChainFrom heads starts order low j place = (k : ℕ) × (low ≤ k) × (k < length heads) × (begins_with (head_at heads j) (head_at heads k) ≡ true) × IsInGroup starts order k place
 
 module _ (heads : List (List ℕ)) (rising : IsRising heads) (starts order : List ℕ) (j : ℕ) (l : j < length heads) where
-  -- no later head begins this one
-  not_later : (k : ℕ) → j < k → k < length heads → begins_with (head_at heads j) (head_at heads k) ≡ true → ⊥
-  not_later k s b h =
-      let less = rising j k s b in
-      let more : is_behind (head_at heads k) (head_at heads j) ≡ true = ap is_gt (nat_list_cmp_total.antisymm (head_at heads k) (head_at heads j)) ∙ ap (λ o. is_gt (ordering_reverse o)) less in
-      false≢true (sym (begins-not_behind (head_at heads k) (head_at heads j) h) ∙ more)
-
   pub chain-begun : (from : ℕ) (next : Option ℕ) → IsLeastFrom (IsInGroup starts order j) from next → IsLeastFrom (IsInChainFrom heads starts order j j) from next
   chain-begun from next n = next-map (IsInGroup starts order j) (IsInChainFrom heads starts order j j) from next
       (λ p g. (j, omega arith, l, begins-itself (head_at heads j), g))
       (λ p c. elim (le_split j c.0 c.1) [
         | inl e ↦ subst (λ k. IsInGroup starts order k p) (sym e) c.4
-        | inr s ↦ absurd (not_later c.0 s c.2 c.3)
+        | inr s ↦ absurd (not_later heads rising j c.0 s c.2 c.3)
       ])
       n
 
   module _ (at : ℕ) (before : at ≤ j) (begins : begins_with (head_at heads j) (head_at heads at) ≡ true) where
-    -- what begins the head and stands before one that does begins that one
-    begins_at : (k : ℕ) → k < at → begins_with (head_at heads j) (head_at heads k) ≡ true → begins_with (head_at heads at) (head_at heads k) ≡ true
-    begins_at k s h = begins-between (head_at heads k) (head_at heads at) (head_at heads j) h (rises heads rising k at (omega (arith, s)) (omega (arith, before, l))) (rises heads rising at j before l)
-
     pub chain-goes : (link from : ℕ) (a b : Option ℕ) → IsLastFront heads at (head_at heads at) (Some link) → IsLeastFrom (IsInChainFrom heads starts order at j) from a → IsLeastFrom (IsInGroup starts order link) from b
-        → begins_with (head_at heads j) (head_at heads link) ≡ true → IsLeastFrom (IsInChainFrom heads starts order link j) from (earlier a b)
-    chain-goes link from a b last n m begun =
-        let here = last.begins link refl in
-        next-map (λ p. IsInChainFrom heads starts order at j p ⊎ IsInGroup starts order link p) (IsInChainFrom heads starts order link j) from (earlier a b)
-        (λ p c. elim c [
-          | inl x ↦ (x.0, omega (arith, x.1, here.0), x.2, x.3, x.4)
-          | inr g ↦ (link, omega arith, omega (arith, here.0, before, l), begun, g)
-        ])
-        (λ p c. elim (le_split link c.0 c.1) [
-          | inl e ↦ inr (subst (λ k. IsInGroup starts order k p) (sym e) c.4)
-          | inr s ↦ elim (apart_split c.0 at) [
-            | inl t ↦ absurd (false≢true (sym (last.later link refl c.0 s t) ∙ begins_at c.0 t c.3))
-            | inr r ↦ inl (c.0, elim r [ inl e ↦ omega (arith, e) | inr t ↦ omega (arith, t) ], c.2, c.3, c.4)
-          ]
-        ])
-        (next-earlier (IsInChainFrom heads starts order at j) (IsInGroup starts order link) from a b n m)
+        → (link < at) × (begins_with (head_at heads j) (head_at heads link) ≡ true) × IsLeastFrom (IsInChainFrom heads starts order link j) from (earlier a b)
+    chain-goes link from a b last n m =
+        let before_at = link-of_text heads rising (head_at heads j) at (Some link) (omega (arith, before, l)) begins last in
+        let here = before_at.begins link refl in (
+          here.0,
+          here.1,
+          next-map (λ p. IsInChainFrom heads starts order at j p ⊎ IsInGroup starts order link p) (IsInChainFrom heads starts order link j) from (earlier a b)
+              (λ p c. elim c [
+                | inl x ↦ (x.0, omega (arith, x.1, here.0), x.2, x.3, x.4)
+                | inr g ↦ (link, omega arith, omega (arith, here.0, before, l), here.1, g)
+              ])
+              (λ p c. elim (le_split link c.0 c.1) [
+                | inl e ↦ inr (subst (λ k. IsInGroup starts order k p) (sym e) c.4)
+                | inr s ↦ elim (cases_lt c.0 at) [
+                  | inl t ↦ absurd (false≢true (sym (before_at.later link refl c.0 s t) ∙ c.3))
+                  | inr g ↦ inl (c.0, g, c.2, c.3, c.4)
+                ]
+              ])
+              (next-earlier (IsInChainFrom heads starts order at j) (IsInGroup starts order link) from a b n m),
+        )
 
     pub chain-ends : (from : ℕ) (next : Option ℕ) → IsLastFront heads at (head_at heads at) None → IsLeastFrom (IsInChainFrom heads starts order at j) from next → IsLeastFrom (IsInChain heads starts order j) from next
-    chain-ends from next last n = next-map (IsInChainFrom heads starts order at j) (IsInChain heads starts order j) from next
+    chain-ends from next last n =
+        let before_at = link-of_text heads rising (head_at heads j) at None (omega (arith, before, l)) begins last in
+        next-map (IsInChainFrom heads starts order at j) (IsInChain heads starts order j) from next
         (λ p c. (c.0, c.2, c.3, c.4))
-        (λ p c. (
-          c.0,
-          elim (apart_split c.0 at) [
-            | inl t ↦ absurd (false≢true (sym (last.none refl c.0 t) ∙ begins_at c.0 t c.2))
-            | inr r ↦ elim r [ inl e ↦ omega (arith, e) | inr t ↦ omega (arith, t) ]
-          ],
-          c.1,
-          c.2,
-          c.3,
-        ))
+        (λ p c. (c.0, elim (cases_lt c.0 at) [ inl t ↦ absurd (false≢true (sym (before_at.none refl c.0 t) ∙ c.2)) | inr g ↦ g ], c.1, c.2, c.3))
         n
 
 -- ---- as the code has the group

@@ -1,11 +1,11 @@
 -- Texts with their places, as they are numbered and as they are sorted.
-use Rattle.std.proofs.Common.{◌≡◌, ℕ, suc, zero, ◌+◌, ◌<◌, ◌≤◌, false, refl, sym, ◌∙◌, ap, subst, List, [], ◌∷◌, ◌++◌, length, get_or, arith, map, take}
+use Rattle.std.proofs.Common.{◌≡◌, ℕ, suc, zero, ◌+◌, ◌<◌, false, refl, sym, ◌∙◌, ap, subst, List, [], ◌∷◌, ◌++◌, length, get_or, arith, map, take}
 use Rattle.std.specs.Ordering.{nat_cmp, is_lt}
 use Rattle.std.specs.Cmp.{IsTotalOrder}
 use Rattle.std.specs.Cmp.Lexicographic.{slice_cmp}
 use Rattle.std.specs.List.Sorted.{IsPermutation, IsSortedBy}
 use Rattle.std.proofs.lemmas.Cmp.{nat_cmp_total, nat_list_cmp_total, then_total}
-use Rattle.std.proofs.lemmas.List.{get_or-map, length-map, map-append, take_more}
+use Rattle.std.proofs.lemmas.List.{get_or-map, length-map, map-append, take_more, get_or_default}
 use Rattle.std.proofs.Math.Seq.{take-length}
 use Rattle.std.proofs.lemmas.List.Sorted.{IsPermutation-map, IsPermutation-sym, Contains-permutation, length_permutation, ranks_by, sorted_far}
 use Rattle.pathspec_heads.specs.Heads.{head_at}
@@ -15,16 +15,6 @@ use Rattle.pathspec_heads.specs.Groups.{Placed, entry_at, placed_cmp, IsSortedPl
 abbrev pub placed_from : ℕ → List (List ℕ) → List Placed
 placed_from n [] = []
 placed_from n (t ∷ ts) = (t, n) ∷ placed_from (n + 1) ts
-
-pub get_or-inside : {X : Type 0} (xs : List X) (i : ℕ) (d e : X) → i < length xs → get_or xs i d ≡ get_or xs i e
-get_or-inside [] i d e h = absurd (omega (arith, h))
-get_or-inside (x ∷ xs) zero d e h = refl
-get_or-inside (x ∷ xs) (suc i) d e h = get_or-inside xs i d e (omega (arith, h))
-
-pub get_or-past : {X : Type 0} (xs : List X) (i : ℕ) (d : X) → length xs ≤ i → get_or xs i d ≡ d
-get_or-past [] i d h = refl
-get_or-past (x ∷ xs) zero d h = absurd (omega (arith, h))
-get_or-past (x ∷ xs) (suc i) d h = get_or-past xs i d (omega (arith, h))
 
 length-placed : (n : ℕ) (ts : List (List ℕ)) → length (placed_from n ts) ≡ length ts
 length-placed n [] = refl
@@ -78,14 +68,14 @@ sorted_places view texts xs ys numbered moved sorted =
       listed = λ p l.
           let x : Placed = (head_at texts p, p) in
           let inside : p < length (placed_from 0 texts) = omega (arith, l, length-placed 0 texts) in
-          let is : get_or (placed_from 0 texts) p x ≡ x = get_or-inside (placed_from 0 texts) p x ([], 0) inside ∙ (placed-at 0 texts p l ∙ ap (λ m. (head_at texts p, m)) (omega arith)) in
+          let is : get_or (placed_from 0 texts) p x ≡ x = get_or_default (placed_from 0 texts) p x ([], 0) inside ∙ (placed-at 0 texts p l ∙ ap (λ m. (head_at texts p, m)) (omega arith)) in
           let found = Contains-permutation (placed_from 0 texts) zs x perm (p, inside, is) in
-          (found.0, found.1, get_or-inside zs found.0 ([], 0) x found.1 ∙ found.2);
+          (found.0, found.1, get_or_default zs found.0 ([], 0) x found.1 ∙ found.2);
       meant = λ j l.
           let x : Placed = entry_at zs j in
-          let found = Contains-permutation zs (placed_from 0 texts) x (IsPermutation-sym (placed_from 0 texts) zs perm) (j, l, get_or-inside zs j x ([], 0) l) in
+          let found = Contains-permutation zs (placed_from 0 texts) x (IsPermutation-sym (placed_from 0 texts) zs perm) (j, l, get_or_default zs j x ([], 0) l) in
           let inside : found.0 < length texts = omega (arith, found.1, length-placed 0 texts) in
-          let is : (head_at texts found.0, 0 + found.0) ≡ x = sym (placed-at 0 texts found.0 inside) ∙ (get_or-inside (placed_from 0 texts) found.0 ([], 0) x found.1 ∙ found.2) in
+          let is : (head_at texts found.0, 0 + found.0) ≡ x = sym (placed-at 0 texts found.0 inside) ∙ (get_or_default (placed_from 0 texts) found.0 ([], 0) x found.1 ∙ found.2) in
           let place : found.0 ≡ x.1 = omega (arith, ap (λ (y : Placed). y.1) is) in
           (subst (λ m. m < length texts) place inside, sym (ap (λ (y : Placed). y.0) is) ∙ ap (head_at texts) place);
     }

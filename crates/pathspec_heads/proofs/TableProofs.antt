@@ -1,52 +1,16 @@
 -- What the lists of a table answer is what the stems do.
-use Rattle.std.proofs.Common.{◌≡◌, ℕ, suc, zero, ◌<◌, Bool, true, false, not, ◌&&◌, ◌||◌, refl, sym, ◌∙◌, ap, List, [], ◌∷◌, length, arith, Option, Some, None, map, filter, if◌then◌else◌, cond}
+use Rattle.std.proofs.Common.{◌≡◌, ℕ, Bool, true, false, not, ◌&&◌, ◌||◌, refl, sym, ◌∙◌, ap, List, Some, None, map, filter, if◌then◌else◌, bytes_eq}
 use Rattle.std.specs.List.{list_any}
+use Rattle.std.proofs.lemmas.Bool.{and_parts, not-true}
 use Rattle.std.proofs.lemmas.Simd.{map-map}
 use Rattle.pathspec_glob.specs.Bytes.{fold_case}
-use Rattle.pathspec_heads.specs.Heads.{head_at}
 use Rattle.pathspec_heads.specs.declared.tables.Kind.{Kind}
 use Rattle.pathspec_heads.specs.declared.tables.Kind.TheVariants.{Wild, Literal, Directory}
-use Rattle.pathspec_heads.specs.Stems.{leads_to, lies_below, HasSameTexts}
-use Rattle.pathspec_heads.specs.Tables.{StemParts, TextLists, TextTable, stem_reaches, stem_takes_only_below, has_kind, is_of_kind, texts_of, IsListed, IsTableOf, directory_reaches, lists_reach}
-use Rattle.pathspec_heads.proofs.StemProofs.{any-some, any-ext, same-test}
-
--- ---- tests of lists
-
-pub any-at : (p : List ℕ → Bool) (xs : List (List ℕ)) → list_any p xs ≡ true → (k : ℕ) × (k < length xs) × (p (head_at xs k) ≡ true)
-any-at p [] h = cc
-any-at p (x ∷ xs) h = here (p x) refl (any-at p xs)
-  where
-    here : (b : Bool) → p x ≡ b → (list_any p xs ≡ true → (k : ℕ) × (k < length xs) × (p (head_at xs k) ≡ true)) → (k : ℕ) × (k < length (x ∷ xs)) × (p (head_at (x ∷ xs) k) ≡ true)
-    here true e later = (zero, omega arith, e)
-    here false e later = let r = later (sym (ap (λ b. b || list_any p xs) e) ∙ h) in (suc r.0, omega (arith, r.1), r.2)
-
--- lists of the same texts answer the same
-pub any-same : (p : List ℕ → Bool) (texts others : List (List ℕ)) → HasSameTexts texts others → list_any p others ≡ list_any p texts
-any-same p texts others same = same-test (list_any p others) (list_any p texts)
-    (λ h. let r = any-at p others h in let s = same.back r.0 r.1 in any-some p texts s.0 s.1 (sym (ap p s.2) ∙ r.2))
-    (λ h. let r = any-at p texts h in let s = same.there r.0 r.1 in any-some p others s.0 s.1 (ap p s.2 ∙ r.2))
-
-or-apart : (a b c d : Bool) → ((a || b) || (c || d)) ≡ ((a || c) || (b || d))
-or-apart true b c d = refl
-or-apart false true true d = refl
-or-apart false true false d = refl
-or-apart false false c d = refl
-
-pub any-or : {X : Type 0} (p q : X → Bool) (xs : List X) → list_any (λ x. p x || q x) xs ≡ (list_any p xs || list_any q xs)
-any-or p q [] = refl
-any-or p q (x ∷ xs) = ap (λ b. (p x || q x) || b) (any-or p q xs) ∙ or-apart (p x) (q x) (list_any p xs) (list_any q xs)
-
--- a test of what is made of the elements that another test keeps
-pub any-kept : {X Y : Type 0} (p : Y → Bool) (make : X → Y) (keep q : X → Bool) → ((x : X) → keep x ≡ true → p (make x) ≡ q x) → (xs : List X) → list_any p (map make (filter keep xs)) ≡ list_any (λ x. keep x && q x) xs
-any-kept p make keep q e [] = refl
-any-kept p make keep q e (x ∷ xs) = here (keep x) refl (any-kept p make keep q e xs)
-  where
-    here : (b : Bool) → keep x ≡ b → list_any p (map make (filter keep xs)) ≡ list_any (λ y. keep y && q y) xs
-        → list_any p (map make (cond (keep x) (x ∷ filter keep xs) (filter keep xs))) ≡ ((keep x && q x) || list_any (λ y. keep y && q y) xs)
-    here true h later = rw (h, e x h, later) refl
-    here false h later = rw (h, later) refl
-
--- ---- the texts of a kind
+use Rattle.pathspec_heads.specs.declared.tables.Question.{Question}
+use Rattle.pathspec_heads.specs.declared.tables.Question.TheVariants.{Reaches, Takes}
+use Rattle.pathspec_heads.specs.Stems.{lies_below}
+use Rattle.pathspec_heads.specs.Tables.{StemParts, TextLists, TextTable, stem_reaches, stem_answers, text_answers, has_kind, is_of_kind, texts_of, IsListed, IsTableOf, lists_answer}
+use Rattle.pathspec_heads.proofs.AnyProofs.{any-ext, any-same, any-or, any-kept}
 
 pub folded-texts : (ignore_case : Bool) (kind : Kind) (stems : List StemParts) → ignore_case ≡ true → map (fold_case true) (map (λ (s : StemParts). s.text) (filter (is_of_kind ignore_case kind) stems)) ≡ texts_of ignore_case kind stems
 folded-texts false kind stems e = cc
@@ -54,127 +18,103 @@ folded-texts true kind stems e = map-map (fold_case true) (λ (s : StemParts). s
 
 -- ---- what the kind of a stem says
 
-and-first : (a b : Bool) → (a && b) ≡ true → a ≡ true
-and-first true b h = refl
-and-first false b h = h
+case-is : (b : Bool) (kind : Kind) (s : StemParts) → is_of_kind b kind s ≡ true → s.ignores_case ≡ b
+case-is true kind s h = (and_parts s.ignores_case (has_kind kind s) h).0
+case-is false kind s h = not-true s.ignores_case (and_parts (not s.ignores_case) (has_kind kind s) h).0
 
-and-second : (a b : Bool) → (a && b) ≡ true → b ≡ true
-and-second true b h = h
-and-second false b h = cc
+kind-is : (b : Bool) (kind : Kind) (s : StemParts) → is_of_kind b kind s ≡ true → has_kind kind s ≡ true
+kind-is b kind s h = (and_parts (if b then s.ignores_case else not s.ignores_case) (has_kind kind s) h).1
 
-pub not-true : (a : Bool) → not a ≡ true → a ≡ false
-not-true true h = cc
-not-true false h = refl
+-- ---- one stem
 
-pub case-is : (b : Bool) (kind : Kind) (s : StemParts) → is_of_kind b kind s ≡ true → s.ignores_case ≡ b
-case-is true kind s h = and-first s.ignores_case (has_kind kind s) h
-case-is false kind s h = not-true s.ignores_case (and-first (not s.ignores_case) (has_kind kind s) h)
+module _ (d : List ℕ) where
+  -- what a stem of a text answers, by what else it says
+  abbrev says : Question → List ℕ → Bool → Bool → Bool → Bool
+  says question text ignores wild wants = stem_answers question (record { text = text; ignores_case = ignores; has_wildcard = wild; wants_directory = wants }) d
 
-pub kind-is : (b : Bool) (kind : Kind) (s : StemParts) → is_of_kind b kind s ≡ true → has_kind kind s ≡ true
-kind-is b kind s h = and-second (if b then s.ignores_case else not s.ignores_case) (has_kind kind s) h
+  always : (a b : Bool) → (a || b) ≡ (a && true || b)
+  always true b = refl
+  always false b = refl
+
+  never : (a b : Bool) → b ≡ (a && false || b)
+  never true b = refl
+  never false b = refl
+
+  wild-says : (q : Question) (text : List ℕ) (b wants : Bool) → text_answers Wild q (fold_case b text) (fold_case b d) ≡ says q text b true wants
+  unfolding stem_reaches
+  wild-says (Reaches None) text b wants = refl
+  wild-says (Reaches (Some true)) text b wants = refl
+  wild-says (Reaches (Some false)) text b true = refl
+  wild-says (Reaches (Some false)) text b false = refl
+  wild-says (Takes is_dir) text b wants = refl
+
+  literal-says : (q : Question) (text : List ℕ) (b : Bool) → text_answers Literal q (fold_case b text) (fold_case b d) ≡ says q text b false false
+  unfolding stem_reaches
+  literal-says (Reaches None) text b = refl
+  literal-says (Reaches (Some true)) text b = refl
+  literal-says (Reaches (Some false)) text b = refl
+  literal-says (Takes is_dir) text b = always (bytes_eq (fold_case b d) (fold_case b text)) (lies_below (fold_case b text) (fold_case b d))
+
+  directory-says : (q : Question) (text : List ℕ) (b : Bool) → text_answers Directory q (fold_case b text) (fold_case b d) ≡ says q text b false true
+  unfolding stem_reaches
+  directory-says (Reaches None) text b = refl
+  directory-says (Reaches (Some true)) text b = refl
+  directory-says (Reaches (Some false)) text b = refl
+  directory-says (Takes true) text b = always (bytes_eq (fold_case b d) (fold_case b text)) (lies_below (fold_case b text) (fold_case b d))
+  directory-says (Takes false) text b = never (bytes_eq (fold_case b d) (fold_case b text)) (lies_below (fold_case b text) (fold_case b d))
+
+  -- a text of a kind answers as its stem does
+  kind-answers : (q : Question) (b : Bool) (kind : Kind) (s : StemParts) → is_of_kind b kind s ≡ true → text_answers kind q (fold_case b s.text) (fold_case b d) ≡ stem_answers q s d
+  kind-answers q b Wild s h = wild-says q s.text b s.wants_directory ∙ sym (rw (case-is b Wild s h, kind-is b Wild s h) refl)
+  kind-answers q b Literal s h =
+      let k = kind-is b Literal s h in
+      literal-says q s.text b ∙ sym (rw (case-is b Literal s h, not-true s.has_wildcard (and_parts (not s.has_wildcard) (not s.wants_directory) k).0, not-true s.wants_directory (and_parts (not s.has_wildcard) (not s.wants_directory) k).1) refl)
+  kind-answers q b Directory s h =
+      let k = kind-is b Directory s h in
+      directory-says q s.text b ∙ sym (rw (case-is b Directory s h, not-true s.has_wildcard (and_parts (not s.has_wildcard) s.wants_directory k).0, (and_parts (not s.has_wildcard) s.wants_directory k).1) refl)
 
 -- ---- the lists of stems
 
-module _ (d : List ℕ) (is_dir : Option Bool) where
-  -- what a text of this kind answers
-  abbrev text_reaches : Bool → Kind → List ℕ → Bool
-  text_reaches b Wild t = leads_to t true (fold_case b d)
-  text_reaches b Literal t = leads_to t false (fold_case b d)
-  text_reaches b Directory t = directory_reaches t (fold_case b d) is_dir
+module _ (d : List ℕ) (q : Question) where
+  -- it stands in the lists without case, or in those with case
+  abbrev pub stands_in : Bool → StemParts → Bool
+  stands_in b s = if b then s.ignores_case else not s.ignores_case
 
-  -- the stem has this kind, and reaches the path
+  -- the stem has this kind, and answers yes
   abbrev part : Bool → Kind → StemParts → Bool
-  part b kind s = is_of_kind b kind s && stem_reaches s d is_dir
+  part b kind s = is_of_kind b kind s && stem_answers q s d
 
-  reaches-as : (s : StemParts) (below : Bool) → stem_takes_only_below s is_dir ≡ below → stem_reaches s d is_dir
-      ≡ (if below then lies_below (fold_case s.ignores_case s.text) (fold_case s.ignores_case d) else leads_to (fold_case s.ignores_case s.text) s.has_wildcard (fold_case s.ignores_case d))
-  unfolding stem_reaches
-  reaches-as s below h = rw h refl
-
-  wild-above : (s : StemParts) → s.has_wildcard ≡ true → stem_takes_only_below s is_dir ≡ false
-  wild-above s w = here is_dir
-    where
-      both : (a b : Bool) → b ≡ true → (a && not b) ≡ false
-      both true b h = ap not h
-      both false b h = refl
-
-      here : (o : Option Bool) → stem_takes_only_below s o ≡ false
-      here None = refl
-      here (Some true) = refl
-      here (Some false) = both s.wants_directory s.has_wildcard w
-
-  literal-above : (s : StemParts) → s.wants_directory ≡ false → stem_takes_only_below s is_dir ≡ false
-  literal-above s w = here is_dir
-    where
-      here : (o : Option Bool) → stem_takes_only_below s o ≡ false
-      here None = refl
-      here (Some true) = refl
-      here (Some false) = rw w refl
-
-  -- a stem without a wildcard that wants a directory
-  directory-as : (s : StemParts) → s.wants_directory ≡ true → s.has_wildcard ≡ false
-      → stem_reaches s d is_dir ≡ directory_reaches (fold_case s.ignores_case s.text) (fold_case s.ignores_case d) is_dir
-  directory-as s k w = here is_dir refl
-    where
-      here : (o : Option Bool) → is_dir ≡ o → stem_reaches s d is_dir ≡ directory_reaches (fold_case s.ignores_case s.text) (fold_case s.ignores_case d) is_dir
-      here None e = reaches-as s false (rw e refl) ∙ rw (e, w) refl
-      here (Some true) e = reaches-as s false (rw e refl) ∙ rw (e, w) refl
-      here (Some false) e = reaches-as s true (rw (e, k, w) refl) ∙ rw e refl
-
-  -- a text of a kind answers as its stem does
-  reaches-kind : (b : Bool) (kind : Kind) (s : StemParts) → is_of_kind b kind s ≡ true → text_reaches b kind (fold_case b s.text) ≡ stem_reaches s d is_dir
-  reaches-kind b Wild s h =
-      let e = case-is b Wild s h in
-      let w = kind-is b Wild s h in
-      sym (reaches-as s false (wild-above s w) ∙ rw (e, w) refl)
-  reaches-kind b Literal s h =
-      let e = case-is b Literal s h in
-      let q = kind-is b Literal s h in
-      let w = not-true s.has_wildcard (and-first (not s.has_wildcard) (not s.wants_directory) q) in
-      let k = not-true s.wants_directory (and-second (not s.has_wildcard) (not s.wants_directory) q) in
-      sym (reaches-as s false (literal-above s k) ∙ rw (e, w) refl)
-  reaches-kind b Directory s h =
-      let e = case-is b Directory s h in
-      let q = kind-is b Directory s h in
-      let w = not-true s.has_wildcard (and-first (not s.has_wildcard) s.wants_directory q) in
-      let k = and-second (not s.has_wildcard) s.wants_directory q in
-      sym (directory-as s k w ∙ rw e refl)
+  part-texts : (b : Bool) (kind : Kind) (stems : List StemParts) → list_any (λ s. part b kind s) stems ≡ list_any (λ t. text_answers kind q t (fold_case b d)) (texts_of b kind stems)
+  part-texts b kind stems = sym (any-kept (λ t. text_answers kind q t (fold_case b d)) (λ s. fold_case b s.text) (λ s. is_of_kind b kind s) (λ s. stem_answers q s d) (kind-answers d q b kind) stems)
 
   -- each stem has one kind
-  six : (c w k p : Bool) → p
-      ≡ (((not c && w) && p || (not c && (not w && not k)) && p || (not c && (not w && k)) && p) || ((c && w) && p || (c && (not w && not k)) && p || (c && (not w && k)) && p))
-  six true true k true = refl
-  six true true k false = refl
-  six true false true true = refl
-  six true false true false = refl
-  six true false false true = refl
-  six true false false false = refl
-  six false true k true = refl
-  six false true k false = refl
-  six false false true true = refl
-  six false false true false = refl
-  six false false false true = refl
-  six false false false false = refl
+  three : (c w k p : Bool) → (c && p) ≡ ((c && w) && p || (c && (not w && not k)) && p || (c && (not w && k)) && p)
+  three false w k p = refl
+  three true true k true = refl
+  three true true k false = refl
+  three true false true p = refl
+  three true false false true = refl
+  three true false false false = refl
 
-  abbrev some_part : Bool → StemParts → Bool
-  some_part b s = part b Wild s || part b Literal s || part b Directory s
-
-  part-texts : (b : Bool) (kind : Kind) (stems : List StemParts) → list_any (λ s. part b kind s) stems ≡ list_any (λ t. text_reaches b kind t) (texts_of b kind stems)
-  part-texts b kind stems = sym (any-kept (λ t. text_reaches b kind t) (λ s. fold_case b s.text) (λ s. is_of_kind b kind s) (λ s. stem_reaches s d is_dir) (reaches-kind b kind) stems)
-
-  listed : (b : Bool) (stems : List StemParts) (lists : TextLists) → IsListed b stems lists → list_any (λ s. some_part b s) stems ≡ lists_reach b lists d is_dir
+  pub listed : (b : Bool) (stems : List StemParts) (lists : TextLists) → IsListed b stems lists → list_any (λ s. (if b then s.ignores_case else not s.ignores_case) && stem_answers q s d) stems ≡ lists_answer b lists q d
   listed b stems lists l =
-      let wild = part-texts b Wild stems ∙ sym (any-same (λ t. text_reaches b Wild t) (texts_of b Wild stems) lists.wild l.wild) in
-      let literal = part-texts b Literal stems ∙ sym (any-same (λ t. text_reaches b Literal t) (texts_of b Literal stems) lists.literal l.literal) in
-      let directory = part-texts b Directory stems ∙ sym (any-same (λ t. text_reaches b Directory t) (texts_of b Directory stems) lists.directory l.directory) in
-      any-or (λ s. part b Wild s || part b Literal s) (λ s. part b Directory s) stems
-      ∙ (ap (λ q. q || list_any (λ s. part b Directory s) stems) (any-or (λ s. part b Wild s) (λ s. part b Literal s) stems)
-      ∙ rw (wild, literal, directory) refl)
+      let wild = part-texts b Wild stems ∙ sym (any-same (λ t. text_answers Wild q t (fold_case b d)) (texts_of b Wild stems) lists.wild l.wild) in
+      let literal = part-texts b Literal stems ∙ sym (any-same (λ t. text_answers Literal q t (fold_case b d)) (texts_of b Literal stems) lists.literal l.literal) in
+      let directory = part-texts b Directory stems ∙ sym (any-same (λ t. text_answers Directory q t (fold_case b d)) (texts_of b Directory stems) lists.directory l.directory) in
+      any-ext (λ s. stands_in b s && stem_answers q s d) (λ s. part b Wild s || part b Literal s || part b Directory s) (λ s. three (stands_in b s) s.has_wildcard s.wants_directory (stem_answers q s d)) stems
+      ∙ (any-or (λ s. part b Wild s || part b Literal s) (λ s. part b Directory s) stems
+      ∙ (ap (λ r. r || list_any (λ s. part b Directory s) stems) (any-or (λ s. part b Wild s) (λ s. part b Literal s) stems)
+      ∙ rw (wild, literal, directory) refl))
+
+  -- and case counts for it or not
+  either-case : (c p : Bool) → p ≡ ((not c && p) || (c && p))
+  either-case true p = refl
+  either-case false true = refl
+  either-case false false = refl
 
   -- the lists of a table answer what its stems do
-  pub table-reaches : (stems : List StemParts) (table : TextTable) → IsTableOf stems table
-      → (lists_reach false table.exact d is_dir || lists_reach true table.folded d is_dir) ≡ list_any (λ s. stem_reaches s d is_dir) stems
-  table-reaches stems table t =
-      sym (any-ext (λ s. stem_reaches s d is_dir) (λ s. some_part false s || some_part true s) (λ s. six s.ignores_case s.has_wildcard s.wants_directory (stem_reaches s d is_dir)) stems
-      ∙ (any-or (λ s. some_part false s) (λ s. some_part true s) stems
+  pub table-answers : (stems : List StemParts) (table : TextTable) → IsTableOf stems table → (lists_answer false table.exact q d || lists_answer true table.folded q d) ≡ list_any (λ s. stem_answers q s d) stems
+  table-answers stems table t =
+      sym (any-ext (λ s. stem_answers q s d) (λ s. (stands_in false s && stem_answers q s d) || (stands_in true s && stem_answers q s d)) (λ s. either-case s.ignores_case (stem_answers q s d)) stems
+      ∙ (any-or (λ s. stands_in false s && stem_answers q s d) (λ s. stands_in true s && stem_answers q s d) stems
       ∙ rw (listed false stems table.exact t.exact, listed true stems table.folded t.folded) refl))

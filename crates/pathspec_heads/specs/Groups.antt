@@ -1,11 +1,11 @@
 -- Places in groups: those that have one head.
-use Rattle.std.specs.Prelude.{◌≡◌, ℕ, ◌+◌, ◌-◌, ◌<◌, ◌≤◌, Bool, true, false, not, ◌&&◌, List, [], ◌∷◌, ◌++◌, length, get_or, bytes_eq, min, Option, Some, None, IfSome, IsSomeAnd}
-use Rattle.pathspec_glob.specs.Bytes.{is_empty, begins_with}
+use Rattle.std.specs.Prelude.{◌≡◌, ℕ, ◌+◌, ◌<◌, ◌≤◌, true, false, List, [], ◌∷◌, ◌++◌, length, get_or, min, Option, Some, None, IfSome, IsSomeAnd}
+use Rattle.pathspec_glob.specs.Bytes.{begins_with}
 use Rattle.pathspec_glob.specs.GlobCells.{has}
 use Rattle.std.specs.Ordering.{nat_cmp, ordering_then, is_lt}
 use Rattle.std.specs.declared.cmp.Ordering.{Ordering}
 use Rattle.std.specs.Cmp.Lexicographic.{slice_cmp}
-use Rattle.pathspec_heads.specs.Heads.{head_at, IsRising}
+use Rattle.pathspec_heads.specs.Heads.{head_at, IsRising, ends_with_head}
 
 -- a head and the place that has it
 abbrev pub Placed : Type 0
@@ -78,6 +78,11 @@ pub record HasBitsOf (word : ℕ) (is_in : ℕ → Type 0) : Type 0 where
 abbrev pub AreWords : GroupedPlaces → List ℕ → Type 0
 AreWords places words = (k : ℕ) → k < length words → HasBitsOf (get_or words k 0) (IsInChain places.heads places.starts places.order k)
 
+-- groups of places, and their words
+pub record ArePlaces (heads : List (List ℕ)) (starts order words : List ℕ) : Type 0 where
+  pub grouped : IsOrder heads starts order
+  pub known : AreWords (record { heads = heads; starts = starts; order = order }) words
+
 -- the lesser of two numbers, of those that are there
 abbrev pub earlier : Option ℕ → Option ℕ → Option ℕ
 earlier None right = right
@@ -91,6 +96,7 @@ pub record IsLeastFrom (has : ℕ → Type 0) (from : ℕ) (next : Option ℕ) :
 
 -- entry by entry, the groups of the first so many entries
 pub record IsGroupedFront (entries : List Placed) (count : ℕ) (heads : List (List ℕ)) (starts order : List ℕ) : Type 0 where
+  pub few : length heads ≤ count
   pub all : length starts ≡ length heads
   pub counted : length order ≡ count
   pub places : (j : ℕ) → j < count → get_or order j 0 ≡ (entry_at entries j).1
@@ -98,10 +104,6 @@ pub record IsGroupedFront (entries : List Placed) (count : ℕ) (heads : List (L
   pub headed : (k j : ℕ) → k < length heads → start_of starts k ≤ j → j < end_of starts order k → (entry_at entries j).0 ≡ head_at heads k
   pub covered : (j : ℕ) → j < count → (k : ℕ) × (k < length heads) × (start_of starts k ≤ j) × (j < end_of starts order k)
   pub rising : IsRising heads
-
--- the last of the heads is this one
-abbrev pub ends_with_head : List (List ℕ) → List ℕ → Bool
-ends_with_head heads head = not (is_empty heads) && bytes_eq (head_at heads (length heads - 1)) head
 
 -- The place is put behind the others, and where its head isn't the last one, a group of that head is begun.
 pub record AddsPlace (heads : List (List ℕ)) (starts order : List ℕ) (heads' : List (List ℕ)) (starts' order' : List ℕ) (head : List ℕ) (place : ℕ) : Type 0 where

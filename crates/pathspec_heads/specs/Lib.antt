@@ -2,6 +2,5 @@ pub mod Agreement
 pub mod Heads
 pub mod Groups
 pub mod Stems
+pub mod Relations
 pub mod Tables
-pub mod PathTables
-pub mod Looks

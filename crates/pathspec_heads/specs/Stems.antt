@@ -1,5 +1,5 @@
 -- How stems and the path of a directory lead to one another.
-use Rattle.std.specs.Prelude.{◌≡◌, ℕ, ◌<◌, Bool, true, ◌&&◌, ◌||◌, List, [], ◌∷◌, ◌++◌, length, get_or, nat_lt, ◌==◌, bytes_eq}
+use Rattle.std.specs.Prelude.{◌≡◌, ℕ, ◌<◌, Bool, ◌&&◌, ◌||◌, List, [], ◌∷◌, ◌++◌, length, get_or, nat_lt, ◌==◌, bytes_eq}
 use Rattle.pathspec_glob.specs.Bytes.{slash, fold_case, begins_with}
 use Rattle.pathspec_heads.specs.Heads.{head_at}
 
@@ -24,17 +24,6 @@ pub record HasSameTexts (texts others : List (List ℕ)) : Type 0 where
   pub there : (i : ℕ) → i < length texts → (k : ℕ) × (k < length others) × (head_at others k ≡ head_at texts i)
   pub back : (k : ℕ) → k < length others → (i : ℕ) × (i < length texts) × (head_at others k ≡ head_at texts i)
 
--- some of the texts has this property, and none of them has it
-abbrev pub SomeText : List (List ℕ) → (List ℕ → Type 0) → Type 0
-SomeText texts P = (k : ℕ) × (k < length texts) × P (head_at texts k)
-
-abbrev pub NoText : List (List ℕ) → (List ℕ → Type 0) → Type 0
-NoText texts P = (k : ℕ) → k < length texts → ¬ (P (head_at texts k))
-
--- the text is shorter than this, and a slash stands in the path where it ends
+-- the stem begins the path and a slash, is shorter than this, and a slash stands there where it ends
 abbrev pub is_boundary : List ℕ → ℕ → List ℕ → Bool
-is_boundary path limit text = nat_lt (length text) limit && get_or path (length text) 0 == slash
-
--- such a text that begins a stem
-abbrev pub IsBoundary : List ℕ → ℕ → List ℕ → List ℕ → Type 0
-IsBoundary path limit stem text = (begins_with stem text ≡ true) × (is_boundary path limit text ≡ true)
+is_boundary path limit stem = begins_with path stem && (nat_lt (length stem) limit && get_or path (length stem) 0 == slash)

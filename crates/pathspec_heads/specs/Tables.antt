@@ -1,10 +1,15 @@
--- What the stem of a spec reaches, and the lists of stems that a table keeps.
-use Rattle.std.specs.Prelude.{ℕ, Bool, true, false, not, ◌&&◌, ◌||◌, List, map, filter, if◌then◌else◌, Option, Some, None}
+-- What the stem of a spec reaches and takes, and the lists of stems that a table keeps.
+use Rattle.std.specs.Prelude.{ℕ, Bool, true, false, not, ◌&&◌, ◌||◌, List, map, filter, if◌then◌else◌, Option, Some, None, bytes_eq}
 use Rattle.std.specs.List.{list_any}
 use Rattle.pathspec_glob.specs.Bytes.{fold_case}
 use Rattle.pathspec_heads.specs.declared.tables.Kind.{Kind}
 use Rattle.pathspec_heads.specs.declared.tables.Kind.TheVariants.{Wild, Literal, Directory}
+use Rattle.pathspec_heads.specs.declared.tables.Question.{Question}
+use Rattle.pathspec_heads.specs.declared.tables.Question.TheVariants.{Reaches, Takes}
+use Rattle.pathspec_heads.specs.declared.stems.Relation.{Relation}
+use Rattle.pathspec_heads.specs.declared.stems.Relation.TheVariants.{Below, AtOrBelow, LeadsTo, LeadsToWild}
 use Rattle.pathspec_heads.specs.Stems.{leads_to, lies_below, HasSameTexts}
+use Rattle.pathspec_heads.specs.Relations.{is_related}
 
 -- a stem, and what its spec says
 pub record StemParts : Type 0 where
@@ -24,6 +29,28 @@ unfoldable pub stem_reaches : StemParts → List ℕ → Option Bool → Bool
 stem_reaches s path is_dir =
     if stem_takes_only_below s is_dir then lies_below (fold_case s.ignores_case s.text) (fold_case s.ignores_case path)
     else leads_to (fold_case s.ignores_case s.text) s.has_wildcard (fold_case s.ignores_case path)
+
+-- A stem takes a path where no wildcard follows it and it is the path, which is a directory where one is wanted, or the path lies below it; without case where the stem has none.
+abbrev pub path_takes : StemParts → List ℕ → Bool → Bool
+path_takes s path is_dir =
+    not s.has_wildcard && (bytes_eq (fold_case s.ignores_case path) (fold_case s.ignores_case s.text) && (not s.wants_directory || is_dir) || lies_below (fold_case s.ignores_case s.text) (fold_case s.ignores_case path))
+
+-- the stem's answer to a question about the path
+abbrev pub stem_answers : Question → StemParts → List ℕ → Bool
+stem_answers (Reaches is_dir) s path = stem_reaches s path is_dir
+stem_answers (Takes is_dir) s path = path_takes s path is_dir
+
+-- how a path is related to a text of a kind that answers yes
+abbrev pub relation_of : Kind → Question → Option Relation
+relation_of Wild (Reaches is_dir) = Some LeadsToWild
+relation_of Wild (Takes is_dir) = None
+relation_of Literal (Reaches is_dir) = Some LeadsTo
+relation_of Literal (Takes is_dir) = Some AtOrBelow
+relation_of Directory (Reaches (Some false)) = Some Below
+relation_of Directory (Reaches (Some true)) = Some LeadsTo
+relation_of Directory (Reaches None) = Some LeadsTo
+relation_of Directory (Takes false) = Some Below
+relation_of Directory (Takes true) = Some AtOrBelow
 
 -- a wildcard follows the stem; or none does, and it wants a directory or not
 abbrev pub has_kind : Kind → StemParts → Bool
@@ -61,14 +88,12 @@ pub record IsTableOf (stems : List StemParts) (table : TextTable) : Type 0 where
   pub exact : IsListed false stems table.exact
   pub folded : IsListed true stems table.folded
 
--- a text that wants a directory reaches the path; a file only below it
-abbrev pub directory_reaches : List ℕ → List ℕ → Option Bool → Bool
-directory_reaches text path (Some false) = lies_below text path
-directory_reaches text path (Some true) = leads_to text false path
-directory_reaches text path None = leads_to text false path
+-- a text of a kind answers yes
+abbrev pub text_answers : Kind → Question → List ℕ → List ℕ → Bool
+text_answers kind question text path = is_related (relation_of kind question) text path
 
--- a text of the lists reaches the path
-abbrev pub lists_reach : Bool → TextLists → List ℕ → Option Bool → Bool
-lists_reach ignore_case lists path is_dir =
+-- a text of the lists does
+abbrev pub lists_answer : Bool → TextLists → Question → List ℕ → Bool
+lists_answer ignore_case lists question path =
     let d = fold_case ignore_case path in
-    list_any (λ t. leads_to t true d) lists.wild || list_any (λ t. leads_to t false d) lists.literal || list_any (λ t. directory_reaches t d is_dir) lists.directory
+    list_any (λ t. text_answers Wild question t d) lists.wild || list_any (λ t. text_answers Literal question t d) lists.literal || list_any (λ t. text_answers Directory question t d) lists.directory

@@ -1,11 +1,13 @@
-//! Places in groups by their heads.
-ghost use Rattle.std.specs.Prelude.{◌≡◌, map, length, IfOk};
-ghost use Rattle.pathspec_heads.specs.Groups.{IsSortedPlaces, IsAscending, IsGroupedFront, ends_with_head};
+//! Places in groups, one for each head.
+ghost use Rattle.std.specs.Prelude.{◌≡◌, [], ◌∷◌, ◌++◌, false, map, IfOk};
+ghost use Rattle.pathspec_heads.specs.Heads.{ends_with_head, IsRising};
+ghost use Rattle.pathspec_heads.specs.Groups.{IsSortedPlaces, IsOrder, IsGrouped};
 
+use crate::sorted_texts::SortedTexts;
 use std::alloc::{AllocError, Global};
 
-/// Each text with its place, ordered by the texts, and those of one text by their places.
-pub fn sorted<'t>(alloc: Global, texts: &[&'t [u8]]) -> Result<Vec<(&'t [u8], usize)>, AllocError>
+/// The texts with their places, sorted by the texts, and equal texts by their places.
+fn sorted<'t>(alloc: Global, texts: &[&'t [u8]]) -> Result<Vec<(&'t [u8], usize)>, AllocError>
     ensures { IfOk result (λ entries. IsSortedPlaces (map (λ text. text.now) texts.now)
         (map (λ entry. (entry.0.now, entry.1)) entries.items)) }
 {
@@ -17,35 +19,26 @@ pub fn sorted<'t>(alloc: Global, texts: &[&'t [u8]]) -> Result<Vec<(&'t [u8], us
     Ok(entries)
 }
 
-/// Places by their heads: each head once, where its group begins, and the places group by group.
+/// Places grouped by their heads: each head once, where its group begins, and the places group by group.
 #[derive(Drop)]
-pub struct Groups<'t> {
-    pub heads: Vec<&'t [u8]>,
-    pub starts: Vec<usize>,
-    pub order: Vec<usize>,
+pub(crate) struct Groups {
+    pub(crate) heads: SortedTexts,
+    pub(crate) starts: Vec<usize>,
+    pub(crate) order: Vec<usize>,
 }
 
-/// Whether the last of these heads is this one.
-fn ends_with(heads: &[&[u8]], head: &[u8]) -> bool
-    ensures { result ≡ ends_with_head (map (λ head. head.now) heads.now) head.now }
-{
-    match heads.last() {
-        Some(last) => *last == head,
-        None => false,
-    }
-}
-
-impl<'t> Groups<'t> {
+impl Groups {
     ghost use Rattle.pathspec_heads.specs.Groups.{AddsPlace};
 
-    /// Adds a place to the last group, or to a new one where the last has another head.
-    fn add(&mut self, head: &'t [u8], place: usize) -> Result<(), AllocError>
-        ensures { IfOk result (λ _. AddsPlace
-            (map (λ head. head.now) self.old.heads.items) self.old.starts.items
-            self.old.order.items (map (λ head. head.now) self.new.heads.items)
-            self.new.starts.items self.new.order.items head.now place) }
+    /// Adds a place to the last group, or to a new one if the last has another head.
+    fn add(&mut self, head: &[u8], place: usize) -> Result<(), AllocError>
+        requires { ends_with_head self.old.heads head.now ≡ false
+            → IsRising (self.old.heads ++ head.now ∷ []) }
+        ensures { IfOk result (λ _. AddsPlace self.old.heads self.old.starts.items
+            self.old.order.items self.new.heads self.new.starts.items self.new.order.items
+            head.now place) }
     {
-        if !ends_with(&self.heads, head) {
+        if !self.heads.ends_with(head) {
             self.starts.push(self.order.len())?;
             self.heads.push(head)?;
         }
@@ -54,18 +47,18 @@ impl<'t> Groups<'t> {
     }
 }
 
-/// The groups of the places that have these heads.
-pub fn grouped<'t>(alloc: Global, entries: &[(&'t [u8], usize)]) -> Result<Groups<'t>, AllocError>
-    requires { IsAscending (map (λ entry. (entry.0.now, entry.1)) entries.now) }
-    ensures { IfOk result (λ groups. IsGroupedFront
-        (map (λ entry. (entry.0.now, entry.1)) entries.now)
-        (length entries.now) (map (λ head. head.now) groups.heads.items) groups.starts.items
-        groups.order.items) }
+/// Groups the places of heads by head, where the place of a head is its index in the list. The cost is that of a sort.
+pub(crate) fn grouped(alloc: Global, heads: &[&[u8]]) -> Result<Groups, AllocError>
+    ensures order { IfOk result (λ groups.
+        IsOrder groups.heads groups.starts.items groups.order.items) }
+    ensures grouped { IfOk result (λ groups. IsGrouped (map (λ head. head.now) heads.now)
+        groups.heads groups.starts.items groups.order.items) }
 {
+    let entries = sorted(alloc, heads)?;
     let mut groups = Groups {
-        heads: Vec::with_capacity(alloc, entries.len())?,
+        heads: SortedTexts::new(alloc),
         starts: Vec::new(alloc),
-        order: Vec::with_capacity(alloc, entries.len())?,
+        order: Vec::with_capacity(alloc, heads.len())?,
     };
     for index in 0..entries.len() {
         let (head, place) = entries[index];

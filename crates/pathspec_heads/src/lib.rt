@@ -1,10 +1,11 @@
-//! The heads, stems and paths of specs in byte order, and which of them begin a path or lie below it.
+//! Searches the heads, stems and paths of specs in byte order: which of them begin a path, and which lie below it.
 #![tactic(auto)]
 
-mod chains;
+pub mod agreement;
 mod groups;
-mod heads;
-pub mod paths;
 pub mod places;
+mod probe;
+mod search;
+mod sorted_texts;
 mod stems;
 pub mod tables;

@@ -1,72 +1,61 @@
-//! Places, found by the heads that stand at them.
+//! Places of specs, found by their heads: the texts that begin each path that a spec fits.
 ghost use Rattle.std.specs.Prelude.{◌≡◌, ℕ, ◌+◌, ◌^◌, ◌<◌, ◌≤◌, true, length, map, IfOk, IfSome, Contains};
 ghost use Rattle.std.specs.List.Sorted.{IsNonDecreasing};
 ghost use Rattle.pathspec_glob.specs.Counts.{Counts};
 ghost use Rattle.pathspec_glob.specs.GlobCells.{has};
-ghost use Rattle.pathspec_heads.specs.Heads.{head_at, IsLastFront, IsChainOf};
-ghost use Rattle.pathspec_heads.specs.Groups.{GroupedPlaces, IsGrouped, IsInGroup, IsInChain, IsLeastFrom, AreWords, HasBitsOf, earlier, end_of};
+ghost use Rattle.pathspec_heads.specs.Heads.{IsLastFront, IsChainOf};
+ghost use Rattle.pathspec_heads.specs.Groups.{IsGrouped, IsInGroup, IsInChain, IsLeastFrom, AreWords, HasBitsOf, earlier, end_of};
 
-use crate::chains::Chains;
-pub use crate::chains::Deepest;
-use crate::groups::{grouped, sorted};
-pub use crate::heads::Scratch;
-use crate::heads::{Heads, Texts};
+use crate::groups::{Groups, grouped};
+use crate::probe::Text;
+pub use crate::sorted_texts::CompareScratch;
+use crate::sorted_texts::SortedTexts;
 use std::alloc::{AllocError, Global};
 use std::fmt;
 use std::marker::Model;
 
-/// Places that each have a head, in groups: those of one head.
-#[derive(Drop)]
-struct GroupsByHead {
-    chains: Chains,
-    // Where the group of each head begins in `order`.
-    starts: Vec<usize>,
-    // The places, group by group, and in each ascending.
-    order: Vec<usize>,
-}
-
-impl Model for GroupsByHead {
-    ghost use Rattle.pathspec_heads.specs.Groups.{GroupedPlaces, IsOrder};
-
-    ghost Value = { GroupedPlaces };
-
-    ghost view = { λ p. record { heads = p.chains; starts = p.starts.items; order = p.order.items } };
-
-    ghost invariant = { λ p. IsOrder p.chains p.starts.items p.order.items };
-}
-
-/// Places that each have a head. Where there are few, the next place is a bit of a word, and no group is looked at.
+/// Places of specs, in groups of one head each. Where there are few, the next place is found as a bit of a word.
 #[derive(Drop)]
 pub struct PlacesByHead {
-    groups: GroupsByHead,
-    // For the first heads, all the places whose heads begin each, as bits: up to a head with such a place that no word has.
+    heads: SortedTexts,
+    // For each head, where its group begins in `order`.
+    starts: Vec<usize>,
+    // The places, group by group, ascending in each.
+    order: Vec<usize>,
+    // For the first heads, the places whose heads begin each, as bits: up to the first head with such a place above 63.
     words: Vec<u64>,
+}
+
+/// The answer to a search for the longest head that begins a text.
+#[derive(Clone, Copy)]
+pub struct LongestHead {
+    /// The number of the head, if one begins the text.
+    pub head: Option<usize>,
+    /// The count of heads that were compared with the text.
+    pub compared: usize,
 }
 
 // No text is printed: a comparison of it would not be counted.
 impl fmt::Debug for PlacesByHead {
     fn fmt<W: fmt::Write>(&self, f: &mut fmt::Formatter<W>) -> fmt::Result {
         f.debug_struct("PlacesByHead")
-            .field("heads", &self.groups.len())
+            .field("heads", &self.heads.len())
             .finish()
     }
 }
 
 impl Model for PlacesByHead {
-    ghost use Rattle.pathspec_heads.specs.Groups.{GroupedPlaces, AreWords};
+    ghost use Rattle.pathspec_heads.specs.Groups.{GroupedPlaces, ArePlaces};
 
     ghost Value = { GroupedPlaces };
 
-    ghost view = { λ p. p.groups };
+    ghost view = { λ p. record { heads = p.heads; starts = p.starts.items; order = p.order.items } };
 
-    ghost invariant = { λ p. AreWords p.groups p.words.items };
+    ghost invariant = { λ p. ArePlaces p.heads p.starts.items p.order.items p.words.items };
 }
 
-/// Up to so many numbers are gone through one by one, which takes less than halves of them do.
-const FEW: usize = 8;
-
 // In line, since most lists have one number.
-/// The least number in an ascending list from one on.
+/// The least number from `from` on in an ascending list.
 #[inline(always)]
 fn next_in(places: &[usize], from: usize) -> Option<usize>
     requires { IsNonDecreasing places.now }
@@ -78,7 +67,7 @@ fn next_in(places: &[usize], from: usize) -> Option<usize>
     next_of_any(places, from)
 }
 
-/// The number, where it isn't below another.
+/// The number, unless it is below `from`.
 #[inline(always)]
 fn next_of_one(place: usize, from: usize) -> Option<usize>
     ensures { IsLeastFrom (λ p. p ≡ place) from result }
@@ -86,15 +75,12 @@ fn next_of_one(place: usize, from: usize) -> Option<usize>
     if place >= from { Some(place) } else { None }
 }
 
-/// The same of any list.
+/// The least number from `from` on in an ascending list of any length.
 #[inline(never)]
 fn next_of_any(places: &[usize], from: usize) -> Option<usize>
     requires { IsNonDecreasing places.now }
     ensures { IsLeastFrom (Contains places.now) from result }
 {
-    if places.len() <= FEW {
-        return next_of_few(places, from);
-    }
     let at = places.partition_point(|place| *place < from);
     if at < places.len() {
         Some(places[at])
@@ -103,20 +89,7 @@ fn next_of_any(places: &[usize], from: usize) -> Option<usize>
     }
 }
 
-/// The same, number by number.
-fn next_of_few(places: &[usize], from: usize) -> Option<usize>
-    requires { IsNonDecreasing places.now }
-    ensures { IsLeastFrom (Contains places.now) from result }
-{
-    for place in places {
-        if *place >= from {
-            return Some(*place);
-        }
-    }
-    None
-}
-
-/// The lesser of two numbers, of those that are there.
+/// The lesser of two numbers, or the only one that is there.
 fn earlier(left: Option<usize>, right: Option<usize>) -> Option<usize>
     ensures { result ≡ earlier left right }
 {
@@ -127,7 +100,7 @@ fn earlier(left: Option<usize>, right: Option<usize>) -> Option<usize>
     }
 }
 
-/// The least bit of a word from one on.
+/// The least bit of a word from `from` on.
 #[inline(always)]
 fn next_bit(word: u64, from: usize) -> Option<usize>
     ensures { IsLeastFrom (λ p. has word p ≡ true) from result }
@@ -142,34 +115,105 @@ fn next_bit(word: u64, from: usize) -> Option<usize>
     Some(from + rest.trailing_zeros() as usize)
 }
 
-impl GroupsByHead {
-    /// Groups the places of these heads.
+impl PlacesByHead {
+    /// Groups the places of heads by head, where the place of a head is its index in the list. Each head is copied once.
+    ///
+    /// The cost is that of a sort of the heads, and besides linear in their bytes.
     ///
     /// # Errors
     /// Memory runs out.
-    fn new(alloc: Global, heads: &[&[u8]]) -> Result<GroupsByHead, AllocError>
+    pub fn new(alloc: Global, heads: &[&[u8]]) -> Result<PlacesByHead, AllocError>
         ensures grouped { IfOk result (λ places. IsGrouped (map (λ head. head.now) heads.now)
             places.heads places.starts places.order) }
     {
-        let entries = sorted(alloc, heads)?;
-        let groups = grouped(alloc, &entries)?;
-        let texts = Texts::new(alloc, &groups.heads)?;
-        let chains = Chains::new(alloc, Heads::new(texts))?;
-        Ok(GroupsByHead {
-            chains,
-            starts: groups.starts,
-            order: groups.order,
-        })
+        let Groups {
+            heads,
+            starts,
+            order,
+        } = grouped(alloc, heads)?;
+        let mut places = PlacesByHead {
+            heads,
+            starts,
+            order,
+            words: Vec::new(alloc),
+        };
+        places.words = places.all_words(alloc)?;
+        Ok(places)
     }
 
-    /// How many heads there are.
-    fn len(&self) -> usize
-        ensures { result ≡ length self.now.heads }
+    /// Makes a scratch for searches for the heads. Walkers that share the places have one each: where one calls
+    /// `places.longest_head_of(path, &mut mine)`, another calls `places.longest_head_of(path, &mut other)`.
+    pub fn new_scratch(&self) -> CompareScratch
+        ensures { result ≡ 0 }
     {
-        self.starts.len()
+        CompareScratch::for_places(self)
     }
 
-    /// Where the group of a head ends in the order of the places.
+    // In line, and so the next place, since a match asks for them at each path.
+    /// The longest head that begins the text, if one does, and how many heads were compared. The heads that begin the text are
+    /// just those that begin this one, which is the last of them in byte order.
+    ///
+    /// The call compares at most as many heads as their count has binary digits, and two. Where the texts of one scratch come
+    /// in byte order, it often compares one or two, and of a single head that one. It takes no memory.
+    #[inline(always)]
+    pub fn longest_head_of(&self, text: &[u8], scratch: &mut CompareScratch) -> LongestHead
+        ensures found { IsLastFront self.now.heads (length self.now.heads) text.now result.head }
+        ensures chain { IfSome result.head (λ j. IsChainOf self.now.heads text.now j) }
+        ensures counted { Counts scratch.old result.compared scratch.new }
+        ensures cost { (b : ℕ) → length self.now.heads < 2 ^ b → result.compared ≤ b + 2 }
+        ensures asked { 0 < length self.now.heads → 1 ≤ result.compared }
+    {
+        match self.heads.len() {
+            0 => LongestHead {
+                head: None,
+                compared: 0,
+            },
+            1 => self.only_head_of(text, scratch),
+            _ => {
+                let found = self.heads.longest_head_of(&Text(text), scratch);
+                LongestHead {
+                    head: found.head,
+                    compared: found.compared,
+                }
+            }
+        }
+    }
+
+    // In line, so that a match of one head makes no call.
+    /// Whether the only head begins the text, found as in a search of all heads.
+    #[inline(always)]
+    fn only_head_of(&self, text: &[u8], scratch: &mut CompareScratch) -> LongestHead
+        requires { length self.now.heads ≡ 1 }
+        ensures found { IsLastFront self.now.heads (length self.now.heads) text.now result.head }
+        ensures counted { Counts scratch.old result.compared scratch.new }
+        ensures compared { result.compared ≡ 1 }
+    {
+        let comparison = self.heads.compare(0, &Text(text), scratch);
+        let head = if comparison.agreed < self.heads.text_len(0) {
+            None
+        } else {
+            Some(0)
+        };
+        LongestHead { head, compared: 1 }
+    }
+
+    /// The least place from `from` on whose head is the given one or begins it.
+    ///
+    /// The call takes no memory. Its cost isn't proved: where all such places are below 64 a look at a word, and else a search
+    /// by halves for each such head.
+    #[inline(always)]
+    pub fn next_place(&self, head: usize, from: usize) -> Option<usize>
+        requires { head < length self.now.heads }
+        ensures { IsLeastFrom (IsInChain self.now.heads self.now.starts self.now.order head)
+            from result }
+    {
+        match self.words.get(head) {
+            Some(word) => next_bit(*word, from),
+            None => self.next_by_links(head, from),
+        }
+    }
+
+    /// The end of a head's group in the order of the places.
     fn end_of(&self, head: usize) -> usize
         requires { head < length self.now.heads }
         ensures { result ≡ end_of self.now.starts self.now.order head }
@@ -182,7 +226,7 @@ impl GroupsByHead {
         }
     }
 
-    /// The least place from one on that has this head.
+    /// The least place from `from` on in a head's group.
     #[inline(always)]
     fn next_in_group(&self, head: usize, from: usize) -> Option<usize>
         requires { head < length self.now.heads }
@@ -193,20 +237,20 @@ impl GroupsByHead {
     }
 
     // In line, since no other head begins most heads.
-    /// The least place from one on whose head begins this one.
+    /// The least place from `from` on whose head is the given one or begins it, found by links.
     #[inline(always)]
-    fn next_place(&self, head: usize, from: usize) -> Option<usize>
+    fn next_by_links(&self, head: usize, from: usize) -> Option<usize>
         requires { head < length self.now.heads }
         ensures { IsLeastFrom (IsInChain self.now.heads self.now.starts self.now.order head)
             from result }
     {
-        match self.chains.link(head) {
+        match self.heads.link(head) {
             None => self.next_in_group(head, from),
             Some(_) => self.next_in_chain(head, from),
         }
     }
 
-    /// The same of any head, link by link.
+    /// The least place from `from` on whose head is the given one or begins it, where another head does.
     #[inline(never)]
     fn next_in_chain(&self, head: usize, from: usize) -> Option<usize>
         requires { head < length self.now.heads }
@@ -215,14 +259,14 @@ impl GroupsByHead {
     {
         let mut next = self.next_in_group(head, from);
         let mut at = head;
-        while let Some(link) = self.chains.link(at) {
+        while let Some(link) = self.heads.link(at) {
             next = earlier(next, self.next_in_group(link, from));
             at = link;
         }
         next
     }
 
-    /// The places whose heads begin this one, as bits; None where one of them is no bit of a word.
+    /// The places whose heads are the given one or begin it, as bits; None where one of them isn't below 64.
     fn word_of(&self, head: usize) -> Option<u64>
         requires { head < length self.now.heads }
         ensures { IfSome result (λ word. HasBitsOf word
@@ -230,7 +274,7 @@ impl GroupsByHead {
     {
         let mut word = 0;
         let mut from = 0;
-        while let Some(place) = self.next_place(head, from) {
+        while let Some(place) = self.next_by_links(head, from) {
             if place >= 64 {
                 return None;
             }
@@ -240,74 +284,20 @@ impl GroupsByHead {
         Some(word)
     }
 
-    /// The words of the first heads, up to one that has none. No more than 64 heads have one.
+    /// The words of the first heads, up to a head without one. At most 64 heads have one.
     ///
     /// # Errors
     /// Memory runs out.
-    fn words(&self, alloc: Global) -> Result<Vec<u64>, AllocError>
+    fn all_words(&self, alloc: Global) -> Result<Vec<u64>, AllocError>
         ensures { IfOk result (λ words. AreWords self.now words.items) }
     {
         let mut words = Vec::new(alloc);
-        for head in 0..self.len() {
+        for head in 0..self.heads.len() {
             match self.word_of(head) {
                 Some(word) => words.push(word)?,
                 None => return Ok(words),
             }
         }
         Ok(words)
-    }
-}
-
-impl PlacesByHead {
-    /// Groups the places of these heads, of which each stands at its place in the list. It keeps one copy of each head.
-    ///
-    /// It compares as many pairs of heads as a sort of them does, and is linear in their bytes besides.
-    ///
-    /// # Errors
-    /// Memory runs out.
-    pub fn new(alloc: Global, heads: &[&[u8]]) -> Result<PlacesByHead, AllocError>
-        ensures grouped { IfOk result (λ places. IsGrouped (map (λ head. head.now) heads.now)
-            places.heads places.starts places.order) }
-    {
-        let groups = GroupsByHead::new(alloc, heads)?;
-        let words = groups.words(alloc)?;
-        Ok(PlacesByHead { groups, words })
-    }
-
-    /// What searches for these heads write to. Places may be shared by several walkers, each with a scratch of its own:
-    /// one calls `places.deepest(path, &mut mine)` where another calls `places.deepest(path, &mut other)`.
-    pub fn new_scratch(&self) -> Scratch
-        ensures { result ≡ 0 }
-    {
-        Scratch::new(self)
-    }
-
-    // In line, and so the next place, since a match asks for them at each path.
-    /// The last head that begins the text, as [`Chains::deepest`] finds it.
-    #[inline(always)]
-    pub fn deepest(&self, text: &[u8], scratch: &mut Scratch) -> Deepest
-        ensures found { IsLastFront self.now.heads (length self.now.heads) text.now result.head }
-        ensures chain { IfSome result.head (λ j. IsChainOf self.now.heads text.now j) }
-        ensures counted { Counts scratch.old result.compared scratch.new }
-        ensures cost { (b : ℕ) → length self.now.heads < 2 ^ b → result.compared ≤ b + 2 }
-        ensures asked { 0 < length self.now.heads → 1 ≤ result.compared }
-    {
-        self.groups.chains.deepest(text, scratch)
-    }
-
-    /// The least place from one on whose head begins this one.
-    ///
-    /// It takes no memory. What it costs isn't proved: where all such places are below 64, a look at a word; else, for each head that
-    /// begins this one, a search in its places, by halves where they are more than eight.
-    #[inline(always)]
-    pub fn next_place(&self, head: usize, from: usize) -> Option<usize>
-        requires { head < length self.now.heads }
-        ensures { IsLeastFrom (IsInChain self.now.heads self.now.starts self.now.order head)
-            from result }
-    {
-        match self.words.get(head) {
-            Some(word) => next_bit(*word, from),
-            None => self.groups.next_place(head, from),
-        }
     }
 }

@@ -1,16 +1,17 @@
-//! Tables of the stems of specs: whether one of them reaches a path.
-ghost use Rattle.std.specs.Prelude.{◌≡◌, ◌&&◌, true, false, List, map, filter, IfOk};
+//! Tables of the stems of specs: whether one of them reaches a path, or takes it.
+ghost use Rattle.std.specs.Prelude.{◌≡◌, ◌&&◌, true, List, map, filter, IfOk};
 ghost use Rattle.std.specs.List.{list_any};
 ghost use Rattle.pathspec_glob.specs.Bytes.{fold_case};
 ghost use Rattle.pathspec_heads.specs.Stems.{HasSameTexts};
-ghost use Rattle.pathspec_heads.specs.Tables.{StemParts, TextLists, TextTable, stem_reaches, is_of_kind, texts_of, IsListed, IsTableOf, directory_reaches, lists_reach};
+ghost use Rattle.pathspec_heads.specs.Tables.{StemParts, TextLists, TextTable, stem_reaches, path_takes, is_of_kind, texts_of, relation_of, stem_answers, lists_answer, IsListed, IsTableOf};
 
-use crate::stems::Stems;
+use crate::sorted_texts::{CompareScratch, SortedTexts};
+use crate::stems::Relation;
 use std::alloc::{AllocError, Global};
 use std::fmt;
 use std::marker::Model;
 
-/// The stem of a spec, the part before its first wildcard, and what the spec says.
+/// The stem of a spec, which is its path before the first wildcard, with the spec's properties.
 #[derive(Debug, Drop)]
 pub struct SpecStem<'s> {
     pub text: &'s [u8],
@@ -28,19 +29,43 @@ impl<'s> Model for SpecStem<'s> {
     ghost view = { λ s. record { text = s.text.now; ignores_case = s.ignores_case; has_wildcard = s.has_wildcard; wants_directory = s.wants_directory } };
 }
 
-/// What the list of a stem depends on, besides case.
+/// The kind of a stem: together with case, it says in which list of a table the stem stands.
 #[derive(Clone, Copy)]
-pub(crate) enum Kind {
-    /// A wildcard follows it.
+enum Kind {
+    /// A wildcard follows the stem.
     Wild,
-    /// None does, and files are taken too.
+    /// No wildcard follows, and files are taken too.
     Literal,
-    /// None does, and a directory is wanted.
+    /// No wildcard follows, and a directory is wanted.
     Directory,
 }
 
+/// A question to a table about a path.
+#[derive(Clone, Copy)]
+enum Question {
+    /// Whether a stem reaches the path, which is that of a directory, of a file, or of either.
+    Reaches(Option<bool>),
+    /// Whether a stem takes the path, which is that of a directory or of a file.
+    Takes(bool),
+}
+
+/// The relation that the path must have to a stem of this kind for a yes; None where the answer is always no.
+#[inline(always)]
+fn relation_of(kind: Kind, question: Question) -> Option<Relation>
+    ensures { result ≡ relation_of kind question }
+{
+    match (kind, question) {
+        (Kind::Wild, Question::Reaches(_)) => Some(Relation::LeadsToWild),
+        (Kind::Wild, Question::Takes(_)) => None,
+        (Kind::Directory, Question::Reaches(Some(false))) => Some(Relation::Below),
+        (_, Question::Reaches(_)) => Some(Relation::LeadsTo),
+        (Kind::Directory, Question::Takes(false)) => Some(Relation::Below),
+        (_, Question::Takes(_)) => Some(Relation::AtOrBelow),
+    }
+}
+
 impl SpecStem<'_> {
-    /// Whether the stem has this kind, and case counts for it or not.
+    /// Whether the stem has the kind, and counts case or not.
     fn is_of_kind(&self, ignore_case: bool, kind: Kind) -> bool
         ensures { result ≡ is_of_kind ignore_case kind self.now }
     {
@@ -55,7 +80,7 @@ impl SpecStem<'_> {
     }
 }
 
-/// The texts of the stems of a kind for which case counts, or doesn't, as they stand.
+/// The texts of the stems of a kind, with case or without, as they stand.
 fn texts_of_kind<'s>(
     alloc: Global,
     stems: &[SpecStem<'s>],
@@ -86,7 +111,7 @@ fn lower_copies(alloc: Global, texts: &[&[u8]]) -> Result<Vec<Vec<u8>>, AllocErr
     Ok(copies)
 }
 
-/// The texts, borrowed.
+/// Borrows each text.
 fn borrowed(alloc: Global, texts: &[Vec<u8>]) -> Result<Vec<&[u8]>, AllocError>
     ensures { IfOk result (λ slices.
         map (λ slice. slice.now) slices.items ≡ map (λ text. text.items) texts.now) }
@@ -98,30 +123,30 @@ fn borrowed(alloc: Global, texts: &[Vec<u8>]) -> Result<Vec<&[u8]>, AllocError>
     Ok(slices)
 }
 
-/// The stems of a kind. Only where case doesn't count are there copies of the texts while they are sorted.
-pub(crate) fn stems_of(
+/// The sorted stems of a kind. Only without case are there copies of the texts while they are sorted.
+fn stems_of(
     alloc: Global,
     stems: &[SpecStem<'_>],
     ignore_case: bool,
     kind: Kind,
-) -> Result<Stems, AllocError>
+) -> Result<SortedTexts, AllocError>
     ensures { IfOk result (HasSameTexts (texts_of ignore_case kind stems.now)) }
 {
     let texts = texts_of_kind(alloc, stems, ignore_case, kind)?;
     if !ignore_case {
-        return Stems::new(alloc, &texts);
+        return SortedTexts::of_stems(alloc, &texts);
     }
     let copies = lower_copies(alloc, &texts)?;
     let slices = borrowed(alloc, &copies)?;
-    Stems::new(alloc, &slices)
+    SortedTexts::of_stems(alloc, &slices)
 }
 
-/// The texts of stems by their kinds: of those with case, or of those without.
+/// The texts of stems by their kinds, of those with case or of those without.
 #[derive(Drop)]
 struct StemLists {
-    wild: Stems,
-    literal: Stems,
-    directory: Stems,
+    wild: SortedTexts,
+    literal: SortedTexts,
+    directory: SortedTexts,
 }
 
 impl Model for StemLists {
@@ -130,40 +155,32 @@ impl Model for StemLists {
     ghost view = { λ s. record { wild = s.wild; literal = s.literal; directory = s.directory } };
 }
 
-/// Where the next search in each of the lists looks first.
-#[derive(Clone, Copy, Debug)]
-struct ListHints {
-    wild: usize,
-    literal: usize,
-    directory: usize,
+/// The key that lets tables alone make scratches of stems.
+#[derive(Clone, Copy)]
+pub(crate) struct TableKey(());
+
+/// The scratch of questions to tables: how many stems of each kind were compared with paths, and which one last.
+#[derive(Debug, Drop)]
+pub struct StemScratch {
+    wild: CompareScratch,
+    literal: CompareScratch,
+    directory: CompareScratch,
 }
 
-/// Nothing was searched for yet.
-const NO_HINTS: ListHints = ListHints {
-    wild: 0,
-    literal: 0,
-    directory: 0,
-};
-
-/// Where the next search in each list of a table looks first, which is where the last one ended. Any numbers will do.
-#[derive(Clone, Copy, Debug)]
-pub struct StemHints {
-    exact: ListHints,
-    folded: ListHints,
-}
-
-impl StemHints {
-    /// Nothing was searched for yet.
-    pub fn new() -> StemHints {
-        StemHints {
-            exact: NO_HINTS,
-            folded: NO_HINTS,
+impl StemScratch {
+    /// Makes a scratch, before the first question.
+    pub fn new() -> StemScratch {
+        let key = TableKey(());
+        StemScratch {
+            wild: CompareScratch::for_stems(&key),
+            literal: CompareScratch::for_stems(&key),
+            directory: CompareScratch::for_stems(&key),
         }
     }
 }
 
 impl StemLists {
-    /// Those of these stems for which case counts, or doesn't.
+    /// Makes the lists of the stems with case, or of those without.
     fn new(
         alloc: Global,
         stems: &[SpecStem<'_>],
@@ -181,45 +198,33 @@ impl StemLists {
         })
     }
 
-    /// Whether a stem that wants a directory, and that no wildcard follows, reaches the path.
-    #[inline(always)]
-    fn directory_reaches(
-        &self,
-        path: &[u8],
-        ignore_case: bool,
-        is_dir: Option<bool>,
-        hint: &mut usize,
-    ) -> bool
-        ensures { result ≡ list_any (λ text.
-            directory_reaches text (fold_case ignore_case path.now) is_dir) self.now.directory }
-    {
-        match is_dir {
-            Some(false) => self.directory.has_above(path, ignore_case),
-            _ => self.directory.leads_to(path, ignore_case, false, hint),
-        }
-    }
-
     // In line, so that a list without stems costs one test.
-    /// Whether one of the stems reaches the path.
+    /// Whether one of the stems answers yes.
     #[inline(always)]
-    fn reach(
+    fn answer(
         &self,
+        question: Question,
         path: &[u8],
         ignore_case: bool,
-        is_dir: Option<bool>,
-        hints: &mut ListHints,
+        scratch: &mut StemScratch,
     ) -> bool
-        ensures { result ≡ lists_reach ignore_case self.now path.now is_dir }
+        ensures { result ≡ lists_answer ignore_case self.now question path.now }
     {
-        self.wild.leads_to(path, ignore_case, true, &mut hints.wild)
+        let wild = relation_of(Kind::Wild, question);
+        let literal = relation_of(Kind::Literal, question);
+        let directory = relation_of(Kind::Directory, question);
+        self.wild
+            .has_related(wild, path, ignore_case, &mut scratch.wild)
             || self
                 .literal
-                .leads_to(path, ignore_case, false, &mut hints.literal)
-            || self.directory_reaches(path, ignore_case, is_dir, &mut hints.directory)
+                .has_related(literal, path, ignore_case, &mut scratch.literal)
+            || self
+                .directory
+                .has_related(directory, path, ignore_case, &mut scratch.directory)
     }
 }
 
-/// Stems of specs, with case and without.
+/// A table of the stems of specs, with case and without.
 #[derive(Drop)]
 pub struct StemTable {
     exact: StemLists,
@@ -239,7 +244,9 @@ impl Model for StemTable {
 }
 
 impl StemTable {
-    /// A table of these stems, in any order. It copies their texts and sorts them; its memory is linear in their bytes.
+    /// Makes a table of stems, in any order. It sorts copies of their texts; its memory is linear in their bytes.
+    ///
+    /// The stems stand in six lists: with case and without, those before a wildcard, those of directories, and the others.
     ///
     /// # Errors
     /// Memory runs out.
@@ -251,30 +258,52 @@ impl StemTable {
         Ok(StemTable { exact, folded })
     }
 
-    /// Whether one of the stems reaches the path, which is that of a directory, of a file, or of either.
+    /// Whether one of the stems reaches the path, of a directory, of a file, or of either. A stem reaches a path that it is,
+    /// or that lies above or below it, or that it begins before a wildcard. If it wants a directory, it reaches only files
+    /// below it.
     ///
-    /// The stems stand in six lists: with case and without, those that a wildcard follows, those that want a directory,
-    /// and the others. It takes no memory. What it costs isn't proved: in each list one search by halves, and a link for each
-    /// stem that begins the path.
+    /// The call takes no memory. In each list it compares at most as many stems as their count has binary digits, and two. It
+    /// takes a link for each stem that begins the path. None of this is proved.
     pub fn reaches(&self, path: &[u8], is_dir: Option<bool>) -> bool
         ensures { (stems : List StemParts) → IsTableOf stems self.now
             → result ≡ list_any (λ stem. stem_reaches stem path.now is_dir) stems }
     {
-        self.reaches_with_hints(path, is_dir, &mut StemHints::new())
+        self.reaches_with(path, is_dir, &mut StemScratch::new())
     }
 
-    /// The same, with hints of the caller's. Where paths come in byte order with the same hints, it often compares one stem
-    /// in each list.
-    pub fn reaches_with_hints(
-        &self,
-        path: &[u8],
-        is_dir: Option<bool>,
-        hints: &mut StemHints,
-    ) -> bool
+    /// Answers as [`StemTable::reaches`] does, with a scratch of the caller's. Where paths come in byte order with one
+    /// scratch, one stem is often compared in each list.
+    pub fn reaches_with(&self, path: &[u8], is_dir: Option<bool>, scratch: &mut StemScratch) -> bool
         ensures { (stems : List StemParts) → IsTableOf stems self.now
             → result ≡ list_any (λ stem. stem_reaches stem path.now is_dir) stems }
     {
-        self.exact.reach(path, false, is_dir, &mut hints.exact)
-            || self.folded.reach(path, true, is_dir, &mut hints.folded)
+        self.answer(Question::Reaches(is_dir), path, scratch)
+    }
+
+    /// Whether one of the stems without a wildcard takes the path, of a directory or of a file: it is the stem or lies below
+    /// it. A stem that wants a directory is no file's path. The cost is that of [`StemTable::reaches`].
+    pub fn takes(&self, path: &[u8], is_dir: bool) -> bool
+        ensures { (stems : List StemParts) → IsTableOf stems self.now
+            → result ≡ list_any (λ s. path_takes s path.now is_dir) stems }
+    {
+        self.answer(Question::Takes(is_dir), path, &mut StemScratch::new())
+    }
+
+    /// Whether one of the stems without case takes the path, as [`StemTable::takes`] says.
+    pub fn takes_folded(&self, path: &[u8], is_dir: bool) -> bool
+        ensures { (stems : List StemParts) → IsTableOf stems self.now → result
+            ≡ list_any (λ s. s.ignores_case && path_takes s path.now is_dir) stems }
+    {
+        self.folded.answer(Question::Takes(is_dir), path, true, &mut StemScratch::new())
+    }
+
+    /// Whether one of the stems answers yes.
+    #[inline(always)]
+    fn answer(&self, question: Question, path: &[u8], scratch: &mut StemScratch) -> bool
+        ensures { (stems : List StemParts) → IsTableOf stems self.now
+            → result ≡ list_any (λ stem. stem_answers question stem path.now) stems }
+    {
+        self.exact.answer(question, path, false, scratch)
+            || self.folded.answer(question, path, true, scratch)
     }
 }

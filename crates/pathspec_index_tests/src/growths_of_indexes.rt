@@ -1,12 +1,12 @@
 //! Each growth refused in turn, of calls on sorted paths.
 use crate::indexes::bytes_of;
 use gix_pathspec::Search;
+use pathspec_index::{IndexWalk, SortedPaths, chosen_paths};
 use pathspec_parts::tree::Walk as _;
-use pathspec_select::SelectError;
-use pathspec_select::index::{IndexWalk, SortedPaths, chosen_paths};
 use pathspec_test_searches::search_of_line;
 use pathspec_test_support::growths::{ALL, Call, Calls, NONE, assert_calls, refuse};
 use pathspec_test_support::look_ups::Marks;
+use pathspec_walk::SelectError;
 use std::alloc::{AllocError, Global};
 use std::test::Fail;
 

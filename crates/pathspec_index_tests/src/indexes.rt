@@ -1,10 +1,10 @@
 //! Walks over sorted paths, as a git index has them.
 use gix_pathspec::Search;
+use pathspec_index::{IndexError, IndexPlace, IndexWalk, SortedPaths, chosen_paths};
 use pathspec_parts::tree::Walk as _;
-use pathspec_select::SelectError;
-use pathspec_select::index::{IndexError, IndexPlace, IndexWalk, SortedPaths, chosen_paths};
 use pathspec_test_searches::search_of_line;
 use pathspec_test_support::look_ups::Marks;
+use pathspec_walk::SelectError;
 use std::alloc::{AllocError, Global};
 use std::test::Fail;
 
@@ -129,7 +129,7 @@ fn refusals_name_the_path(rt: HostRuntime) -> Result<(), Fail> {
     Ok(())
 }
 
-/// What is chosen of `a` and `x` by a look-up that fails after so many answers, or None where it fails.
+/// Whether `x` alone is chosen of `a` and `x`, by a look-up that fails after `left` answers; None where it fails.
 fn chosen(alloc: Global, search: &Search, left: u64) -> Result<Option<bool>, Fail> {
     let paths = bytes_of(alloc, &["a", "x"])?;
     let mut marks = Marks::failing_after(left);

@@ -1,13 +1,15 @@
 pub mod ComponentProofs
 pub mod OutcomeProofs
+pub mod RowNumberProofs
 pub mod TruthProofs
 mod PathRows
 pub mod EntryProofs
+pub mod RecordProofs
 pub mod TreeProofs
 mod TreeRows
 pub mod SeenProofs
 pub mod ListProofs
-pub mod EndProofs
+pub mod NestingProofs
 pub mod LayoutProofs
 pub mod NodeProofs
 pub mod CursorProofs

@@ -1,24 +1,19 @@
 -- What the numbers of a tree say of one entry.
-use Rattle.std.proofs.Common.{◌≡◌, ◌≢◌, ℕ, ◌+◌, ◌-◌, ◌<◌, ◌≤◌, cond, not, ◌==◌, sym, ◌∙◌, ap, subst, List, [], ◌∷◌, ◌++◌, length, take, arith, inl, inr, Option, Some, append_assoc, length-append}
+use Rattle.std.proofs.Common.{◌≡◌, ℕ, ◌+◌, ◌-◌, ◌<◌, ◌≤◌, cond, refl, sym, ◌∙◌, ap, subst, List, [], ◌∷◌, ◌++◌, length, take, arith, inl, inr, Some, None, append_assoc, length-append}
 use Rattle.std.proofs.lemmas.Bool.{lt-ltb, le-ltb}
 use Rattle.std.proofs.lemmas.List.{take_at, length_push}
-use Rattle.std.proofs.lemmas.Option.{slice_get_within, same_Some}
-use Rattle.std.specs.Prelude.{slice_get, nat_lt, unwrap_or, option_map}
+use Rattle.std.proofs.lemmas.Option.{slice_get_within, same_Some, slice_get-get_or}
+use Rattle.std.specs.Prelude.{slice_get, nat_lt}
 use Rattle.pathspec_glob.specs.Bytes.{slash}
-use Rattle.pathspec_parts.specs.Entries.{Entry, numbers_of}
-use Rattle.pathspec_parts.specs.Trees.{TreeContents, IsNested, HasBytePaths}
-use Rattle.pathspec_parts.specs.Cursors.{IsEndOf, IsNearPath, HoldsPaths}
-use Rattle.pathspec_parts.specs.TreeLayout.{name_at, end_at, directories_above, entry_of_node, tree_of_nodes, open_end, IsPathOfEntry, IsLayout}
-use Rattle.pathspec_parts.proofs.ListProofs.{snoc_cases, get-map_range}
-use Rattle.pathspec_parts.proofs.TreeProofs.{get-last, tree_of_calls-nested, tree_of_calls-bytes}
-use Rattle.pathspec_parts.proofs.EndProofs.{file-ends, directory-ends}
-use Rattle.pathspec_parts.proofs.LayoutProofs.{Contains-above, length-tree_of_nodes}
+use Rattle.pathspec_parts.specs.Entries.{Entry}
+use Rattle.pathspec_parts.specs.Trees.{TreeContents}
+use Rattle.pathspec_parts.specs.Cursors.{IsNearPath, HoldsPaths}
+use Rattle.pathspec_parts.specs.Nesting.{Nesting}
+use Rattle.pathspec_parts.specs.TreeLayout.{name_at, end_at, tree_of_nodes, IsPathOfEntry, IsLayout}
+use Rattle.pathspec_parts.proofs.ListProofs.{snoc_cases}
+use Rattle.pathspec_parts.proofs.TreeProofs.{get-last}
+use Rattle.pathspec_parts.proofs.NestingProofs.{entries_count as nested_count, entry_at as nested_at}
 use Rattle.pathspec_parts.specs.declared.tree.Node.{Node}
-
--- the entry of a node
-get-tree_of_nodes : (names : List ℕ) (nodes : List Node) (i : ℕ) → i < length nodes → slice_get (tree_of_nodes names nodes).entries i ≡ Some (entry_of_node names nodes i)
-unfolding tree_of_nodes
-get-tree_of_nodes names nodes i l = let z : 0 + i ≡ i = omega arith in get-map_range (entry_of_node names nodes) 0 (length nodes) i l ∙ ap (λ k. Some (entry_of_node names nodes k)) z
 
 -- what is left of a path of which so many bytes stay, or a slash more where it is shorter
 abbrev pub cut_path : ℕ → List ℕ → List ℕ
@@ -41,54 +36,30 @@ last_is {X} xs x e = elim (snoc_cases xs) [
       (r.0, r.2 ∙ ap (λ y. r.0 ++ y ∷ []) same)
 ]
 
-module _ (names : List ℕ) (nodes : List Node) (stack : List ℕ) (longest directories : ℕ) (h : IsLayout names nodes stack longest directories) (t : TreeContents) (view : tree_of_nodes names nodes ≡ t) where
+-- where there is no last one, there is none
+pub last_none : {X : Type 0} (xs : List X) → slice_get xs (length xs - 1) ≡ None → xs ≡ []
+last_none [] e = refl
+last_none (x ∷ xs) e = let last = slice_get-get_or (x ∷ xs) (length (x ∷ xs) - 1) x (omega arith) in cc
+
+module _ (names : List ℕ) (nodes : List Node) (nested : Nesting) (longest : ℕ) (h : IsLayout names nodes nested longest) (t : TreeContents) (view : tree_of_nodes names nodes ≡ t) where
   pub entries_count : length t.entries ≡ length nodes
-  entries_count = ap (λ (x : TreeContents). length x.entries) (sym view) ∙ length-tree_of_nodes names nodes
+  entries_count = nested_count (name_at names nodes) (end_at nodes) (length nodes) nested.stack nested.directories h.nesting t view
 
-  pub nested_of : IsNested t.entries
-  nested_of = subst (λ (x : TreeContents). IsNested x.entries) (sym h.made_by.2 ∙ view) (tree_of_calls-nested h.made_by.0 h.made_by.1)
-
-  pub bytes_of : HasBytePaths t.entries
-  bytes_of = subst (λ (x : TreeContents). HasBytePaths x.entries) (sym h.made_by.2 ∙ view) (tree_of_calls-bytes h.made_by.0 h.made_by.1)
-
-  pub entry_at : (i : ℕ) → i < length t.entries → (e : Entry) × (slice_get t.entries i ≡ Some e)
-  entry_at i l = (entry_of_node names nodes i, ap (λ (x : TreeContents). slice_get x.entries i) (sym view) ∙ get-tree_of_nodes names nodes i (omega (arith, l, entries_count)))
-
-  entry_is : (i : ℕ) (e : Entry) → slice_get t.entries i ≡ Some e → (i < length nodes) × (e ≡ entry_of_node names nodes i)
-  entry_is i e s =
-      let inside : i < length nodes = let w = slice_get_within t.entries i e s in omega (arith, w, entries_count) in
-      (inside, same_Some e (entry_of_node names nodes i) (sym s ∙ (ap (λ (x : TreeContents). slice_get x.entries i) (sym view) ∙ get-tree_of_nodes names nodes i inside)))
-
-  above_is : (j : ℕ) (f : Entry) → slice_get t.entries j ≡ Some f → f.above ≡ numbers_of (directories_above names nodes j)
-  above_is j f s = ap (λ (x : Entry). x.above) (entry_is j f s).1
+  pub entry_at : (i : ℕ) → i < length nodes → (e : Entry) × (slice_get t.entries i ≡ Some e)
+  entry_at = nested_at (name_at names nodes) (end_at nodes) (length nodes) nested.stack nested.directories h.nesting t view
 
   module _ (i : ℕ) (node : Node) (at : slice_get nodes i ≡ Some node) where
-    end_at_is : end_at nodes i ≡ node.end
-    end_at_is = ap (λ (o : Option Node). unwrap_or (option_map (λ x. x.end) o) 0) at
-
-    pub end_of_file : node.end ≡ 0 → IsEndOf t.entries i (i + 1)
-    end_of_file z = file-ends (end_at nodes) (λ j. numbers_of (directories_above names nodes j)) t.entries (Contains-above names nodes) above_is i (end_at_is ∙ z)
-
-    pub end_of_directory : node.end ≢ 0 → length nodes ≤ open_end → IsEndOf t.entries i node.end
-    end_of_directory n room =
-        let w = slice_get_within nodes i node at in
-        subst (IsEndOf t.entries i) end_at_is (directory-ends (end_at nodes) (λ j. numbers_of (directories_above names nodes j)) t.entries (Contains-above names nodes) above_is (length nodes) i w room (h.ends i w) (λ z. n (sym end_at_is ∙ z)))
-
-    pub kind_is : (e : Entry) → slice_get t.entries i ≡ Some e → not (node.end == 0) ≡ e.is_dir
-    kind_is e s = ap (λ k. not (k == 0)) (sym end_at_is) ∙ ap (λ (x : Entry). x.is_dir) (sym (entry_is i e s).1)
-
     lies_under : (e : Entry) → slice_get t.entries i ≡ Some e → IsPathOfEntry t.entries e (name_at names nodes i) node.above
-    lies_under e s = subst (λ (x : TreeContents). IsPathOfEntry x.entries e (name_at names nodes i) node.above) view (h.paths i node e at (subst (λ (x : TreeContents). slice_get x.entries i ≡ Some e) (sym view) s))
+    lies_under e s = subst (λ (x : TreeContents). IsPathOfEntry x.entries e (name_at names nodes i) node.above) view (h.named.paths i node e at (subst (λ (x : TreeContents). slice_get x.entries i ≡ Some e) (sym view) s))
 
     pub length_is : (e : Entry) → slice_get t.entries i ≡ Some e → node.above + length (name_at names nodes i) ≡ length e.path
     length_is e s = let u = lies_under e s in sym (ap length u.path_is ∙ (length-append u.front (name_at names nodes i) ∙ ap (λ k. k + length (name_at names nodes i)) u.long))
 
     pub length_fits : node.above + length (name_at names nodes i) ≤ longest
     length_fits =
-        let w = slice_get_within nodes i node at in
-        let s = get-tree_of_nodes names nodes i w in
-        let l = length_is (entry_of_node names nodes i) (subst (λ (x : TreeContents). slice_get x.entries i ≡ Some (entry_of_node names nodes i)) view s) in
-        let k = h.longest_is i (entry_of_node names nodes i) s in
+        let e = entry_at i (slice_get_within nodes i node at) in
+        let l = length_is e.0 e.1 in
+        let k = h.named.longest_is i e.0 (ap (λ (x : TreeContents). slice_get x.entries i) view ∙ e.1) in
         omega (arith, l, k)
 
     -- a path near the entry is cut to what stands above its name

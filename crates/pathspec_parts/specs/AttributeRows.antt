@@ -2,7 +2,7 @@
 use Rattle.std.specs.Prelude.{ℕ, List, Vec, true, map, fold, bytes_eq, if◌then◌else◌}
 use Rattle.std.specs.Global.{Global}
 use Rattle.pathspec_parts.specs.declared.attributes.state.Assignment.{Assignment as Whole}
-use Rattle.pathspec_parts.specs.Attributes.{Assignment, Question, Reply}
+use Rattle.pathspec_parts.specs.Attributes.{Assignment, Question, Reply, Table}
 use Rattle.pathspec_parts.specs.AttributeStates.{assignment_view}
 use Rattle.pathspec_parts.specs.Outcomes.{NamedState, apply_assignments, states_of, unspecified}
 
@@ -26,3 +26,12 @@ apply_rows path places rows = fold (apply_row path) places rows
 -- rows have an answer to every question
 abbrev pub rows_reply : List Row → Question → Reply
 rows_reply rows q = record { found = true; states = states_of (apply_rows q.path (unspecified q.names) rows) }
+
+-- Each row whose path is the question's sets its assignments, in order; the answer is always found.
+abbrev pub table_of : List Row → Table
+table_of rows q = rows_reply rows q
+
+-- What a look-up of rows holds: its rows in their order, and how many questions failed.
+pub record RowsContents : Type 0 where
+  pub rows : List Row
+  pub failures : ℕ

@@ -1,5 +1,5 @@
 -- Attributes of paths, and what a look-up is asked of them (gitattributes).
-use Rattle.std.specs.Prelude.{ℕ, ◌+◌, ◌-◌, ◌^◌, nat_lt, Bool, true, false, not, ◌&&◌, ◌||◌, List, codes, ◌==◌, Option, Some, None, if◌then◌else◌}
+use Rattle.std.specs.Prelude.{ℕ, ◌+◌, ◌-◌, ◌^◌, nat_lt, Bool, true, false, not, ◌&&◌, ◌||◌, List, codes, ◌==◌, Option, Some, None, if◌then◌else◌, ◌≡◌, Result, OnOk, OnErr}
 use Rattle.std.specs.List.{list_all}
 use Rattle.std.specs.Char.{is_ascii_alphanumeric}
 use Rattle.pathspec_glob.specs.declared.Case.{Case}
@@ -59,3 +59,7 @@ Table = Question → Reply
 -- the count of failures after one more: it stops at the top of a `u64`
 abbrev pub next_count : ℕ → ℕ
 next_count count = if nat_lt count (2 ^ 64 - 1) then count + 1 else count
+
+-- A call that asks a look-up leaves its table, and counts one failure more just where it ends with an error.
+abbrev pub AsksLookUp : {A F : Type 0} → Table → ℕ → Table → ℕ → Result A F → Type 0
+AsksLookUp table failures table' failures' result = (table' ≡ table) × OnOk result (failures' ≡ failures) × OnErr result (failures' ≡ next_count failures)

@@ -8,10 +8,13 @@ pub mod AttributeNames
 pub mod AttributeStates
 pub mod Outcomes
 pub mod AttributeRows
+pub mod RowNumbers
 pub mod Stacks
 pub mod Entries
+pub mod Records
 pub mod Trees
 pub mod Cursors
+pub mod Nesting
 pub mod TreeLayout
 pub mod TreeAnswers
 pub mod Truth

@@ -1,12 +1,13 @@
-//! Attributes of paths, and who is asked for them (gitattributes).
+//! Attributes of paths (gitattributes), and the look-ups that are asked for them.
 ghost use Rattle.std.specs.Prelude.{◌≡◌, ℕ, IfOk, OnOk, OnErr};
 ghost use Rattle.bstr.specs.BStr.{bstr_bytes};
-ghost use Rattle.pathspec_parts.specs.Attributes.{Table, next_count};
+ghost use Rattle.pathspec_parts.specs.Attributes.{Table, AsksLookUp};
 ghost use Rattle.pathspec_parts.specs.Outcomes.{IsReset, names_of, question_of, reply_of};
 
 mod name;
 mod no_attributes;
 mod outcome;
+mod rows;
 mod state;
 
 use bstr::BStr;
@@ -14,29 +15,26 @@ pub use name::Name;
 pub use no_attributes::NoAttributes;
 pub use outcome::Outcome;
 pub use pathspec_glob::Case;
+pub use rows::Rows;
 pub use state::{Assignment, State, StateRef};
 use std::fmt::Debug;
 
-/// Who is asked for the attributes of paths.
-///
-/// It answers by a table: the same question has the same answer at each time.
+/// A look-up, which is asked for the attributes of paths. It answers by a table: a question has the same answer each time.
 pub trait LookUp {
-    /// Why a question failed.
+    /// The reason why a question failed.
     type Fault: Debug + Drop;
 
     /// The answer to each question.
     ghost table: { Self → Table };
 
-    /// How many questions have failed. It counts no further than `u64::MAX`.
+    /// The count of failed questions, up to `u64::MAX`.
     ghost failures: { Self → ℕ };
 
-    /// Says whether it has an answer for a path, and gives each place of a reset outcome the state
-    /// that the name at this place has for that path.
-    ///
-    /// The names of the outcome stay.
+    /// Says whether there is an answer for a path, and gives each place of a reset outcome the state of its attribute for that
+    /// path. The names of the outcome stay.
     ///
     /// # Errors
-    /// Its fault. The outcome may then hold any states.
+    /// The look-up's fault. The outcome may then hold any states.
     fn look_up(
         &mut self,
         path: BStr<'_>,
@@ -47,8 +45,7 @@ pub trait LookUp {
         ensures answer { let question = question_of (bstr_bytes path.entry) case is_dir out.old in
             IsReset out.old →
             IfOk result (λ found. reply_of found out.new ≡ table self.old question) }
-        ensures table_stays { table self.new ≡ table self.old }
         ensures names_stay { names_of out.new ≡ names_of out.old }
-        ensures ok_leaves_count { OnOk result (failures self.new ≡ failures self.old) }
-        ensures err_counts { OnErr result (failures self.new ≡ next_count (failures self.old)) };
+        ensures look_up { AsksLookUp (table self.old) (failures self.old)
+            (table self.new) (failures self.new) result };
 }

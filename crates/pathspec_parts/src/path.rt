@@ -1,5 +1,5 @@
-//! Paths as byte strings, and their components: what stands between slashes
-//! (gitglossary, "pathspec"; `Path::components` of Rust's standard library).
+//! Paths as byte strings, and their components, the parts between slashes (gitglossary, "pathspec"; `Path::components` of
+//! Rust's standard library).
 ghost use Rattle.std.specs.Prelude.{◌≡◌};
 ghost use Rattle.std.specs.Option.{option_map};
 ghost use Rattle.std.specs.List.{list_all};
@@ -21,8 +21,8 @@ pub fn is_absolute(path: BStr<'_>) -> bool
     path.as_bytes().starts_with(b"/")
 }
 
-/// The components of a path in their order: its pieces between slashes, without the empty ones and
-/// without `.`. A `..` is a component.
+/// The components of a path in order: its pieces between slashes, without empty ones and `.`. `a//./../b` has `a`, `..` and
+/// `b`.
 ///
 /// Each item is a part of the path. All items together take one look at each byte of the path.
 pub fn components(path: BStr<'_>) -> Components<'_>
@@ -31,9 +31,8 @@ pub fn components(path: BStr<'_>) -> Components<'_>
     Components::new(path)
 }
 
-/// Whether a prefix is clean: it is empty, or names joined by single slashes, none of them `.` or `..`.
-///
-/// It looks at each byte once.
+/// Whether a prefix is clean: it is empty, or names joined by single slashes, none of them `.` or `..`. Looks at each byte
+/// once.
 pub fn is_clean_prefix(prefix: BStr<'_>) -> bool
     ensures { result ≡ is_clean_prefix (bstr_bytes prefix.entry) }
 {
@@ -55,10 +54,10 @@ fn is_name(piece: &[u8]) -> bool
     !piece.is_empty() && piece != b".".as_slice() && piece != b"..".as_slice()
 }
 
-/// The components of an absolute path after those of an absolute root, or None where one of the two
-/// isn't absolute, or the root's components aren't a beginning of the path's. A `..` isn't resolved.
+/// The components of an absolute path after those of an absolute root: `a` for `/r/a` in `/r`. None where one of the two isn't
+/// absolute, or the path doesn't begin with the root's components. A `..` isn't resolved.
 ///
-/// It looks at each byte of the root, and of the path as far as they agree, once.
+/// The call looks at each byte of the root, and of the path as far as they agree, once.
 pub fn strip_root<'p>(path: BStr<'p>, root: BStr<'_>) -> Option<Components<'p>>
     ensures { option_map remaining_components result
         ≡ strip_root (bstr_bytes root.entry) (bstr_bytes path.entry) }
@@ -69,7 +68,7 @@ pub fn strip_root<'p>(path: BStr<'p>, root: BStr<'_>) -> Option<Components<'p>>
     strip_names(components(path), components(root))
 }
 
-/// The components after those of a front, if these begin them.
+/// The components of a path after those of a front, if these begin it.
 fn strip_names<'p>(path: Components<'p>, front: Components<'_>) -> Option<Components<'p>>
     ensures { option_map remaining_components result
         ≡ strip_names (remaining_components front.entry) (remaining_components path.entry) }

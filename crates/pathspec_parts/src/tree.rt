@@ -6,13 +6,15 @@ ghost use Rattle.pathspec_parts.specs.Entries.Call.{Open, File, Close};
 ghost use Rattle.pathspec_parts.specs.Trees.{empty_tree, tree_after};
 ghost use Rattle.pathspec_parts.specs.Cursors.{IsNearPath, IsPathOf, HoldsPaths};
 ghost use Rattle.pathspec_parts.specs.TreeAnswers.{AnswersName, AnswersClose};
-ghost use Rattle.pathspec_parts.specs.TreeLayout.{name_start_at, name_end_at, name_at, open_end, path_above};
+ghost use Rattle.pathspec_parts.specs.TreeLayout.{name_start_at, name_end_at, name_at, path_above};
 
 mod cursor;
+pub mod nested;
 mod steps;
 mod walk;
 
 pub use cursor::Cursor;
+use nested::NestedEntries;
 use std::alloc::{AllocError, Global};
 use std::fmt;
 use std::marker::Model;
@@ -20,7 +22,7 @@ pub use steps::{Entries, EntryPaths, Steps};
 use thiserror::Error;
 pub use walk::Walk;
 
-/// Why a tree refuses a call, which then changes nothing.
+/// The reason why a tree refuses a call, which then changes nothing.
 #[derive(Clone, Copy, Debug, PartialEq, Eq, Error)]
 pub enum TreeError {
     /// The name of an entry is empty.
@@ -37,36 +39,32 @@ pub enum TreeError {
 /// An entry of a tree in numbers.
 #[derive(Clone, Copy)]
 struct Node {
-    /// Where its name ends in the tree's names. It begins where the one before it ends.
+    /// The end of the entry's name in the tree's names. The name begins where the one before it ends.
     name_end: usize,
-    /// How many bytes of its path stand before its name: the path of the directory that it lies in, with a slash.
+    /// The count of bytes before the name in the entry's path: the path of its directory, with a slash.
     above: usize,
-    /// The number of the first entry after a directory that doesn't lie in it, as great as can be while it is open;
-    /// of a file 0.
+    /// The number of the first later entry that doesn't lie in a directory, or `usize::MAX` while it is open; 0 for a file.
     end: usize,
 }
 
-/// Directories and files in the order in which they were added.
+/// A tree of directories and files, in the order in which they were added, numbered from 0.
 ///
-/// An entry takes the bytes of its name and three numbers. Entries are numbered from 0. What is printed of a tree is
-/// counts.
+/// An entry takes the bytes of its name and three numbers. The debug form of a tree has only counts.
 #[derive(Drop)]
 pub struct Tree {
     names: Vec<u8>,
     nodes: Vec<Node>,
-    /// The numbers of the open directories, the outermost first.
-    stack: Vec<usize>,
-    /// How many bytes the longest path has.
+    /// The open directories, and the count of all directories.
+    nested: NestedEntries,
+    /// The length of the longest path, in bytes.
     longest: usize,
-    /// How many directories there are.
-    directories: usize,
 }
 
 impl fmt::Debug for Tree {
     fn fmt<W: fmt::Write>(&self, f: &mut fmt::Formatter<W>) -> fmt::Result {
         f.debug_struct("Tree")
             .field("len", &self.len())
-            .field("directories", &self.directories)
+            .field("directories", &self.nested.directories())
             .finish()
     }
 }
@@ -80,40 +78,37 @@ impl Model for Tree {
 
     ghost view = { λ t. tree_of_nodes t.names.items t.nodes.items };
 
-    ghost invariant = { λ t. IsLayout t.names.items t.nodes.items t.stack.items t.longest t.directories };
+    ghost invariant = { λ t. IsLayout t.names.items t.nodes.items t.nested t.longest };
 }
 
 impl Tree {
-    /// A tree without entries. It takes no memory.
+    /// Makes a tree without entries. It takes no memory.
     pub fn new(alloc: Global) -> Tree
         ensures { result ≡ empty_tree }
     {
         Tree {
             names: Vec::new(alloc),
             nodes: Vec::new(alloc),
-            stack: Vec::new(alloc),
+            nested: NestedEntries::new(alloc),
             longest: 0,
-            directories: 0,
         }
     }
 
-    /// How many entries it has.
+    /// The count of entries.
     pub fn len(&self) -> usize
         ensures { result ≡ length self.now.entries }
     {
         self.nodes.len()
     }
 
-    /// Whether it has none.
+    /// Whether there are no entries.
     pub fn is_empty(&self) -> bool
         ensures { IsTrue result ↔ (self.now.entries ≡ []) }
     {
         self.nodes.is_empty()
     }
 
-    /// Adds a directory in the open one, and opens it. A name is any bytes, and may come again.
-    ///
-    /// It looks at each byte of the name once.
+    /// Adds a directory in the open one, and opens it. A name is any bytes, and may come again. Looks at each byte of it once.
     ///
     /// # Errors
     /// [`TreeError::EmptyName`] and [`TreeError::Memory`]. The tree is then as it was.
@@ -125,9 +120,7 @@ impl Tree {
         self.add(name, true)
     }
 
-    /// Adds a file in the open directory. A name is any bytes, and may come again.
-    ///
-    /// It looks at each byte of the name once.
+    /// Adds a file in the open directory. A name is any bytes, and may come again. Looks at each byte of it once.
     ///
     /// # Errors
     /// [`TreeError::EmptyName`] and [`TreeError::Memory`]. The tree is then as it was.
@@ -139,7 +132,7 @@ impl Tree {
         self.add(name, false)
     }
 
-    /// Closes the directory that was opened last. It takes no memory and no look at other entries.
+    /// Closes the directory that was opened last. The call takes no memory and no look at other entries.
     ///
     /// # Errors
     /// [`TreeError::NotOpen`]. The tree is then as it was.
@@ -148,21 +141,21 @@ impl Tree {
         ensures err { OnErr result (self.new ≡ self.old) }
         ensures refused { AnswersClose self.old.open_directories result }
     {
-        let Some(place) = self.stack.pop() else {
+        let Some(place) = self.nested.close() else {
             return Err(TreeError::NotOpen);
         };
         self.nodes[place].end = self.nodes.len();
         Ok(())
     }
 
-    /// How many bytes the longest path has.
+    /// The length of the longest path, in bytes.
     fn longest(&self) -> usize
         ensures { HoldsPaths self.now.entries result }
     {
         self.longest
     }
 
-    /// Makes the path of an entry of a path at or below each directory that it lies in. It takes no memory.
+    /// Turns a path at or below each directory that an entry lies in into the entry's path. It takes no memory.
     fn write_path(&self, place: usize, path: &mut Vec<u8>)
         requires place { place < length self.now.entries }
         requires near { IsNearPath self.now.entries place path.old.items }
@@ -189,26 +182,21 @@ impl Tree {
         let node = Node {
             name_end: self.names.len() + name.len(),
             above,
-            end: first_end(is_dir),
+            end: nested::first_end(is_dir),
         };
-        if append(
-            &mut self.names,
-            &mut self.nodes,
-            &mut self.stack,
-            name,
-            node,
-        )
-        .is_err()
-        {
+        let number = self.nodes.len();
+        if self.nested.reserve(is_dir).is_err() {
             return Err(TreeError::Memory);
         }
+        if append(&mut self.names, &mut self.nodes, name, node).is_err() {
+            return Err(TreeError::Memory);
+        }
+        self.nested.add(number, is_dir);
         self.longest = self.longest.max(length);
-        self.directories += one_if(is_dir);
         Ok(())
     }
 
-    /// How many bytes stand before the name of a new entry in its path, and how many the path has, where a number
-    /// can say so.
+    /// The count of bytes before a new entry's name in its path, and the path's length; None where a number can't hold them.
     fn lengths(&self, name: usize) -> Option<(usize, usize)>
         ensures above { IfSome result (λ n. n.0 ≡ length (path_above self.now.open_directories)) }
         ensures length { IfSome result (λ n. n.1 ≡ n.0 + name) }
@@ -217,17 +205,17 @@ impl Tree {
         Some((above, above.checked_add(name)?))
     }
 
-    /// How many bytes the path of the open directory has with its slash, 0 where none is open.
+    /// The length of the open directory's path with its slash, 0 where none is open; None where a number can't hold it.
     fn above(&self) -> Option<usize>
         ensures { IfSome result (λ n. n ≡ length (path_above self.now.open_directories)) }
     {
-        match self.stack.last() {
-            Some(place) => self.path_length(*place).checked_add(1),
+        match self.nested.innermost() {
+            Some(place) => self.path_length(place).checked_add(1),
             None => Some(0),
         }
     }
 
-    /// How many bytes the path of an entry has.
+    /// The length of an entry's path, in bytes.
     fn path_length(&self, place: usize) -> usize
         requires { place < length self.now.entries }
         ensures { (e : Entry) → slice_get self.now.entries place ≡ Some e → result ≡ length e.path }
@@ -244,7 +232,7 @@ impl Entries for Tree {
     }
 
     fn directories(&self) -> usize {
-        self.directories
+        self.nested.directories()
     }
 
     fn is_dir(&self, number: usize) -> bool {
@@ -252,8 +240,7 @@ impl Entries for Tree {
     }
 
     fn end_of(&self, number: usize) -> usize {
-        let end = self.nodes[number].end;
-        if end == 0 { number + 1 } else { end }
+        nested::end_from(number, self.nodes[number].end)
     }
 }
 
@@ -267,7 +254,7 @@ fn name<'a>(names: &'a [u8], nodes: &[Node], place: usize) -> &'a [u8]
     &names[name_start(nodes, place)..nodes[place].name_end]
 }
 
-/// Where the name of an entry begins.
+/// The start of an entry's name in the tree's names.
 fn name_start(nodes: &[Node], place: usize) -> usize
     requires { place < length nodes.now }
     ensures { result ≡ name_start_at nodes.now place }
@@ -279,7 +266,7 @@ fn name_start(nodes: &[Node], place: usize) -> usize
     }
 }
 
-/// Leaves so many bytes of a path, or puts a slash after a shorter one. It takes no memory.
+/// Cuts a path to `above` bytes, or puts a slash after a shorter one. It takes no memory.
 fn cut_back(path: &mut Vec<u8>, above: usize)
     requires { above ≤ vec_capacity path.old }
     ensures items { path.new.items ≡ (if nat_lt (length path.old.items) above
@@ -293,28 +280,13 @@ fn cut_back(path: &mut Vec<u8>, above: usize)
     }
 }
 
-/// The end of a new entry.
-fn first_end(is_dir: bool) -> usize
-    ensures { result ≡ (if is_dir then open_end else 0) }
-{
-    if is_dir { usize::MAX } else { 0 }
-}
-
-/// 1 for a directory, 0 for a file.
-fn one_if(is_dir: bool) -> usize
-    ensures { result ≡ (if is_dir then 1 else 0) }
-{
-    usize::from(is_dir)
-}
-
-/// Puts a name and its node after the others, and the node's number on the stack if it is a directory's.
+/// Puts a name and its node after the others.
 ///
 /// # Errors
 /// Memory runs out. All is then as it was.
 fn append(
     names: &mut Vec<u8>,
     nodes: &mut Vec<Node>,
-    stack: &mut Vec<usize>,
     name: &[u8],
     node: Node,
 ) -> Result<(), AllocError>
@@ -322,15 +294,9 @@ fn append(
         ≡ (if is_ok result then names.old.items ++ name.now else names.old.items) }
     ensures nodes { nodes.new.items
         ≡ (if is_ok result then nodes.old.items ++ node ∷ [] else nodes.old.items) }
-    ensures stack { stack.new.items ≡ (if is_ok result && nat_lt 0 node.end
-        then stack.old.items ++ length nodes.old.items ∷ [] else stack.old.items) }
 {
     names.reserve(name.len())?;
     nodes.reserve(1)?;
-    stack.reserve(1)?;
-    if node.end > 0 {
-        stack.push(nodes.len())?;
-    }
     names.extend_from_slice(name)?;
     nodes.push(node)?;
     Ok(())

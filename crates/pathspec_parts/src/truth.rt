@@ -5,14 +5,14 @@ ghost use Rattle.std.specs.Char.{is_ascii_digit};
 ghost use Rattle.std.specs.Str.{str_to_ascii_lowercase};
 ghost use Rattle.pathspec_parts.specs.Truth.{truth_of, IsTruth, is_yes, is_no, is_unit, number_says, signed_says, decimal_value, fits_64};
 
-/// One more than the greatest number of `i64`, and what its least number has without its sign.
+/// The least number of `i64` without its sign, which is one more than the greatest.
 const LIMIT: u64 = 1 << 63;
 
-/// What a word of truth says, or None for another word. True are `yes`, `on` and `true`, false are `no`, `off`,
-/// `false` and the empty word; so are numbers, where each but 0 is true: a sign or none, decimal digits, and a unit
-/// `k`, `m` or `g` or none. ASCII case doesn't count. The number without its unit has to lie in `i64`.
+/// The value of a word of truth, or None for another word. `yes`, `on` and `true` are true; `no`, `off`, `false` and the empty
+/// word are false. A number is true unless it is 0: a sign or none, decimal digits, and a unit `k`, `m` or `g` or none. ASCII
+/// case doesn't count. The number without its unit has to lie in `i64`.
 ///
-/// Nothing is trimmed. It looks at each byte a fixed number of times and takes no memory.
+/// Nothing is trimmed. The call looks at each byte a fixed number of times and takes no memory.
 pub fn parse_truth(text: &[u8]) -> Option<bool>
     ensures value { result ≡ truth_of text.now }
     ensures says { IsTruth text.now result }
@@ -20,7 +20,7 @@ pub fn parse_truth(text: &[u8]) -> Option<bool>
     truth_of(text)
 }
 
-/// What a word of truth says.
+/// The value of a word of truth.
 #[tactic(auto, unfolding(crate::specs::Truth::truth_of))]
 fn truth_of(word: &[u8]) -> Option<bool>
     ensures { result ≡ truth_of word.now }
@@ -34,21 +34,21 @@ fn truth_of(word: &[u8]) -> Option<bool>
     }
 }
 
-/// Whether it is a word for true.
+/// Whether a word is one for true.
 fn is_yes(word: &[u8]) -> bool
     ensures { result ≡ is_yes (str_to_ascii_lowercase word.now) }
 {
     is_word(word, b"yes") || is_word(word, b"on") || is_word(word, b"true")
 }
 
-/// Whether it is a word for false.
+/// Whether a word is one for false.
 fn is_no(word: &[u8]) -> bool
     ensures { result ≡ is_no (str_to_ascii_lowercase word.now) }
 {
     is_word(word, b"no") || is_word(word, b"off") || is_word(word, b"false") || word.is_empty()
 }
 
-/// Whether two words are one but for ASCII case.
+/// Whether two words are equal but for ASCII case.
 fn is_word(word: &[u8], other: &[u8]) -> bool
     ensures { result
         ≡ bytes_eq (str_to_ascii_lowercase word.now) (str_to_ascii_lowercase other.now) }
@@ -56,7 +56,7 @@ fn is_word(word: &[u8], other: &[u8]) -> bool
     word.eq_ignore_ascii_case(other)
 }
 
-/// What a number says.
+/// The truth of a number, with its sign or without.
 fn signed_truth(word: &[u8]) -> Option<bool>
     ensures { result ≡ signed_says (str_to_ascii_lowercase word.now) }
 {
@@ -67,7 +67,7 @@ fn signed_truth(word: &[u8]) -> Option<bool>
     }
 }
 
-/// What a number says that stands after its sign.
+/// The truth of a number, which stands behind its sign.
 fn number_truth(negative: bool, number: &[u8]) -> Option<bool>
     ensures { result ≡ number_says negative (str_to_ascii_lowercase number.now) }
 {
@@ -79,7 +79,7 @@ fn number_truth(negative: bool, number: &[u8]) -> Option<bool>
     Some(value != 0)
 }
 
-/// The digits that a text begins with, and what stands after them.
+/// Splits a text into the digits in front and the rest.
 fn split_digits(text: &[u8]) -> (&[u8], &[u8])
     ensures digits { result.0.now ≡ take_while is_ascii_digit text.now }
     ensures rest { result.1.now ≡ drop (prefix_len is_ascii_digit text.now) text.now }
@@ -87,24 +87,24 @@ fn split_digits(text: &[u8]) -> (&[u8], &[u8])
     text.split_at(digit_count(text))
 }
 
-/// How many digits a text begins with.
+/// The count of digits in front of a text.
 fn digit_count(text: &[u8]) -> usize
     ensures { result ≡ prefix_len is_ascii_digit text.now }
 {
     text.iter().copied().take_while(u8::is_ascii_digit).count()
 }
 
-/// Whether it is no letter, or one of `k`, `m` and `g`.
+/// Whether a text is a unit: empty, or one of `k`, `m` and `g`.
 fn is_unit(unit: &[u8]) -> bool
     ensures { result ≡ is_unit (str_to_ascii_lowercase unit.now) }
 {
     matches!(unit, [] | [b'k' | b'm' | b'g' | b'K' | b'M' | b'G'])
 }
 
-/// The number that decimal digits write, or `u64::MAX` where it lies above that. Of another byte counts how far it stands
-/// above `0` in ASCII, or nothing.
+/// The number that decimal digits write, or `u64::MAX` where it is greater. Another byte counts as far as it stands above `0`
+/// in ASCII, or as 0.
 ///
-/// It looks at each byte once and takes no memory.
+/// The call looks at each byte once and takes no memory.
 pub fn decimal_value(digits: &[u8]) -> u64
     ensures { result ≡ min (decimal_value digits.now) (2 ^ 64 - 1) }
 {

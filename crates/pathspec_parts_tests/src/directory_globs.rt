@@ -14,7 +14,7 @@ fn glob_of(alloc: Global, mode: Mode, pattern: &str) -> Result<Box<DirectoryGlob
     )?)
 }
 
-/// What the glob of a pattern says of a directory, where it says the same of the text of the directory and a slash.
+/// Whether a pattern's glob matches a directory; None where it answers otherwise of the text of the directory and a slash.
 fn of_directory(
     alloc: Global,
     (mode, case, pattern): (Mode, Case, &str),

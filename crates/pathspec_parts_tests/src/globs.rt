@@ -16,7 +16,7 @@ pub(super) fn boxed_room(alloc: Global, tokens: usize) -> Result<Box<Scratch>, A
     Ok(Box::new(alloc, Scratch::for_tokens(alloc, tokens)?)?)
 }
 
-/// What a glob of this pattern says of a text in a new scratch, and how many steps that took.
+/// Whether the glob of a pattern matches a text in a new scratch, and how many steps that took.
 pub(super) fn answer(
     alloc: Global,
     mode: Mode,

@@ -1,6 +1,6 @@
 //! Each growth refused in turn, of calls on globs, heads, attributes, stacks and trees.
 use crate::globs::boxed_room;
-use crate::heads::{next_of, path_table, reaches, stem_table, takes};
+use crate::heads::{answers, next_of, stem_table};
 use bstr::BStr;
 use pathspec_heads::places::PlacesByHead;
 use pathspec_parts::attributes::{Assignment, Case, Name, Outcome, StateRef};
@@ -22,7 +22,6 @@ enum Made {
     /// Heads that are sorted, the first of which that begins `a/b/c` is at a place.
     Heads(&'static [&'static [u8]], usize),
     Stems,
-    Paths,
     Outcome,
 }
 
@@ -58,8 +57,7 @@ impl Making for Made {
                 let places = PlacesByHead::new(alloc, heads)?;
                 Ok(next_of(&places, b"a/b/c", 0) == Some(place))
             }
-            Made::Stems => Ok(reaches(&stem_table(alloc)?)),
-            Made::Paths => Ok(takes(&path_table(alloc)?)),
+            Made::Stems => Ok(answers(&stem_table(alloc)?)),
             Made::Outcome => {
                 let found = outcome(alloc)?;
                 Ok(found.len() == 4 && found.state(1) == StateRef::Value(b"old"))
@@ -102,7 +100,7 @@ fn a_glob_for_directories_is_compiled_or_memory_ran_out(rt: HostRuntime) -> Resu
 #[rattlefmt::skip]
 fn heads_and_stems_are_sorted_or_memory_ran_out(rt: HostRuntime) -> Result<(), Fail> {
     const HEADS: &[&[u8]] = &[b"x", b"a", b"a/b", b"a", b"", b"a/"];
-    assert_calls(rt.alloc(), &[Makes(Made::Heads(HEADS, 1)), Makes(Made::Heads(&[b""], 0)), Makes(Made::Stems), Makes(Made::Paths)])
+    assert_calls(rt.alloc(), &[Makes(Made::Heads(HEADS, 1)), Makes(Made::Heads(&[b""], 0)), Makes(Made::Stems)])
 }
 
 /// A call that copies an assignment or a part of it.

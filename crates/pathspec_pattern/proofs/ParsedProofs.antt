@@ -18,11 +18,12 @@ use Rattle.pathspec_pattern.specs.Signatures.{signature_bits}
 use Rattle.pathspec_pattern.specs.Specs.{Spec, top, icase, exclude, must_be_dir, has, has_boundary}
 use Rattle.pathspec_parts.specs.Paths.{ends_with_slash, without_last_slash}
 use Rattle.pathspec_pattern.specs.Reading.{Keyword, keyword_of, Magic, with_piece, with_pieces, same_mode, long_pieces, Cut, short_bits, magic_of, spec_of, body_spec, prefix_length_of, is_number, no_magic, nil_spec, Reads, no_defaults}
-use Rattle.pathspec_pattern.specs.Reading.Keyword.{Adds, Picks, Ignored, Lists, Counts, Unknown}
+use Rattle.pathspec_pattern.specs.Reading.Keyword.{Flag, Mode, Ignored, Attributes, PrefixLength, Unknown}
 use Rattle.pathspec_pattern.specs.Reading.Reads.{verbatim, nothing, plain, magic}
 use Rattle.pathspec_pattern.specs.LongText.{long_text}
 use Rattle.pathspec_pattern.specs.RoundTrips.{is_expressible_state, is_set, is_expressible_assignment, IsExpressible, RoundTripIsExact, ParsedIsExpressible, ParsedRoundTrips}
-use Rattle.pathspec_pattern.proofs.ReadingProofs.{reading_is_exact, said_boundary}
+use Rattle.pathspec_pattern.proofs.ReadingProofs.{reading_is_exact, said_boundary, same_ok}
+use Rattle.pathspec_pattern.proofs.PrefixPieceProofs.{keyword_by}
 use Rattle.pathspec_pattern.proofs.RoundTripProofs.{round_trip}
 use Rattle.pathspec_pattern.proofs.ResultProofs.{bind_ok}
 
@@ -33,19 +34,15 @@ cond_ok : {A : Type 0} (t : Bool) (x y : A) (e : Fault) → cond t (Ok x) (Err e
 cond_ok true x y e h = (refl, let q : x ≡ y = cc in q)
 cond_ok false x y e h = absurd (let q : ⊥ = cc in q)
 
--- equal results have equal values
-ok_same : {A : Type 0} (x y : A) → ◌≡◌ {A = Result A Fault} (Ok x) (Ok y) → x ≡ y
-ok_same x y h = cc
-
 -- values of a list are a first and others
 all_ok-cons : {A : Type 0} (r : Result A Fault) (rs : List (Result A Fault)) (ys : List A) → all_ok (r ∷ rs) ≡ Ok ys → (y : A) × (zs : List A) × (r ≡ Ok y) × (all_ok rs ≡ Ok zs) × (ys ≡ y ∷ zs)
-all_ok-cons (Ok y) rs ys h = let b = bind_ok (all_ok rs) (λ xs. Ok (y ∷ xs)) ys h in (y, b.0, refl, b.1, sym (ok_same (y ∷ b.0) ys b.2))
+all_ok-cons (Ok y) rs ys h = let b = bind_ok (all_ok rs) (λ xs. Ok (y ∷ xs)) ys h in (y, b.0, refl, b.1, sym (same_ok (y ∷ b.0) ys b.2))
 all_ok-cons (Err e) rs ys h = absurd (let q : ⊥ = cc in q)
 
 -- what each value passes, all pass
 all_ok-passes : {X A : Type 0} (f : X → Result A Fault) (q : X → Bool) (p : A → Bool) (xs : List X) (ys : List A) → ((x : X) (y : A) → q x ≡ true → f x ≡ Ok y → p y ≡ true)
     → list_all q xs ≡ true → all_ok (map f xs) ≡ Ok ys → list_all p ys ≡ true
-all_ok-passes f q p [] ys w h e = subst (λ zs. list_all p zs ≡ true) (ok_same [] ys e) refl
+all_ok-passes f q p [] ys w h e = subst (λ zs. list_all p zs ≡ true) (same_ok [] ys e) refl
 all_ok-passes f q p (x ∷ xs) ys w h e =
     let k = and_parts (q x) (list_all q xs) h in
     let c = all_ok-cons (f x) (map f xs) ys e in
@@ -73,7 +70,7 @@ named_said : (state : State) (name : List ℕ) (a : Assignment) → is_expressib
 named_said state name a w n h =
     let k = bind_ok (name_of name) (λ m. Ok (record { name = m; state = state })) a h in
     let c = cond_ok (is_attribute_name name) name k.0 (InvalidName name) k.1 in
-    let e : ◌≡◌ {A = Assignment} (record { name = name; state = state }) a = ap (λ m. record { name = m; state = state }) c.1 ∙ ok_same (record { name = k.0; state = state }) a k.2 in
+    let e : ◌≡◌ {A = Assignment} (record { name = name; state = state }) a = ap (λ m. record { name = m; state = state }) c.1 ∙ same_ok (record { name = k.0; state = state }) a k.2 in
     subst (λ x. is_expressible_assignment x ≡ true) e
     (and_from (is_attribute_name name && is_expressible_state state) (not (is_set state && is_empty name)) (and_from (is_attribute_name name) (is_expressible_state state) c.0 w) (not_from_false (is_set state && is_empty name) n))
 
@@ -127,52 +124,36 @@ record IsKnown (m : Magic) : Type 0 where
 
 -- a keyword adds known bits
 abbrev is_known_keyword : Keyword → Bool
-is_known_keyword (Adds flag) = ltb flag 16
+is_known_keyword (Flag flag) = ltb flag 16
 is_known_keyword _ = true
-
--- a choice of two such keywords is one
-known_cond : (b : Bool) (x y : Keyword) → is_known_keyword x ≡ true → is_known_keyword y ≡ true → is_known_keyword (cond b x y) ≡ true
-known_cond true x y h k = h
-known_cond false x y h k = k
 
 -- each piece is one
 known_keyword : (piece : List ℕ) → is_known_keyword (keyword_of piece) ≡ true
-known_keyword piece =
-    let h = cond (begins_with piece (codes "prefix:")) (Counts (drop 7 piece)) Unknown in
-    let g = cond (begins_with piece (codes "attr:")) (Lists (drop 5 piece)) h in
-    let f = cond (bytes_eq piece (codes "attr")) Ignored g in
-    let e = cond (bytes_eq piece (codes "glob")) (Picks PathAwareGlob) f in
-    let d = cond (bytes_eq piece (codes "literal")) (Picks Literal) e in
-    let c = cond (bytes_eq piece (codes "exclude")) (Adds exclude) d in
-    let b = cond (bytes_eq piece (codes "icase")) (Adds icase) c in
-    known_cond (bytes_eq piece (codes "top")) (Adds top) b refl
-    (known_cond (bytes_eq piece (codes "icase")) (Adds icase) c refl
-    (known_cond (bytes_eq piece (codes "exclude")) (Adds exclude) d refl
-    (known_cond (bytes_eq piece (codes "literal")) (Picks Literal) e refl
-    (known_cond (bytes_eq piece (codes "glob")) (Picks PathAwareGlob) f refl
-    (known_cond (bytes_eq piece (codes "attr")) Ignored g refl
-    (known_cond (begins_with piece (codes "attr:")) (Lists (drop 5 piece)) h refl
-    (known_cond (begins_with piece (codes "prefix:")) (Counts (drop 7 piece)) Unknown refl refl)))))))
+known_keyword piece = keyword_by (λ k. is_known_keyword k ≡ true) piece refl refl refl refl refl refl refl (last (begins_with piece (codes "prefix:")))
+  where
+    last : (b : Bool) → is_known_keyword (cond b (PrefixLength (drop 7 piece)) Unknown) ≡ true
+    last true = refl
+    last false = refl
 
 -- a piece leaves magic known
 known_after : (m n : Magic) (piece : List ℕ) (k : Keyword) → IsKnown m → is_known_keyword k ≡ true → with_piece m piece k ≡ Ok n → IsKnown n
-known_after m n piece (Adds flag) w f h =
+known_after m n piece (Flag flag) w f h =
     let made : IsKnown (record m { signature = bit_or m.signature flag }) = record { signature = or_lt 4 m.signature flag w.signature (ltb-true flag 16 f); attributes = w.attributes } in
-    subst IsKnown (ok_same (record m { signature = bit_or m.signature flag }) n h) made
-known_after m n piece (Picks mode) w f h =
+    subst IsKnown (same_ok (record m { signature = bit_or m.signature flag }) n h) made
+known_after m n piece (Mode mode) w f h =
     let c = cond_ok (same_mode (unwrap_or m.mode mode) mode) (record m { mode = Some mode }) n (LiteralWithGlob piece) h in
     let made : IsKnown (record m { mode = Some mode }) = record { signature = w.signature; attributes = w.attributes } in
     subst IsKnown c.1 made
-known_after m n piece Ignored w f h = subst IsKnown (ok_same m n h) w
-known_after m n piece (Lists list) w f h = known_listed m n piece list (is_empty m.attributes) w h
+known_after m n piece Ignored w f h = subst IsKnown (same_ok m n h) w
+known_after m n piece (Attributes list) w f h = known_listed m n piece list (is_empty m.attributes) w h
   where
     known_listed : (m n : Magic) (piece list : List ℕ) (free : Bool) → IsKnown m → cond free (assignments_of list >>= λ assignments. Ok (record m { attributes = assignments })) (Err (SecondAttributes piece)) ≡ Ok n → IsKnown n
     known_listed m n piece list true w h =
         let k = bind_ok (assignments_of list) (λ assignments. Ok (record m { attributes = assignments })) n h in
         let made : IsKnown (record m { attributes = k.0 }) = record { signature = w.signature; attributes = assignments_said list k.0 k.1 } in
-        subst IsKnown (ok_same (record m { attributes = k.0 }) n k.2) made
+        subst IsKnown (same_ok (record m { attributes = k.0 }) n k.2) made
     known_listed m n piece list false w h = absurd (let q : ⊥ = cc in q)
-known_after m n piece (Counts digits) w f h =
+known_after m n piece (PrefixLength digits) w f h =
     let c = cond_ok (is_number digits) (record m { prefix = Some piece }) n (InvalidPrefix piece) h in
     let made : IsKnown (record m { prefix = Some piece }) = record { signature = w.signature; attributes = w.attributes } in
     subst IsKnown c.1 made
@@ -180,7 +161,7 @@ known_after m n piece Unknown w f h = absurd (let q : ⊥ = cc in q)
 
 -- so do pieces
 known_pieces : (m n : Magic) (pieces : List (List ℕ)) → IsKnown m → with_pieces m pieces ≡ Ok n → IsKnown n
-known_pieces m n [] w h = subst IsKnown (ok_same m n h) w
+known_pieces m n [] w h = subst IsKnown (same_ok m n h) w
 known_pieces m n (piece ∷ pieces) w h =
     let k = bind_ok (with_piece m piece (keyword_of piece)) (λ next. with_pieces next pieces) n h in
     known_pieces k.0 n pieces (known_after m k.0 piece (keyword_of piece) w (known_keyword piece) k.1) k.2
@@ -229,7 +210,7 @@ expressible_spec : (d : Defaults) (said : Magic) (body : List ℕ) (s : Spec) �
 unfolding spec_of
 expressible_spec d said body s h w e =
     let k = bind_ok (prefix_length_of said.prefix (without_last_slash body)) (λ n. Ok (body_spec d said body n)) s e in
-    let same = ok_same (body_spec d said body k.0) s k.2 in
+    let same = same_ok (body_spec d said body k.0) s k.2 in
     subst IsExpressible same (expressible_body d said body k.0 h w (subst (λ t. has_boundary t ≡ true) (sym same) (said_boundary d said body s e)))
 
 -- the nil spec is expressible

@@ -15,7 +15,7 @@ use Rattle.pathspec_pattern.specs.Specs.{Spec, top, icase, exclude}
 use Rattle.pathspec_pattern.specs.AttributeLists.{WrittenByte, name_of, is_value_byte, byte_of_written, value_of, written_bytes, assignment_with_state, assignment_with_value, assignment_of, assignments_of, parts}
 use Rattle.pathspec_pattern.specs.AttributeLists.WrittenByte.{Plain, Escaped, LoneBackslash}
 use Rattle.pathspec_pattern.specs.Reading.{Keyword, keyword_of, Magic, with_piece, with_pieces, same_mode, long_pieces, short_bits, Cut, magic_of, spec_of, body_spec, no_magic, Reads, IsRefused, is_prefix_piece, AsksNoPrefix, PrefixIsAsked}
-use Rattle.pathspec_pattern.specs.Reading.Keyword.{Adds, Picks, Ignored, Lists, Counts, Unknown}
+use Rattle.pathspec_pattern.specs.Reading.Keyword.{Flag, Mode, Ignored, Attributes, PrefixLength, Unknown}
 use Rattle.pathspec_pattern.specs.Reading.Reads.{verbatim, nothing, plain, magic}
 use Rattle.pathspec_pattern.specs.Reading.IsRefused.{empty, short, paren, piece as piece_fault, boundary}
 use Rattle.pathspec_pattern.proofs.ReadingProofs.{reading_is_exact}
@@ -80,31 +80,28 @@ list_tells list = cond_tells (is_empty list) (Err EmptyAttributes) (all_ok (map 
 
 -- the keyword asks for a prefix length
 abbrev asks_prefix : Keyword → Bool
-asks_prefix (Counts digits) = true
+asks_prefix (PrefixLength digits) = true
 asks_prefix _ = false
 
-cond_asks : (b : Bool) (x y : Keyword) → asks_prefix x ≡ false → asks_prefix y ≡ false → asks_prefix (cond b x y) ≡ false
-cond_asks true x y h k = h
-cond_asks false x y h k = k
+-- what holds of each keyword that a piece may be holds of the one that it is
+pub keyword_by : (P : Keyword → Type 0) (piece : List ℕ) → P (Flag top) → P (Flag icase) → P (Flag exclude) → P (Mode Literal) → P (Mode PathAwareGlob) → P Ignored → P (Attributes (drop 5 piece))
+    → P (cond (begins_with piece (codes "prefix:")) (PrefixLength (drop 7 piece)) Unknown) → P (keyword_of piece)
+keyword_by P piece top_holds icase_holds exclude_holds literal_holds glob_holds ignored_holds attributes_hold last =
+    by (bytes_eq piece (codes "top")) (Flag top) _ top_holds
+    (by (bytes_eq piece (codes "icase")) (Flag icase) _ icase_holds
+    (by (bytes_eq piece (codes "exclude")) (Flag exclude) _ exclude_holds
+    (by (bytes_eq piece (codes "literal")) (Mode Literal) _ literal_holds
+    (by (bytes_eq piece (codes "glob")) (Mode PathAwareGlob) _ glob_holds
+    (by (bytes_eq piece (codes "attr")) Ignored _ ignored_holds
+    (by (begins_with piece (codes "attr:")) (Attributes (drop 5 piece)) _ attributes_hold last))))))
+  where
+    by : (b : Bool) (x y : Keyword) → P x → P y → P (cond b x y)
+    by true x y h k = h
+    by false x y h k = k
 
 -- only a piece that begins with `prefix:` does
 keyword_asks : (piece : List ℕ) → is_prefix_piece piece ≡ false → asks_prefix (keyword_of piece) ≡ false
-keyword_asks piece none_asks =
-    let h = cond (begins_with piece (codes "prefix:")) (Counts (drop 7 piece)) Unknown in
-    let g = cond (begins_with piece (codes "attr:")) (Lists (drop 5 piece)) h in
-    let f = cond (bytes_eq piece (codes "attr")) Ignored g in
-    let e = cond (bytes_eq piece (codes "glob")) (Picks PathAwareGlob) f in
-    let d = cond (bytes_eq piece (codes "literal")) (Picks Literal) e in
-    let c = cond (bytes_eq piece (codes "exclude")) (Adds exclude) d in
-    let b = cond (bytes_eq piece (codes "icase")) (Adds icase) c in
-    let last : asks_prefix h ≡ false = rw none_asks refl in
-    cond_asks (bytes_eq piece (codes "top")) (Adds top) b refl
-    (cond_asks (bytes_eq piece (codes "icase")) (Adds icase) c refl
-    (cond_asks (bytes_eq piece (codes "exclude")) (Adds exclude) d refl
-    (cond_asks (bytes_eq piece (codes "literal")) (Picks Literal) e refl
-    (cond_asks (bytes_eq piece (codes "glob")) (Picks PathAwareGlob) f refl
-    (cond_asks (bytes_eq piece (codes "attr")) Ignored g refl
-    (cond_asks (begins_with piece (codes "attr:")) (Lists (drop 5 piece)) h refl last))))))
+keyword_asks piece none_asks = keyword_by (λ k. asks_prefix k ≡ false) piece refl refl refl refl refl refl refl (rw none_asks refl)
 
 -- what other pieces leave of magic asks for the same prefix length, and their faults are others
 abbrev LeavesPrefix : Magic → Result Magic Fault → Type 0
@@ -120,13 +117,13 @@ list_leaves m (Ok assignments) h = refl
 list_leaves m (Err fault) h = h
 
 piece_leaves : (m : Magic) (text : List ℕ) (k : Keyword) → asks_prefix k ≡ false → LeavesPrefix m (with_piece m text k)
-piece_leaves m text (Adds flag) h = refl
-piece_leaves m text (Picks mode) h = cond_leaves m (same_mode (unwrap_or m.mode mode) mode) (Ok (record m { mode = Some mode })) (Err (LiteralWithGlob text)) refl refl
+piece_leaves m text (Flag flag) h = refl
+piece_leaves m text (Mode mode) h = cond_leaves m (same_mode (unwrap_or m.mode mode) mode) (Ok (record m { mode = Some mode })) (Err (LiteralWithGlob text)) refl refl
 piece_leaves m text Ignored h = refl
-piece_leaves m text (Lists list) h =
+piece_leaves m text (Attributes list) h =
     cond_leaves m (is_empty m.attributes) (assignments_of list >>= λ assignments. Ok (record m { attributes = assignments })) (Err (SecondAttributes text))
     (list_leaves m (assignments_of list) (list_tells list)) refl
-piece_leaves m text (Counts digits) h = cc
+piece_leaves m text (PrefixLength digits) h = cc
 piece_leaves m text Unknown h = refl
 
 -- the same of one piece and of those after it

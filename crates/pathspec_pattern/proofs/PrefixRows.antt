@@ -1,5 +1,5 @@
 -- Rows on the piece `prefix:`.
-use Rattle.std.proofs.Common.{◌≡◌, ℕ, true, false, refl, List, [], Result, Ok, Err}
+use Rattle.std.proofs.Common.{◌≡◌, ℕ, Bool, true, false, refl, List, [], ◌∷◌, map, Result, Ok, Err}
 use Rattle.std.specs.Prelude.{codes}
 use Rattle.pathspec_pattern.specs.declared.SearchMode.{SearchMode}
 use Rattle.pathspec_pattern.specs.declared.SearchMode.TheVariants.{ShellGlob}
@@ -34,117 +34,82 @@ directory_is_read : directory (codes ":(icase,prefix:1)a/B") ≡ Ok (codes "a")
 unfolding directory
 directory_is_read = refl
 
-it_is_written : long (codes ":(icase,prefix:1)a/B") ≡ Ok (codes ":(icase,prefix:1)a/B")
+-- texts with a prefix length
+abbrev texts : List (List ℕ × Result Spec Fault)
+texts =
+    -- faults
+    (codes ":(prefix:2)a/B", Err (InvalidPrefix (codes "prefix:2")))
+    ∷ (codes ":(prefix:9,foo)x", Err (InvalidKeyword (codes "foo")))
+    ∷ (codes ":(prefix:)x", Err (InvalidPrefix (codes "prefix:")))
+    ∷ (codes ":(prefix:+1)x", Err (InvalidPrefix (codes "prefix:+1")))
+    ∷ (codes ":(prefix)x", Err (InvalidKeyword (codes "prefix")))
+    ∷ (codes ":(prefix:18446744073709551616)x", Err (InvalidPrefix (codes "prefix:18446744073709551616")))
+    -- zeros in front count for nothing
+    ∷ (codes ":(prefix:000)x", Ok (with_prefix_length (codes "x") 0 ShellGlob 0))
+    ∷ (codes ":(prefix:00000000000000000000000000000000000000000001)x", Ok (with_prefix_length (codes "x") 0 ShellGlob 1))
+    -- of several only the last is compared with the path
+    ∷ (codes ":(prefix:x,prefix:1,foo)a/b", Err (InvalidPrefix (codes "prefix:x")))
+    ∷ (codes ":(prefix:1,prefix:9)a/b", Err (InvalidPrefix (codes "prefix:9")))
+    -- a last slash that is stripped counts before, and not after
+    ∷ (codes ":(prefix:3)a/b/", Ok (with_prefix_length (codes "a/b") 8 ShellGlob 3))
+    ∷ (codes ":(prefix:4)a/b/", Err (InvalidPrefix (codes "prefix:4")))
+    ∷ (codes ":(prefix:1\\,2)x", Err (InvalidPrefix (codes "prefix:1\\,2")))
+    ∷ []
+
+texts_are_read : map (λ r. parse r.0) texts ≡ map (λ r. r.1) texts
+unfolding parse
+texts_are_read = refl
+
+-- texts and the long texts of what they say
+abbrev texts_written : List (List ℕ × Result (List ℕ) Fault)
+texts_written =
+    (codes ":(icase,prefix:1)a/B", Ok (codes ":(icase,prefix:1)a/B"))
+    ∷ (codes ":(prefix:9,prefix:01)a/b", Ok (codes ":(prefix:1)a/b"))
+    ∷ (codes ":(attr:g,prefix:1)a/b", Ok (codes ":(prefix:1,attr:g)a/b"))
+    ∷ (codes ":(prefix:1)a/", Ok (codes ":(prefix:1)a/"))
+    ∷ (codes ":(prefix:0010)abcdefghij/k", Ok (codes ":(prefix:10)abcdefghij/k"))
+    ∷ []
+
+texts_are_written : map (λ r. long r.0) texts_written ≡ map (λ r. r.1) texts_written
 unfolding long
-it_is_written = refl
+texts_are_written = refl
 
-no_boundary : parse (codes ":(prefix:2)a/B") ≡ Err (InvalidPrefix (codes "prefix:2"))
-unfolding parse
-no_boundary = refl
+-- a prefix, a root and a text, and the path, the prefix directory and whether it is nil of its normal form
+abbrev normal_texts : List (List ℕ × List ℕ × List ℕ × Result (List ℕ × List ℕ × Bool) Fault)
+normal_texts =
+    ([], [], codes ":(prefix:1)a/b", Ok (codes "a/b", codes "a", false))
+    ∷ (codes "c", [], codes ":(prefix:1)a/b", Ok (codes "c/a/b", codes "c", false))
+    -- where the path changes it has none
+    ∷ ([], [], codes ":(prefix:1)a//b", Ok (codes "a/b", [], false))
+    -- from the top none is joined
+    ∷ (codes "c", [], codes ":(top,prefix:1)a/b", Ok (codes "a/b", codes "a", false))
+    ∷ ([], [], codes ":(icase,prefix:1).", Ok (codes ".", [], true))
+    ∷ ([], codes "/r", codes ":(prefix:2)/r/a/b", Ok (codes "a/b", codes "a", false))
+    ∷ []
 
-other_faults_first : parse (codes ":(prefix:9,foo)x") ≡ Err (InvalidKeyword (codes "foo"))
-unfolding parse
-other_faults_first = refl
-
-no_digits : parse (codes ":(prefix:)x") ≡ Err (InvalidPrefix (codes "prefix:"))
-unfolding parse
-no_digits = refl
-
-a_sign : parse (codes ":(prefix:+1)x") ≡ Err (InvalidPrefix (codes "prefix:+1"))
-unfolding parse
-a_sign = refl
-
-no_colon : parse (codes ":(prefix)x") ≡ Err (InvalidKeyword (codes "prefix"))
-unfolding parse
-no_colon = refl
-
-the_last_counts : long (codes ":(prefix:9,prefix:01)a/b") ≡ Ok (codes ":(prefix:1)a/b")
-unfolding long
-the_last_counts = refl
-
-before_attributes : long (codes ":(attr:g,prefix:1)a/b") ≡ Ok (codes ":(prefix:1,attr:g)a/b")
-unfolding long
-before_attributes = refl
-
-whole_path : long (codes ":(prefix:1)a/") ≡ Ok (codes ":(prefix:1)a/")
-unfolding long
-whole_path = refl
-
-none_wraps : parse (codes ":(prefix:18446744073709551616)x") ≡ Err (InvalidPrefix (codes "prefix:18446744073709551616"))
-unfolding parse
-none_wraps = refl
-
-it_stays : normal [] [] (codes ":(prefix:1)a/b") ≡ Ok (codes "a/b", codes "a", false)
+normal_forms : map (λ r. normal r.0 r.1 r.2) normal_texts ≡ map (λ r. r.3) normal_texts
 unfolding normal
-it_stays = refl
+normal_forms = refl
 
-a_prefix_is_joined : normal (codes "c") [] (codes ":(prefix:1)a/b") ≡ Ok (codes "c/a/b", codes "c", false)
-unfolding normal
-a_prefix_is_joined = refl
+-- a prefix and a text, and the prefix length of its normal form
+abbrev normal_lengths : List (List ℕ × List ℕ × Result ℕ Fault)
+normal_lengths =
+    ([], codes ":(icase,prefix:1).", Ok 0)
+    ∷ ([], codes ":(prefix:0)", Ok 0)
+    ∷ []
 
-the_path_changes : normal [] [] (codes ":(prefix:1)a//b") ≡ Ok (codes "a/b", [], false)
-unfolding normal
-the_path_changes = refl
-
-the_top_joins_none : normal (codes "c") [] (codes ":(top,prefix:1)a/b") ≡ Ok (codes "a/b", codes "a", false)
-unfolding normal
-the_top_joins_none = refl
-
-dot_is_nil : normal [] [] (codes ":(icase,prefix:1).") ≡ Ok (codes ".", [], true)
-unfolding normal
-dot_is_nil = refl
-
-dot_has_none : normal_length [] (codes ":(icase,prefix:1).") ≡ Ok 0
+lengths_of_normal_forms : map (λ r. normal_length r.0 r.1) normal_lengths ≡ map (λ r. r.2) normal_lengths
 unfolding normal_length
-dot_has_none = refl
+lengths_of_normal_forms = refl
 
-normal_is_written : normal_long (codes "a") (codes ":(icase)B") ≡ Ok (codes ":(icase,prefix:1)a/B")
+-- a prefix and a text, and the long text of its normal form
+abbrev normals_written : List (List ℕ × List ℕ × Result (List ℕ) Fault)
+normals_written =
+    (codes "a", codes ":(icase)B", Ok (codes ":(icase,prefix:1)a/B"))
+    -- a literal spec under a prefix, of which a directory is wanted
+    ∷ (codes "a", codes ":(literal)./", Ok (codes ":(literal,prefix:1)a/"))
+    ∷ []
+
+normal_forms_are_written : map (λ r. normal_long r.0 r.1) normals_written ≡ map (λ r. r.2) normals_written
 unfolding normal_long
-normal_is_written = refl
-
--- a literal spec under a prefix, of which a directory is wanted
-literal_directory : normal_long (codes "a") (codes ":(literal)./") ≡ Ok (codes ":(literal,prefix:1)a/")
-unfolding normal_long
-literal_directory = refl
-
--- ---- rows that the table lacks
-
-zeros_are_zero : parse (codes ":(prefix:000)x") ≡ Ok (with_prefix_length (codes "x") 0 ShellGlob 0)
-unfolding parse
-zeros_are_zero = refl
-
-zeros_do_not_count : parse (codes ":(prefix:00000000000000000000000000000000000000000001)x") ≡ Ok (with_prefix_length (codes "x") 0 ShellGlob 1)
-unfolding parse
-zeros_do_not_count = refl
-
-a_bad_number_does_not_wait : parse (codes ":(prefix:x,prefix:1,foo)a/b") ≡ Err (InvalidPrefix (codes "prefix:x"))
-unfolding parse
-a_bad_number_does_not_wait = refl
-
-only_the_last_is_compared : parse (codes ":(prefix:1,prefix:9)a/b") ≡ Err (InvalidPrefix (codes "prefix:9"))
-unfolding parse
-only_the_last_is_compared = refl
-
-before_a_stripped_slash : parse (codes ":(prefix:3)a/b/") ≡ Ok (with_prefix_length (codes "a/b") 8 ShellGlob 3)
-unfolding parse
-before_a_stripped_slash = refl
-
-past_a_stripped_slash : parse (codes ":(prefix:4)a/b/") ≡ Err (InvalidPrefix (codes "prefix:4"))
-unfolding parse
-past_a_stripped_slash = refl
-
-a_backslash_is_no_digit : parse (codes ":(prefix:1\\,2)x") ≡ Err (InvalidPrefix (codes "prefix:1\\,2"))
-unfolding parse
-a_backslash_is_no_digit = refl
-
-two_digits : long (codes ":(prefix:0010)abcdefghij/k") ≡ Ok (codes ":(prefix:10)abcdefghij/k")
-unfolding long
-two_digits = refl
-
-slash_in_front : normal [] (codes "/r") (codes ":(prefix:2)/r/a/b") ≡ Ok (codes "a/b", codes "a", false)
-unfolding normal
-slash_in_front = refl
-
-empty_path_has_none : normal_length [] (codes ":(prefix:0)") ≡ Ok 0
-unfolding normal_length
-empty_path_has_none = refl
+normal_forms_are_written = refl

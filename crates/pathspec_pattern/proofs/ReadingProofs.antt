@@ -19,6 +19,7 @@ use Rattle.pathspec_pattern.specs.Reading.{Cut, IsCut, text_of, cut_of, cut_end,
 use Rattle.pathspec_pattern.specs.Reading.Reads.{verbatim, nothing, plain, magic}
 use Rattle.pathspec_pattern.specs.Reading.IsRefused.{empty, short as short_fault, paren, piece, boundary}
 use Rattle.pathspec_pattern.proofs.ResultProofs.{bind_ok}
+use Rattle.pathspec_pattern.proofs.AttributeTextProofs.{list_any-append_hit, before-append, after-append}
 
 -- ---- the front that passes a test
 
@@ -75,17 +76,6 @@ at_close (b ∷ bs) h = elim (cases_Bool (b == close_paren)) [
       record { whole = rw (n, one-add, add-one) (ap (λ x. b ∷ x) (rw add-one at ih.whole)); none = rw (n, one-add) (or_from (b == close_paren) _ n ih.none) }
 ]
 
-no_close : (long : List ℕ) → list_any is_close long ≡ false → list_all (λ b. not (is_close b)) long ≡ true
-no_close [] h = refl
-no_close (b ∷ long) h = let p = or_parts (is_close b) (list_any is_close long) h in and_from (not (is_close b)) (list_all (λ b. not (is_close b)) long) (not_from_false (is_close b) p.0) (no_close long p.1)
-
--- what stands before a `)` and after it, where none stands before
-before_close : (long body : List ℕ) → list_any is_close long ≡ false → before_first is_close (long ++ close_paren ∷ body) ≡ long
-before_close long body h = rw (prefix_len-whole (λ b. not (is_close b)) long (close_paren ∷ body) (no_close long h) refl) (take-append_seam long (close_paren ∷ body))
-
-after_close : (long body : List ℕ) → list_any is_close long ≡ false → after_first is_close (long ++ close_paren ∷ body) ≡ body
-after_close long body h = rw (prefix_len-whole (λ b. not (is_close b)) long (close_paren ∷ body) (no_close long h) refl) (drop-append-add long (close_paren ∷ body) 1)
-
 -- ---- what a cut is
 
 text_regrouped : (cut : Cut) → text_of cut ≡ colon ∷ cut.short ++ (end_mark cut.ended ++ (in_parentheses cut.long ++ cut.body))
@@ -110,12 +100,7 @@ bare b h =
 paren_found : (text short : List ℕ) (ended : Bool) (long body : List ℕ) → list_any is_close long ≡ false
     → cut_paren text short ended (long ++ close_paren ∷ body) ≡ Ok (record { short = short; ended = ended; long = Some long; body = body })
 paren_found text short ended long body h =
-    let any : list_any is_close (long ++ close_paren ∷ body) ≡ true = has_close long body in
-    rw (any, before_close long body h, after_close long body h) refl
-  where
-    has_close : (long body : List ℕ) → list_any is_close (long ++ close_paren ∷ body) ≡ true
-    has_close [] body = refl
-    has_close (b ∷ long) body = or_right (is_close b) (list_any is_close (long ++ close_paren ∷ body)) (has_close long body)
+    rw (list_any-append_hit is_close long close_paren body refl, before-append is_close long close_paren body h refl, after-append is_close long close_paren body h refl) refl
 
 end_found : (text short : List ℕ) (ended : Bool) (long : Option (List ℕ)) (body : List ℕ) → holds_close long ≡ false → first_is (λ b. not (may_begin ended long b)) body ≡ false
     → cut_end text short (end_mark ended ++ (in_parentheses long ++ body)) ≡ Ok (record { short = short; ended = ended; long = long; body = body })
@@ -306,7 +291,7 @@ not_empty (b ∷ bs) h = refl
 pub not_colon : (text : List ℕ) → text ≢ colon ∷ [] → bytes_eq text (colon ∷ []) ≡ false
 not_colon text h = false_from_ne_true (bytes_eq text (colon ∷ [])) (λ e. h ((bytes_eq-Decides text (colon ∷ [])).0 e))
 
-same_ok : {A E : Type 0} (x y : A) → ◌≡◌ {A = Result A E} (Ok x) (Ok y) → x ≡ y
+pub same_ok : {A E : Type 0} (x y : A) → ◌≡◌ {A = Result A E} (Ok x) (Ok y) → x ≡ y
 same_ok x y h = cc
 
 same_err : {A E : Type 0} (x y : E) → ◌≡◌ {A = Result A E} (Err x) (Err y) → x ≡ y

@@ -6,9 +6,9 @@ use Rattle.pathspec_pattern.specs.Signatures.{signature_bits}
 
 -- what a keyword asks for
 abbrev pub keyword_view : Keyword → Asked
-keyword_view (told.Adds flag) = Asked.Adds (signature_bits flag)
-keyword_view (told.Picks mode) = Asked.Picks mode
+keyword_view (told.Flag flag) = Asked.Flag (signature_bits flag)
+keyword_view (told.Mode mode) = Asked.Mode mode
 keyword_view told.Ignored = Asked.Ignored
-keyword_view (told.Lists list) = Asked.Lists list.now
-keyword_view (told.Counts digits) = Asked.Counts digits.now
+keyword_view (told.Attributes list) = Asked.Attributes list.now
+keyword_view (told.PrefixLength digits) = Asked.PrefixLength digits.now
 keyword_view told.Unknown = Asked.Unknown

@@ -51,18 +51,18 @@ long_pieces long = filter (λ piece. not (is_empty piece)) (long_pieces_from 0 l
 
 -- what a piece asks for
 pub data Keyword : Type 0 where
-  Adds : (flag : ℕ) → Keyword
-  Picks : (mode : SearchMode) → Keyword
+  Flag : (flag : ℕ) → Keyword
+  Mode : (mode : SearchMode) → Keyword
   Ignored : Keyword
-  Lists : (list : List ℕ) → Keyword
-  Counts : (digits : List ℕ) → Keyword
+  Attributes : (list : List ℕ) → Keyword
+  PrefixLength : (digits : List ℕ) → Keyword
   Unknown : Keyword
 
 -- the pieces that carry a value
 abbrev pub valued_keyword_of : List ℕ → Keyword
 valued_keyword_of piece =
-    if begins_with piece (codes "attr:") then Lists (drop 5 piece)
-    else if begins_with piece (codes "prefix:") then Counts (drop 7 piece)
+    if begins_with piece (codes "attr:") then Attributes (drop 5 piece)
+    else if begins_with piece (codes "prefix:") then PrefixLength (drop 7 piece)
     else Unknown
 
 -- a piece that asks for a prefix length
@@ -72,11 +72,11 @@ is_prefix_piece piece = begins_with piece (codes "prefix:")
 -- the table of pieces
 abbrev pub keyword_of : List ℕ → Keyword
 keyword_of piece =
-    if bytes_eq piece (codes "top") then Adds top
-    else if bytes_eq piece (codes "icase") then Adds icase
-    else if bytes_eq piece (codes "exclude") then Adds exclude
-    else if bytes_eq piece (codes "literal") then Picks Literal
-    else if bytes_eq piece (codes "glob") then Picks PathAwareGlob
+    if bytes_eq piece (codes "top") then Flag top
+    else if bytes_eq piece (codes "icase") then Flag icase
+    else if bytes_eq piece (codes "exclude") then Flag exclude
+    else if bytes_eq piece (codes "literal") then Mode Literal
+    else if bytes_eq piece (codes "glob") then Mode PathAwareGlob
     else if bytes_eq piece (codes "attr") then Ignored
     else valued_keyword_of piece
 
@@ -115,11 +115,11 @@ with_prefix magic piece digits = if is_number digits then Ok (record magic { pre
 
 -- what a piece makes of the magic before it, or its fault
 abbrev pub with_piece : Magic → List ℕ → Keyword → Result Magic Fault
-with_piece magic piece (Adds flag) = Ok (record magic { signature = bit_or magic.signature flag })
-with_piece magic piece (Picks mode) = with_mode magic piece mode
+with_piece magic piece (Flag flag) = Ok (record magic { signature = bit_or magic.signature flag })
+with_piece magic piece (Mode mode) = with_mode magic piece mode
 with_piece magic piece Ignored = Ok magic
-with_piece magic piece (Lists list) = with_list magic piece list
-with_piece magic piece (Counts digits) = with_prefix magic piece digits
+with_piece magic piece (Attributes list) = with_list magic piece list
+with_piece magic piece (PrefixLength digits) = with_prefix magic piece digits
 with_piece magic piece Unknown = Err (InvalidKeyword piece)
 
 -- what the pieces make of the magic before them, from left to right, or the fault of the first at fault

@@ -1,4 +1,4 @@
-//! What a text gets that says nothing of it.
+//! The defaults of pathspecs, which the variables of git's environment set.
 ghost use Rattle.std.specs.Prelude.{◌≡◌, ℕ, List, [], ◌∷◌, Option, Some};
 ghost use Rattle.pathspec_pattern.specs.Errors.{IsAnswerOrFault};
 ghost use Rattle.pathspec_pattern.specs.Environment.{flag_of, mode_of, mode_of_words, case_signature, defaults_of, asked_globs, asked_variables, HasAsked, AnswersBy, words_of, UnaskedDoNotCount};
@@ -8,31 +8,31 @@ use bitflags::Flags;
 use pathspec_parts::truth::parse_truth;
 use std::alloc::Global;
 
-/// What a pathspec gets where its text says nothing of it; git sets these by `GIT_LITERAL_PATHSPECS` and its kin
-/// (git, "Environment variables").
+/// The defaults for all that a pathspec's text doesn't say. git sets them by `GIT_LITERAL_PATHSPECS` and the variables after
+/// it (git, "Environment variables").
 ///
-/// Defaults are compared by their signature, search mode and whether they are literal, in this order.
+/// Defaults compare by their signature, search mode and whether they are literal, in this order.
 #[derive(Clone, Copy, Debug, Default, PartialEq, Eq, PartialOrd, Ord)]
 pub struct Defaults {
-    /// Bits that each signature has beside its own.
+    /// Bits that each signature has beside those of its text.
     pub signature: MagicSignature,
     /// The mode of each pathspec that picks none.
     pub search_mode: SearchMode,
-    /// Texts aren't read: each is its own path, in mode [`SearchMode::Literal`].
+    /// Whether texts aren't read: each is then its own path, in mode [`SearchMode::Literal`].
     pub literal: bool,
 }
 
 impl Defaults {
-    /// The defaults that the variables of git's environment ask for (git, "GIT_LITERAL_PATHSPECS" and those after it).
-    /// `var` is asked for a variable's text by its name: for `GIT_LITERAL_PATHSPECS` and `GIT_ICASE_PATHSPECS`, and then,
-    /// unless the first is true, for `GIT_GLOB_PATHSPECS` and `GIT_NOGLOB_PATHSPECS`. One that isn't set is false; the
-    /// others are words of truth, as [`parse_truth`] reads them. After a fault no more are asked for.
+    /// Reads the defaults from the variables of git's environment (git, "GIT_LITERAL_PATHSPECS" and those after it). The call
+    /// asks `var` for the texts of `GIT_LITERAL_PATHSPECS` and `GIT_ICASE_PATHSPECS`. Unless the first is true, it asks for
+    /// those of `GIT_GLOB_PATHSPECS` and `GIT_NOGLOB_PATHSPECS`, too. A variable that isn't set is false; the others are words
+    /// of truth, as [`parse_truth`] reads them. After a fault the call asks for no more.
     ///
-    /// It looks at each byte of their texts a fixed number of times. Only the bytes that an error carries take memory.
+    /// The call looks at each byte of the texts a fixed number of times. Only the bytes that an error carries take memory.
     ///
     /// # Errors
-    /// [`Error::NotTruth`] with the first text that is no word of truth, or [`Error::Memory`] in its place;
-    /// [`Error::GlobAndNoGlob`] where both of these are true.
+    /// [`Error::NotTruth`] with the first text that is no word of truth, or [`Error::Memory`] in its place.
+    /// [`Error::GlobAndNoGlob`] where both variables for globs are true.
     pub fn from_environment<'e, F: FnMut(&str) -> Option<&'e str>>(
         alloc: Global,
         var: &mut F,
@@ -40,7 +40,7 @@ impl Defaults {
         requires { F.IsAlwaysCallable var.old }
         ensures callable { F.IsAlwaysCallable var.new }
         ensures asked { HasAsked F.FnMut asked_variables defaults_of var.old result var.new }
-        // So a closure that answers by a table gets the defaults of the table's words.
+        // A closure that answers by a table gets the defaults of the table's words.
         ensures table { (table : List ℕ → Option (List ℕ)) → AnswersBy F.FnMut table
             → IsAnswerOrFault (defaults_of (words_of table)) result }
         // A word that wasn't asked for doesn't count.
@@ -65,7 +65,7 @@ impl Defaults {
     }
 }
 
-/// The signature where case counts or not.
+/// The signature that ignores case, or doesn't.
 fn case_signature(ignore_case: bool) -> MagicSignature
     ensures { result ≡ case_signature ignore_case }
 {
@@ -108,7 +108,7 @@ fn mode_of(glob: bool, noglob: bool) -> Result<SearchMode, Error>
     }
 }
 
-/// Whether the variable with this name is true.
+/// Whether the variable with the given name is true.
 ///
 /// # Errors
 /// [`Error::NotTruth`] and [`Error::Memory`].
@@ -128,10 +128,10 @@ fn ask_flag<'e, F: FnMut(&str) -> Option<&'e str>>(
     }
 }
 
-/// What a word of truth says.
+/// The value of a word of truth.
 ///
 /// # Errors
-/// [`Error::NotTruth`] where it is none, and [`Error::Memory`].
+/// [`Error::NotTruth`] for any other word, and [`Error::Memory`].
 fn flag_of(alloc: Global, word: &[u8]) -> Result<bool, Error>
     ensures { IsAnswerOrFault (flag_of (Some word.now)) result }
 {

@@ -1,4 +1,4 @@
-//! Why a text is no pathspec, or a pathspec has no normal form.
+//! The error of a text that is no pathspec, or of a pathspec without a normal form.
 ghost use Rattle.std.specs.Prelude.{◌≡◌, IfOk, IfErr};
 ghost use Rattle.pathspec_pattern.specs.Errors.{kind_of, IsMemory};
 
@@ -6,7 +6,7 @@ use bstr::BStr;
 use std::alloc::{AllocError, AllocFailed, Global};
 use std::{error, fmt};
 
-/// Why a text is no pathspec, or a pathspec or the environment lies outside of what can be answered.
+/// The reason why a text is no pathspec, a pathspec has no normal form, or the environment gives no defaults.
 #[derive(Debug, Drop, PartialEq, Eq)]
 pub enum Error {
     /// The text is empty.
@@ -15,7 +15,7 @@ pub enum Error {
     UnimplementedShort(u8),
     /// Long magic without its closing parenthesis: the whole text, from its `:` on.
     MissingParen(Vec<u8>),
-    /// No keyword of long magic: the whole piece, as it stands between the commas that cut.
+    /// A piece of long magic that is no keyword: the whole piece, as it stands between the commas that cut.
     InvalidKeyword(Vec<u8>),
     /// `literal` after `glob`, or the other way round: the second of them.
     LiteralWithGlob(Vec<u8>),
@@ -25,7 +25,7 @@ pub enum Error {
     InvalidPrefix(Vec<u8>),
     /// `attr:` without a list: nothing follows its colon.
     EmptyAttributes,
-    /// No name of an attribute: the name without the mark `-` or `!` before it, and without `=` and a value.
+    /// A name that no attribute has: the name without the mark `-` or `!` before it, and without `=` and a value.
     InvalidName(Vec<u8>),
     /// A byte that no value of an attribute holds: the byte, without a backslash before it.
     InvalidValueByte(u8),
@@ -35,7 +35,7 @@ pub enum Error {
     OutsideRoot(Vec<u8>),
     /// A path that climbs out of the repository: the path as it was before the call, without the prefix.
     LeavesRepository(Vec<u8>),
-    /// No word of truth: the word.
+    /// A word that is no word of truth: the word.
     NotTruth(Vec<u8>),
     /// Glob and no-glob are both asked for.
     GlobAndNoGlob,
@@ -51,7 +51,7 @@ impl fmt::Display for Error {
     }
 }
 
-/// What an error carries.
+/// The value that an error carries.
 #[derive(Drop)]
 enum Detail<'a> {
     Nothing,
@@ -94,7 +94,7 @@ impl Error {
         }
     }
 
-    /// What it says, up to what it carries.
+    /// The message, up to the value that the error carries.
     fn message(&self) -> &'static str {
         match self {
             Error::Empty => "an empty string is not a valid pathspec",
@@ -116,7 +116,7 @@ impl Error {
         }
     }
 
-    /// What it carries.
+    /// The value that the error carries.
     fn detail(&self) -> Detail<'_> {
         match self {
             Error::UnimplementedShort(byte) | Error::InvalidValueByte(byte) => Detail::Byte(*byte),
@@ -155,7 +155,7 @@ impl<T: Drop> From<AllocFailed<T>> for Error {
     }
 }
 
-/// The bytes that an error carries.
+/// Copies the bytes that an error is to carry.
 ///
 /// # Errors
 /// [`Error::Memory`], in place of that error.

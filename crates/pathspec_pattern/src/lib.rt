@@ -1,4 +1,4 @@
-//! One pathspec of git (gitglossary, "pathspec"): its text is read, written and normalised.
+//! One pathspec of git (gitglossary, "pathspec"): reads its text, writes it, and normalises its path.
 #![tactic(auto)]
 
 ghost use Rattle.std.specs.Prelude.{⊤, codes, [], ◌∷◌};
@@ -14,7 +14,7 @@ pub use defaults::Defaults;
 pub use error::Error;
 pub use pattern::Pattern;
 
-/// What the magic of a pathspec asks for, one bit each. Further bits are kept and mean nothing.
+/// The flags that the magic of a pathspec asks for, one bit each. Further bits are kept and mean nothing.
 #[derive(Clone, Copy, Debug, Default, PartialEq, Eq, PartialOrd, Ord, Hash)]
 pub struct MagicSignature(u32);
 
@@ -23,7 +23,7 @@ impl MagicSignature {
     pub const TOP: MagicSignature = MagicSignature(1);
     /// ASCII case doesn't count: `:(icase)path`.
     pub const ICASE: MagicSignature = MagicSignature(2);
-    /// What matches is taken out: `:!path`, `:^path`, `:(exclude)path`.
+    /// Paths that match are taken out: `:!path`, `:^path`, `:(exclude)path`.
     pub const EXCLUDE: MagicSignature = MagicSignature(4);
     /// Only a directory matches, and what lies below it: `path/`.
     pub const MUST_BE_DIR: MagicSignature = MagicSignature(8);
@@ -70,14 +70,14 @@ impl Flags for MagicSignature {
     }
 }
 
-/// How the path of a pathspec is compared with paths.
+/// The way in which the path of a pathspec is compared with paths.
 #[derive(Clone, Copy, Debug, Default, PartialEq, Eq, PartialOrd, Ord, Hash)]
 pub enum SearchMode {
-    /// As a glob whose wildcards take `/` too.
+    /// A glob whose wildcards take `/` too.
     #[default]
     ShellGlob,
-    /// Byte for byte: `:(literal)path`.
+    /// A text that is compared byte for byte: `:(literal)path`.
     Literal,
-    /// As a glob whose wildcards don't take `/`, but for `**`: `:(glob)path`.
+    /// A glob whose wildcards don't take `/`, but for `**`: `:(glob)path`.
     PathAwareGlob,
 }

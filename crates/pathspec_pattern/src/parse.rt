@@ -22,36 +22,39 @@ use magic::Magic;
 use pathspec_parts::path;
 use std::alloc::Global;
 
-/// Reads the text of a pathspec: `:` alone, a path, or a path after `:`, short magic (`/`, `^`, `!`, and a `:` that
-/// may end it) and long magic (`(top,icase,..)`). Long magic may say `top`, `icase`, `exclude`, `literal`, `glob`,
-/// `attr`, which asks for nothing, once `attr:` with a list of attributes (see [`attributes`]), and `prefix:` with the
-/// length of the prefix directory in decimal digits, of which the last counts: so `:(icase,prefix:1)a/B` has the prefix
-/// directory `a`. The defaults say what a text gets that says nothing of it.
+/// Reads the text of a pathspec: `:` alone, a path, or a path behind magic. The defaults decide what the text doesn't say.
 ///
-/// It looks at each byte a fixed number of times. It takes memory for the path, for the attributes with their names
-/// and values, or for the bytes that an error carries.
+/// Short magic is `:` and bytes of `/`, `^` and `!`; a further `:` may end it. Long magic follows it in parentheses, as in
+/// `:(top,icase)a`: `top`, `icase`, `exclude`, `literal`, `glob`, and `attr`, which asks for nothing. Once it may say `attr:`
+/// with a list of attributes (see [`attributes`]). `prefix:` has the length of the prefix directory in decimal digits, and the
+/// last one counts: so `:(icase,prefix:1)a/B` has the prefix directory `a`.
+///
+/// The call looks at each byte a fixed number of times. It takes memory for the path, for the attributes with their names and
+/// values, or for the bytes that an error carries.
 ///
 /// # Errors
-/// [`Error::Empty`] for the empty text, [`Error::UnimplementedShort`] for a byte of short magic that git keeps
-/// free, [`Error::MissingParen`] for `(` without `)`; for the first piece of long magic at fault
-/// [`Error::InvalidKeyword`], [`Error::LiteralWithGlob`] where it picks a second mode, [`Error::SecondAttributes`]
-/// where it is a second list, the error of its list, as [`attributes`] gives it, or [`Error::InvalidPrefix`] where no
-/// digits alone follow its `prefix:`. Where all else is right, [`Error::InvalidPrefix`] for the last `prefix:` whose number
-/// is no length that a directory of the path can have: 0, the path's length, or the position of a slash. [`Error::Memory`].
+/// - [`Error::Empty`] for the empty text, [`Error::UnimplementedShort`] for a byte of short magic that git keeps free, and
+///   [`Error::MissingParen`] for `(` without `)`.
+/// - For the first piece of long magic at fault: [`Error::InvalidKeyword`], [`Error::LiteralWithGlob`] for a second mode,
+///   [`Error::SecondAttributes`] for a second list, a list's own error ([`attributes`]), or [`Error::InvalidPrefix`] for other
+///   than digits.
+/// - Else [`Error::InvalidPrefix`] where the last `prefix:` has no length that a directory of the path can have. Such lengths
+///   are 0, the path's length, and the position of a slash.
+/// - [`Error::Memory`].
 pub fn parse(alloc: Global, input: &[u8], defaults: Defaults) -> Result<Pattern, Error>
     ensures reads { IfOk result (λ p. Reads defaults input.now (pattern_spec p)) }
     ensures refused { IfErr result (λ e. IsMemoryOr e (IsRefused defaults input.now)) }
-    // The same by the function that other definitions stand on.
+    // The function that other definitions stand on says the same.
     ensures exact { Computes pattern_spec (reading defaults input.now) result }
     // A text has at most one cut, and the relation and the function say the same of each text.
     ensures grammar { OneCut × ReadingIsExact }
-    // The prefix length of what a text says is a boundary of its path, and 0 where no piece asks for one.
+    // The prefix length of a spec that a text says is a boundary of its path, and 0 where no piece asks for one.
     ensures prefix { ReadHasBoundary × BoundaryIsExact × PrefixIsAsked }
 {
     pattern_of(alloc, input, defaults)
 }
 
-/// The pattern that a text says.
+/// Reads the pattern of a text.
 fn pattern_of(alloc: Global, input: &[u8], defaults: Defaults) -> Result<Pattern, Error>
     ensures { Computes pattern_spec (reading defaults input.now) result }
 {
@@ -70,7 +73,7 @@ fn pattern_of(alloc: Global, input: &[u8], defaults: Defaults) -> Result<Pattern
     pattern_with_magic(alloc, input, defaults)
 }
 
-/// The pattern that a text says, which begins with `:` and doesn't end there.
+/// Reads the pattern of a text that begins with `:` and doesn't end there.
 fn pattern_with_magic(alloc: Global, text: &[u8], defaults: Defaults) -> Result<Pattern, Error>
     ensures { Computes pattern_spec (magic_reading defaults text.now) result }
 {
@@ -79,7 +82,7 @@ fn pattern_with_magic(alloc: Global, text: &[u8], defaults: Defaults) -> Result<
     Pattern::with_body(alloc, defaults, magic, cut.body)
 }
 
-/// What the magic of a cut says.
+/// Reads the magic of a cut.
 #[tactic(auto, unfolding(crate::specs::Reading::magic_of))]
 fn magic_of<'p>(alloc: Global, cut: &Cut<'p>) -> Result<Magic<'p>, Error>
     ensures { IsAnswer (magic_of cut.now) result }
@@ -107,7 +110,7 @@ fn begins_with_colon(input: &[u8]) -> bool
     matches!(input, [b':', ..])
 }
 
-/// What short magic asks for: `/` the top, `^` and `!` an exclude.
+/// The flags that short magic asks for: `/` the top, `^` and `!` an exclude.
 fn signature_of(short: &[u8]) -> MagicSignature
     ensures { signature_bits result ≡ short_bits short.now }
 {
@@ -126,7 +129,7 @@ fn holds_exclude(short: &[u8]) -> bool
 
 impl Pattern {
     // In line, since it takes the magic apart, and gives a large pattern, for each spec.
-    /// The spec that magic and a body say.
+    /// Makes the pattern that magic and a body say.
     #[inline(always)]
     #[tactic(auto, unfolding(crate::specs::Reading::spec_of))]
     fn with_body(

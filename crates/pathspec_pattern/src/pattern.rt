@@ -18,21 +18,21 @@ use pathspec_parts::attributes::Assignment;
 use pathspec_parts::glob::first_wildcard;
 use std::alloc::{AllocError, Global};
 
-/// A pathspec: a path, and how it is to be compared with paths.
+/// A pathspec: a path, and the rules by which it is compared with paths.
 ///
-/// Patterns are compared by their path, signature, search mode, attributes, whether they are nil, and how long their
-/// prefix directory is, in this order.
+/// Patterns compare by their path, signature, search mode, attributes, whether they are nil, and the length of their prefix
+/// directory, in this order.
 #[derive(Debug, Drop, PartialEq, Eq, PartialOrd, Ord, Hash)]
 pub struct Pattern {
     pub(crate) path: Vec<u8>,
-    /// What its magic asks for.
+    /// The flags that the magic asks for.
     pub signature: MagicSignature,
-    /// How its path is compared with paths.
+    /// The way in which the path is compared with paths.
     pub search_mode: SearchMode,
-    /// The attributes that a path must have, and what they must be.
+    /// The attributes that a path must have, each with its state.
     pub attributes: Vec<Assignment>,
     pub(crate) nil: bool,
-    /// How many bytes of the path are the prefix directory.
+    /// The length of the prefix directory, in bytes.
     pub(crate) prefix_length: usize,
     ghost boundary: { IsTrue (is_boundary path.items prefix_length) },
     ghost nil_has_none: { IsTrue nil → prefix_length ≡ 0 },
@@ -58,7 +58,7 @@ impl Pattern {
     /// Reads the text of a pathspec, as [`parse::parse`] does, with its cost and its errors.
     ///
     /// # Errors
-    /// Those of [`parse::parse`].
+    /// The errors of [`parse::parse`].
     pub fn from_bytes(alloc: Global, input: &[u8], defaults: Defaults) -> Result<Pattern, Error>
         ensures reads { IfOk result (λ p. Reads defaults input.now (pattern_spec p)) }
         ensures refused { IfErr result (λ e. IsMemoryOr e (IsRefused defaults input.now)) }
@@ -104,14 +104,14 @@ impl Pattern {
         }
     }
 
-    /// A pattern equal to this one.
+    /// Clones the pattern.
     ///
     /// # Errors
     /// [`Error::Memory`] alone.
     pub fn try_clone(&self) -> Result<Pattern, Error>
         ensures ok { IfOk result (λ p. pattern_spec p ≡ pattern_spec self.now) }
         ensures err { IfErr result IsMemory }
-        // So the copy equals the pattern: `==` compares just what the spec holds.
+        // The copy equals the pattern, since `==` compares just what the spec holds.
         ensures equal { ComparesSpecs ⟦<Pattern as PartialEq>⟧.eq }
     {
         Ok(Pattern {
@@ -132,12 +132,12 @@ impl Pattern {
         text_of(self.path.as_slice())
     }
 
-    /// The directory in front of the path, without a last slash, that a spec without case compares with case. A text asks
-    /// for it by `prefix:`; [`Pattern::normalize`] sets it to what it took from the prefix, or of an absolute path to all
-    /// but the last component, and to all of it where a directory is wanted. Otherwise it is empty.
+    /// The directory in front of the path, without a last slash, that a spec without case compares with case. A text asks for
+    /// it by `prefix:`. [`Pattern::normalize`] sets it to what came from the prefix: `a` for `b`, given in `a`. Of an absolute
+    /// path it is all but the last component, or all where a directory is wanted. Otherwise it is empty.
     ///
-    /// It ends where a name of the path does: it is empty, the whole path, or followed by a slash. That is kept with the
-    /// pattern, so nothing is searched. A nil spec has none.
+    /// The directory is empty, the whole path, or followed by a slash. Its length is kept, so nothing is searched. A nil spec
+    /// has none.
     pub fn prefix_directory(&self) -> BStr<'_>
         ensures directory { bstr_bytes result ≡ prefix_directory (pattern_spec self.now) }
         ensures boundary { IsTrue (has_boundary (pattern_spec self.now)) }
@@ -146,14 +146,14 @@ impl Pattern {
         BStr::new(&self.path[..self.prefix_length])
     }
 
-    /// Whether this spec says that there is no pathspec.
+    /// Whether the spec is nil: it says that there is no pathspec, as `:` does.
     pub fn is_nil(&self) -> bool
         ensures { result ≡ (pattern_spec self.now).nil }
     {
         self.nil
     }
 
-    /// Whether what matches is taken out.
+    /// Whether the spec is an exclude, which takes matching paths out.
     pub fn is_excluded(&self) -> bool
         ensures { result ≡ is_exclude (pattern_spec self.now) }
     {
@@ -167,15 +167,15 @@ impl Pattern {
         self.nil || self.path.is_empty()
     }
 
-    /// Whether the spec isn't nil and its path holds `*`, `?`, `[` or `\`. One look at each byte of the path.
+    /// Whether the spec isn't nil and its path holds `*`, `?`, `[` or `\`. Looks at each byte of the path once.
     pub fn has_wildcard(&self) -> bool
         ensures { result ≡ has_wildcard (pattern_spec self.now) }
     {
         !self.nil && first_wildcard(self.path.as_slice()).is_some()
     }
 
-    /// Whether the path is compared as a glob: the spec has a wildcard, and its mode isn't [`SearchMode::Literal`].
-    /// One look at each byte of the path.
+    /// Whether the path is compared as a glob: the spec has a wildcard, and its mode isn't [`SearchMode::Literal`]. Looks at
+    /// each byte of the path once.
     pub fn is_glob(&self) -> bool
         ensures { result ≡ is_glob (pattern_spec self.now) }
     {
@@ -183,7 +183,7 @@ impl Pattern {
     }
 }
 
-/// The same assignments.
+/// A copy of a list of assignments.
 fn cloned(alloc: Global, assignments: &[Assignment]) -> Result<Vec<Assignment>, AllocError>
     ensures { IfOk result (λ copy.
         map assignment_view copy.items ≡ map assignment_view assignments.now) }
@@ -195,7 +195,7 @@ fn cloned(alloc: Global, assignments: &[Assignment]) -> Result<Vec<Assignment>, 
     Ok(copy)
 }
 
-/// The text of these bytes.
+/// The bytes as a text.
 fn text_of(bytes: &[u8]) -> BStr<'_>
     ensures text { bstr_bytes result ≡ bytes.now }
     ensures bytes { IsBytes bytes.now }

@@ -11,9 +11,9 @@ use Rattle.pathspec_select.specs.declared.listing.entries.RecordError.TheVariant
 use Rattle.pathspec_parts.specs.Bytes.{slash, is_empty}
 use Rattle.pathspec_parts.specs.Entries.Call.{Open, Close}
 use Rattle.pathspec_parts.specs.Trees.{TreeContents, tree_after}
-use Rattle.pathspec_select.specs.Listing.{record_names, parent_names, own_names, shared_depth, implied_names, directory_calls}
-use Rattle.pathspec_select.specs.ListingAnswers.{directory_names, has_empty_name, AnswersNames, RefusesNames}
-use Rattle.pathspec_select.proofs.ListingProofs.{records-first}
+use Rattle.pathspec_parts.specs.Records.{record_names, parent_names, own_names, shared_depth, implied_names, directory_calls, directory_names, has_empty_name}
+use Rattle.pathspec_select.specs.ListingAnswers.{AnswersNames, RefusesNames}
+use Rattle.pathspec_parts.proofs.RecordProofs.{records-first}
 use Rattle.pathspec_select.proofs.SharedProofs.{unshared}
 
 is_empty-some : (name : List ℕ) → name ≢ [] → is_empty name ≡ false

@@ -7,7 +7,8 @@ use Rattle.gix_pathspec.specs.Search.{Numbered, specs_of}
 use Rattle.gix_pathspec.specs.Matching.{is_chosen}
 use Rattle.gix_pathspec.proofs.ChosenProofs.{chosen_is_test}
 use Rattle.pathspec_select.specs.declared.refusal.Refusal.{Refusal}
-use Rattle.pathspec_select.specs.Listing.{records, output, record_path, record_is_dir}
+use Rattle.pathspec_parts.specs.Records.{records, record_path, record_is_dir}
+use Rattle.pathspec_select.specs.Listing.{output}
 use Rattle.pathspec_select.specs.Requests.{JobSpecs}
 use Rattle.pathspec_select.specs.Program.{EndsJob}
 use Rattle.pathspec_select.specs.Choice.{IsSelection, IsChosenRecord, WritesRecords}

@@ -2,7 +2,8 @@
 use Rattle.std.proofs.Common.{◌≡◌, ℕ, Bool, List, true, false, refl, [], ◌∷◌, Some, None, map}
 use Rattle.std.specs.Prelude.{codes}
 use Rattle.pathspec_parts.specs.Entries.{Entry}
-use Rattle.pathspec_select.specs.Listing.{records, first_bad, listing_entries, marks_from, mark_at}
+use Rattle.pathspec_parts.specs.Records.{records, first_bad, listing_entries}
+use Rattle.pathspec_select.specs.Listing.{marks_from, mark_at}
 
 two_records : records 10 (codes "x\ny z\n") ≡ (codes "x" ∷ codes "y z" ∷ [])
 two_records = refl

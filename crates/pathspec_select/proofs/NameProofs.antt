@@ -12,10 +12,9 @@ use Rattle.std.specs.List.{slice_split, onto_first, before_first}
 use Rattle.bstr.specs.Find.{IsLastByte, is_byte}
 use Rattle.pathspec_parts.specs.Bytes.{slash, is_empty, first_is, begins_with}
 use Rattle.pathspec_parts.specs.Paths.{is_slash, pieces, ends_with_slash, without_last_slash}
-use Rattle.pathspec_select.specs.Listing.{without_empty_end, record_path, record_names, parent_names, own_names, is_bad, holds_two_slashes}
-use Rattle.pathspec_select.specs.ListingAnswers.{directory_names, has_empty_name, HasCommonFront, IsAfterName, SharesNames, IsClosed}
-use Rattle.pathspec_select.proofs.ListingProofs.{others, split-first}
-use Rattle.pathspec_select.proofs.RecordProofs.{last_cases}
+use Rattle.pathspec_parts.specs.Records.{without_empty_end, record_path, record_names, parent_names, own_names, is_bad, holds_two_slashes, directory_names, has_empty_name}
+use Rattle.pathspec_select.specs.ListingAnswers.{HasCommonFront, IsAfterName, SharesNames, IsClosed}
+use Rattle.pathspec_parts.proofs.RecordProofs.{others, split-first, last_cases, ends_with_slash-push, without_last_slash-push}
 
 -- ---- parts
 
@@ -70,19 +69,6 @@ directory_names-append _ more (after_slash front) =
     ∙ (without_empty_end-append (pieces front) (before_first is_slash more) (others is_slash more)
     ∙ (ap (λ t. pieces front ++ without_empty_end t) (sym later) ∙ ap (λ t. t ++ directory_names more) (sym names))))
 
--- ---- a last byte
-
-pub ends_with_slash-push : (front : List ℕ) (b : ℕ) → ends_with_slash (front ++ b ∷ []) ≡ is_slash b
-ends_with_slash-push front b =
-    let at : length (front ++ b ∷ []) - 1 ≡ length front = omega (arith, length_push front b) in
-    rw (at, drop-append_seam front (b ∷ [])) (grind (arith, nat_tests))
-
-pub without_last_slash-push : (front : List ℕ) (b : ℕ) → without_last_slash (front ++ b ∷ []) ≡ cond (is_slash b) front (front ++ b ∷ [])
-without_last_slash-push front b =
-    let at : length (front ++ b ∷ []) - 1 ≡ length front = omega (arith, length_push front b) in
-    ap (λ t. cond t (take (length (front ++ b ∷ []) - 1) (front ++ b ∷ [])) (front ++ b ∷ [])) (ends_with_slash-push front b)
-    ∙ ap (λ t. cond (is_slash b) t (front ++ b ∷ [])) (ap (λ n. take n (front ++ b ∷ [])) at ∙ take-append_seam front (b ∷ []))
-
 -- ---- closed paths
 
 pub from_form : (path : List ℕ) → ClosedForm path → IsClosed path
@@ -132,75 +118,6 @@ cut_names path middle b closed none =
           subst (NamesAre text path) (sym name) (names_are text path (middle ++ b ∷ []) closed (All-push (λ x. is_slash x ≡ false) middle b none f)
           (whole ∙ (ap (λ t. cond t (path ++ middle) text) f ∙ append_assoc path middle (b ∷ []))))
     ]
-
--- ---- bad records
-
--- the first part is empty where a slash begins the text with a slash after it
-first_part : (text : List ℕ) → is_empty (before_first is_slash text) ≡ first_is is_slash (text ++ slash ∷ [])
-first_part [] = refl
-first_part (b ∷ bs) = elim (cases_Bool (is_slash b)) [
-  | inl t ↦ rw t refl
-  | inr f ↦ rw (f, one-add) refl
-]
-
-has_empty_name-first : (text : List ℕ) → has_empty_name (pieces text) ≡ (first_is is_slash (text ++ slash ∷ []) || has_empty_name (drop 1 (pieces text)))
-has_empty_name-first text =
-    let parts = split-first is_slash text in
-    ap has_empty_name parts ∙ (ap (λ t. t || has_empty_name (others is_slash text)) (first_part text) ∙ ap (λ t. first_is is_slash (text ++ slash ∷ []) || has_empty_name (drop 1 t)) (sym parts))
-
--- a later one, where it holds two in a row
-has_empty_name-later : (text : List ℕ) → has_empty_name (drop 1 (pieces text)) ≡ holds_two_slashes (text ++ slash ∷ [])
-has_empty_name-later [] = refl
-has_empty_name-later (b ∷ bs) = elim (cases_Bool (is_slash b)) [
-  | inl t ↦ rw t (has_empty_name-first bs ∙ ap (λ t. first_is is_slash (bs ++ slash ∷ []) || t) (has_empty_name-later bs))
-  | inr f ↦ rw f (ap has_empty_name (same_later (pieces bs)) ∙ has_empty_name-later bs)
-]
-  where
-    same_later : (parts : List (List ℕ)) → drop 1 (onto_first b parts) ≡ drop 1 parts
-    same_later [] = refl
-    same_later (part ∷ parts) = refl
-
-has_empty_name-pieces : (text : List ℕ) → has_empty_name (pieces text) ≡ (first_is is_slash (text ++ slash ∷ []) || holds_two_slashes (text ++ slash ∷ []))
-has_empty_name-pieces text = has_empty_name-first text ∙ ap (λ t. first_is is_slash (text ++ slash ∷ []) || t) (has_empty_name-later text)
-
-begins_with-slash : (text : List ℕ) → begins_with text (slash ∷ []) ≡ first_is is_slash text
-begins_with-slash [] = refl
-begins_with-slash (b ∷ bs) = grind (arith, nat_tests)
-
-first_is-push : (front : List ℕ) (b : ℕ) (more : List ℕ) → first_is is_slash ((front ++ b ∷ []) ++ more) ≡ first_is is_slash (front ++ b ∷ [])
-first_is-push [] b more = refl
-first_is-push (x ∷ front) b more = refl
-
--- a slash after a last byte that is none
-holds_two_slashes-push : (front : List ℕ) (b : ℕ) → is_slash b ≡ false → holds_two_slashes ((front ++ b ∷ []) ++ slash ∷ []) ≡ holds_two_slashes (front ++ b ∷ [])
-holds_two_slashes-push [] b f = rw f refl
-holds_two_slashes-push (x ∷ front) b f =
-    ap (λ t. is_slash x && first_is is_slash ((front ++ b ∷ []) ++ slash ∷ []) || t) (holds_two_slashes-push front b f)
-    ∙ ap (λ t. is_slash x && t || holds_two_slashes (front ++ b ∷ [])) (first_is-push front b (slash ∷ []))
-
-is_bad-push : (front : List ℕ) (b : ℕ) → is_bad (front ++ b ∷ []) ≡ (first_is is_slash (front ++ b ∷ []) || holds_two_slashes (front ++ b ∷ []))
-is_bad-push [] b = ap (λ t. t || holds_two_slashes (b ∷ [])) (begins_with-slash (b ∷ []))
-is_bad-push (x ∷ front) b = ap (λ t. t || holds_two_slashes (x ∷ front ++ b ∷ [])) (begins_with-slash (x ∷ front ++ b ∷ []))
-
-has_empty_name-push : (front : List ℕ) (b : ℕ) → has_empty_name (record_names (front ++ b ∷ [])) ≡ is_bad (front ++ b ∷ [])
-has_empty_name-push front b = elim (cases_Bool (is_slash b)) [
-  | inl t ↦
-      let path : record_path (front ++ b ∷ []) ≡ front = without_last_slash-push front b ∙ ap (λ t. cond t front (front ++ b ∷ [])) t in
-      let same : slash ≡ b = sym (eqb-true b slash t) in
-      ap (λ x. has_empty_name (pieces x)) path ∙ (has_empty_name-pieces front ∙ (ap (λ x. first_is is_slash (front ++ x ∷ []) || holds_two_slashes (front ++ x ∷ [])) same ∙ sym (is_bad-push front b)))
-  | inr f ↦
-      let path : record_path (front ++ b ∷ []) ≡ front ++ b ∷ [] = without_last_slash-push front b ∙ ap (λ t. cond t front (front ++ b ∷ [])) f in
-      ap (λ x. has_empty_name (pieces x)) path ∙ (has_empty_name-pieces (front ++ b ∷ [])
-      ∙ (ap (λ t. t || holds_two_slashes ((front ++ b ∷ []) ++ slash ∷ [])) (first_is-push front b (slash ∷ []))
-      ∙ (ap (λ t. first_is is_slash (front ++ b ∷ []) || t) (holds_two_slashes-push front b f) ∙ sym (is_bad-push front b))))
-]
-
--- A record is bad just where one of its names is empty.
-pub has_empty_name-record : (text : List ℕ) → has_empty_name (record_names text) ≡ is_bad text
-has_empty_name-record [] = refl
-has_empty_name-record (b ∷ bs) =
-    let c = last_cases (b ∷ bs) (omega arith) in
-    subst (λ t. has_empty_name (record_names t) ≡ is_bad t) (sym c.2) (has_empty_name-push c.0 c.1)
 
 -- ---- the last slash before the last byte
 

@@ -5,8 +5,9 @@ use Rattle.gix_pathspec.specs.Specs.{Spec}
 use Rattle.pathspec_select.specs.declared.refusal.Refusal.{Refusal}
 use Rattle.pathspec_select.specs.declared.refusal.Refusal.TheVariants as refusal
 use Rattle.pathspec_parts.specs.Entries.{Entry}
-use Rattle.pathspec_select.specs.Listing.{records, listing_entries, marks_from, written_entries}
-use Rattle.pathspec_select.specs.Walks.{IsWalk}
+use Rattle.pathspec_parts.specs.Records.{records, listing_entries}
+use Rattle.pathspec_select.specs.Listing.{marks_from, written_entries}
+use Rattle.pathspec_walk.specs.Walks.{IsWalk}
 use Rattle.pathspec_select.proofs.RecordProofs.{output_by_walk}
 use Rattle.std.specs.Io.KnownBytes.{Keeps, Appends}
 use Rattle.gix_pathspec.specs.Search.{Numbered, specs_of}

@@ -12,11 +12,11 @@ use Rattle.pathspec_select.specs.declared.listing.entries.RecordError.TheVariant
 use Rattle.pathspec_parts.specs.Bytes.{is_empty}
 use Rattle.pathspec_parts.specs.Trees.{TreeContents, tree_after, tree_of_calls}
 use Rattle.pathspec_parts.proofs.TreeProofs.{tree_has_entries}
-use Rattle.pathspec_select.specs.Listing.{records, first_bad, is_bad, record_is_dir, record_names, parent_names, open_after, record_calls, calls_from, marks_of_record, marks_from, ListingContents, listing_of}
-use Rattle.pathspec_select.specs.ListingAnswers.{directory_names, has_empty_name, IsFreeOf, RefusesNames, RefusesRecords, refusal_of}
+use Rattle.pathspec_parts.specs.Records.{records, first_bad, is_bad, record_is_dir, record_names, parent_names, open_after, record_calls, calls_from, directory_names, has_empty_name}
+use Rattle.pathspec_select.specs.Listing.{marks_of_record, marks_from, ListingContents, listing_of}
+use Rattle.pathspec_select.specs.ListingAnswers.{IsFreeOf, RefusesNames, RefusesRecords, refusal_of}
 use Rattle.pathspec_select.specs.Outlines.{OutlineContents, empty_outline, record_from, listing_of_outline, HasOpen, KeepsListing, IsRecordAt}
-use Rattle.pathspec_select.proofs.ListingProofs.{records-first}
-use Rattle.pathspec_select.proofs.NameProofs.{has_empty_name-record}
+use Rattle.pathspec_parts.proofs.RecordProofs.{records-first, has_empty_name-record}
 
 -- what has been read before the rest
 pub record IsReadUpTo (bytes : List ℕ) (separator : ℕ) (rest directory : List ℕ) (outline : OutlineContents) (number : ℕ) : Type 0 where

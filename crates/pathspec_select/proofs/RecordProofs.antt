@@ -12,21 +12,16 @@ use Rattle.pathspec_parts.specs.Paths.{join_names}
 use Rattle.pathspec_parts.specs.Attributes.{Table}
 use Rattle.pathspec_parts.specs.Entries.{Call, OpenDirectory, Entry, own_call, names_of, entries_from, entries_where}
 use Rattle.pathspec_parts.specs.Entries.Call.{Open, Close}
+use Rattle.pathspec_parts.proofs.RecordProofs.{take-less, take-common_prefix_len, last_cases}
 use Rattle.pathspec_parts.proofs.EntryProofs.{numbers_from, numbers_from-yes, numbers_from-no}
 use Rattle.gix_pathspec.specs.Specs.{Spec}
 use Rattle.gix_pathspec.specs.Matching.{is_chosen}
-use Rattle.pathspec_select.specs.Listing.{record_path, record_is_dir, record_names, parent_names, own_names, open_after, shared_depth, implied_names, calls_from, listing_entries, marks_from, written_of, output, IsEntryOf, RecordsAreEntries}
-use Rattle.pathspec_select.specs.Walks.{chosen_entries, OutputByWalk}
-use Rattle.pathspec_select.proofs.EnteredProofs.{given_is_one}
+use Rattle.pathspec_parts.specs.Records.{record_path, record_is_dir, record_names, parent_names, own_names, open_after, shared_depth, implied_names, calls_from, listing_entries}
+use Rattle.pathspec_select.specs.Listing.{marks_from, written_of, output, IsEntryOf, RecordsAreEntries, OutputByWalk}
+use Rattle.pathspec_walk.specs.Walks.{chosen_entries}
+use Rattle.pathspec_walk.proofs.EnteredProofs.{given_is_one}
 
 -- ---- calls in a row
-
--- of a list without its last element, and then without k more, what is left
-pub take-less : {X : Type 0} (k : ℕ) (xs : List X) → take (length (take (length xs - 1) xs) - k) (take (length xs - 1) xs) ≡ take (length xs - suc k) xs
-take-less k xs =
-    let long : length (take (length xs - 1) xs) ≡ length xs - 1 = length-take (length xs - 1) xs ∙ omega arith in
-    let same : length (take (length xs - 1) xs) - k ≡ length xs - suc k = omega (arith, long) in
-    ap (λ n. take n (take (length xs - 1) xs)) same ∙ take-take (length xs - suc k) (length xs - 1) xs (omega arith)
 
 -- directories that are closed
 entries_from-closes : (n : ℕ) (directories : List OpenDirectory) (k : ℕ) (calls : List Call) → entries_from n directories (replicate k Close ++ calls) ≡ entries_from n (take (length directories - k) directories) calls
@@ -70,25 +65,6 @@ zip-own false n directories name calls marks r d p h = ((p, sym d), h)
 names_of-directories_after : (is_dir : Bool) (directories : List OpenDirectory) (n : ℕ) (name : List ℕ) (front : List (List ℕ)) → names_of directories ≡ front → names_of (directories_after is_dir directories n name) ≡ cond is_dir (front ++ name ∷ []) front
 names_of-directories_after true directories n name front e = map-append (λ d. d.name) directories (record { number = n; name = name } ∷ []) ∙ ap (λ t. t ++ name ∷ []) e
 names_of-directories_after false directories n name front e = e
-
--- as far as two lists are the same, they are
-pub take-common_prefix_len : (xs ys : List (List ℕ)) → take (common_prefix_len bytes_eq xs ys) xs ≡ take (common_prefix_len bytes_eq xs ys) ys
-take-common_prefix_len [] [] = refl
-take-common_prefix_len [] (y ∷ ys) = refl
-take-common_prefix_len (x ∷ xs) [] = refl
-take-common_prefix_len (x ∷ xs) (y ∷ ys) = elim (cases_Bool (bytes_eq x y)) [
-  | inl t ↦
-      let same : x ≡ y = (bytes_eq-Decides x y).0 t in
-      let e : 1 + common_prefix_len bytes_eq xs ys ≡ suc (common_prefix_len bytes_eq xs ys) = omega arith in
-      rw (t, e) (ap (λ z. z ∷ take (common_prefix_len bytes_eq xs ys) xs) same ∙ ap (λ t. y ∷ t) (take-common_prefix_len xs ys))
-  | inr f ↦ rw f refl
-]
-
--- a list with a last element
-pub last_cases : {X : Type 0} (xs : List X) → 0 < length xs → (front : List X) × (x : X) × (xs ≡ front ++ x ∷ [])
-last_cases [] l = absurd (omega (arith, l))
-last_cases (x ∷ []) l = ([], x, refl)
-last_cases (x ∷ y ∷ xs) l = let r = last_cases (y ∷ xs) (omega arith) in (x ∷ r.0, r.1, ap (λ t. x ∷ t) r.2)
 
 -- the names of a record: those of its parents, and its own
 record IsNamed (r : List ℕ) (name : List ℕ) : Type 0 where

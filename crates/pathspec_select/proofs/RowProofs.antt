@@ -4,7 +4,7 @@ use Rattle.std.proofs.lemmas.List.{map-append}
 use Rattle.pathspec_parts.specs.Bytes.{is_empty}
 use Rattle.pathspec_parts.specs.Paths.{is_clean_prefix}
 use Rattle.pathspec_parts.specs.Attributes.{Assignment}
-use Rattle.pathspec_parts.specs.AttributeRows.{Row}
+use Rattle.pathspec_parts.specs.AttributeRows.{Row, RowsContents}
 use Rattle.gix_pathspec.specs.Results.{◌>>=◌, all_ok}
 use Rattle.pathspec_pattern.specs.AttributeLists.{assignments_of}
 use Rattle.pathspec_select.specs.declared.refusal.Refusal.{Refusal}
@@ -16,7 +16,7 @@ use Rattle.pathspec_select.specs.Options.Setting.{EndsByNul, HasPrefix, HasRoot,
 use Rattle.pathspec_select.specs.Options.OptionWord.{EndsOptions, SaysNul, NamesPrefix, NamesRoot, NamesList, NamesSource, IsUnknown, BeginsSpecs}
 use Rattle.pathspec_select.specs.Options.Awaited.{AnyWord, PrefixPath, RootPath, ListPath, ListOf, SourceName}
 use Rattle.pathspec_select.specs.OptionWords.{options_from}
-use Rattle.pathspec_select.specs.Rows.{RowsContents, list_result, row_of, rows_of_options, rows_of_words, IsUsageOrMemory}
+use Rattle.pathspec_select.specs.Rows.{list_result, row_of, rows_of_options, rows_of_words, IsUsageOrMemory}
 
 -- ---- one row more
 

@@ -4,8 +4,8 @@ use Rattle.std.proofs.lemmas.Bool.{cases_Bool}
 use Rattle.std.proofs.lemmas.List.{take_rest}
 use Rattle.std.proofs.lemmas.Slice.Eq.{bytes_eq-Decides}
 use Rattle.std.specs.Prelude.{bytes_eq}
-use Rattle.pathspec_select.specs.Listing.{shared_depth, implied_names}
-use Rattle.pathspec_select.specs.ListingAnswers.{directory_names, SharesNames}
+use Rattle.pathspec_parts.specs.Records.{shared_depth, implied_names, directory_names}
+use Rattle.pathspec_select.specs.ListingAnswers.{SharesNames}
 
 -- as a pair, by one name after the other
 abbrev pub unshared : List (List ℕ) → List (List ℕ) → List (List ℕ) × List (List ℕ)

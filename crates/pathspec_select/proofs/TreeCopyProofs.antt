@@ -16,7 +16,7 @@ use Rattle.pathspec_parts.specs.declared.tree.TreeError.{TreeError}
 use Rattle.pathspec_parts.specs.declared.tree.TreeError.TheVariants.{EmptyName, NotOpen, Memory}
 use Rattle.pathspec_parts.proofs.NodeProofs.{last_is}
 use Rattle.pathspec_parts.proofs.TreeProofs.{get-append, get-last, get-cases, tree_has_entries}
-use Rattle.pathspec_select.specs.Outlines.{IsMade}
+use Rattle.pathspec_parts.specs.Nesting.{IsMade}
 use Rattle.pathspec_select.specs.TreeCopies.{AreOpenIn, IsCopyBy, IsCopy, TakesNext, TakesNextAbove, IsLengthAbove}
 
 -- ---- lists

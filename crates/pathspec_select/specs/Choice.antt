@@ -6,7 +6,8 @@ use Rattle.pathspec_pattern.specs.Environment.{Words}
 use Rattle.gix_pathspec.specs.Specs.{Spec}
 use Rattle.gix_pathspec.specs.Search.{Numbered}
 use Rattle.gix_pathspec.specs.Matching.{IsChosen}
-use Rattle.pathspec_select.specs.Listing.{records, table_of, record_path, record_is_dir}
+use Rattle.pathspec_parts.specs.Records.{records, record_path, record_is_dir}
+use Rattle.pathspec_parts.specs.AttributeRows.{table_of}
 use Rattle.pathspec_select.specs.Requests.{JobSpecs}
 use Rattle.pathspec_select.specs.Program.{OnParts, AsksFor}
 

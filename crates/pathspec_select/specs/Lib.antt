@@ -12,6 +12,8 @@ pub use Rattle.gix_pathspec.specs.Patterns
 pub use Rattle.gix_pathspec.specs.Search
 pub use Rattle.gix_pathspec.specs.Lines
 pub use Rattle.gix_pathspec.specs.SelectionLaws
+pub use Rattle.pathspec_walk.specs.Walks
+pub use Rattle.pathspec_walk.specs.SelectAnswers
 pub mod Listing
 pub mod RequestFaults
 pub mod Input
@@ -20,18 +22,12 @@ pub mod OptionWords
 pub mod Environment
 pub mod Variables
 pub mod Rows
-pub mod RowNumbers
 pub mod Requests
 pub mod JobForms
 pub mod Refusals
 pub mod Choice
 pub mod Program
-pub mod Walks
-pub mod SelectAnswers
 pub mod ListingAnswers
-pub mod Spans
 pub mod PackedSpans
-pub mod SpanLayout
 pub mod Outlines
 pub mod TreeCopies
-pub mod Index

@@ -1,21 +1,13 @@
 -- What a clause reads of a listing that is read, and of its parts.
 use Rattle.std.specs.Prelude.{◌≡◌, ◌≢◌, ◌⊎◌, ℕ, ◌+◌, ◌<◌, ◌≤◌, Bool, true, false, List, [], ◌++◌, length, take, drop, All, ◌==◌, Some, None, Result, Ok, Err}
-use Rattle.std.specs.List.{list_any, before_first, after_first}
+use Rattle.std.specs.List.{before_first, after_first}
 use Rattle.pathspec_select.specs.declared.listing.entries.RecordError.{RecordError}
 use Rattle.pathspec_select.specs.declared.listing.entries.RecordError.TheVariants as record_error
-use Rattle.pathspec_parts.specs.Bytes.{slash, is_empty}
+use Rattle.pathspec_parts.specs.Bytes.{slash}
 use Rattle.pathspec_parts.specs.Paths.{ends_with_slash}
 use Rattle.pathspec_select.specs.declared.listing.contents.ListingError.{ListingError}
 use Rattle.pathspec_select.specs.declared.listing.contents.ListingError.TheVariants as listing_error
-use Rattle.pathspec_select.specs.Listing.{records, first_bad}
-
--- the names of a directory's path that has a slash after each
-abbrev pub directory_names : List ℕ → List (List ℕ)
-directory_names path = records slash path
-
--- some name is empty
-abbrev pub has_empty_name : List (List ℕ) → Bool
-has_empty_name names = list_any is_empty names
+use Rattle.pathspec_parts.specs.Records.{records, first_bad, directory_names, has_empty_name}
 
 -- a path that is empty or has a slash at its end
 abbrev pub IsClosed : List ℕ → Type 0

@@ -1,14 +1,15 @@
 -- A tree that lies over the bytes of a listing.
-use Rattle.std.specs.Prelude.{◌≡◌, ◌≢◌, ℕ, ◌+◌, ◌-◌, ◌≤◌, ◌<◌, Bool, slice_get, true, false, List, [], ◌∷◌, ◌++◌, length, map, take, drop, Option, Some, None, ◌==◌, if◌then◌else◌}
+use Rattle.std.specs.Prelude.{◌≡◌, ◌≢◌, ℕ, ◌+◌, ◌-◌, ◌≤◌, ◌<◌, Bool, slice_get, true, false, List, [], ◌∷◌, ◌++◌, length, map, take, drop, Option, Some, None, option_map, unwrap_or, ◌==◌, if◌then◌else◌}
 use Rattle.std.specs.List.{before_first}
-use Rattle.pathspec_parts.specs.Paths.{pieces}
-use Rattle.pathspec_parts.specs.Entries.{Call, OpenDirectory, own_call, names_of}
+use Rattle.pathspec_parts.specs.Paths.{IsBytes, pieces}
+use Rattle.pathspec_parts.specs.Entries.{Entry, own_call, names_of}
 use Rattle.pathspec_parts.specs.Entries.Call.{Close}
-use Rattle.pathspec_parts.specs.Trees.{TreeContents, empty_tree, tree_after, tree_of_calls, IsTreeName, AreNamed}
-use Rattle.pathspec_parts.specs.TreeLayout.{path_above, open_end}
+use Rattle.pathspec_parts.specs.Trees.{TreeContents, empty_tree, tree_after}
+use Rattle.pathspec_parts.specs.Nesting.{Nesting, open_end, nested_tree, AreNested}
+use Rattle.pathspec_parts.specs.TreeLayout.{path_above}
 use Rattle.pathspec_select.specs.Listing.{ListingContents, mark_at, written_of}
-use Rattle.pathspec_select.specs.ListingAnswers.{directory_names, IsClosed}
-use Rattle.pathspec_select.specs.SpanLayout.{path_at_span, contents_of_spans, AreSpans}
+use Rattle.pathspec_parts.specs.Records.{directory_names}
+use Rattle.pathspec_select.specs.ListingAnswers.{IsClosed}
 use Rattle.pathspec_select.specs.declared.listing.outline.Piece.{Piece}
 use Rattle.pathspec_select.specs.declared.listing.spans.Span.{Span}
 
@@ -109,16 +110,20 @@ pub record IsRecordPiece (o : OutlineContents) (separator number : ℕ) (p : Pie
 
 -- ---- by its numbers
 
--- a tree that calls made
-abbrev pub IsMade : TreeContents → Type 0
-IsMade t = (calls : List Call) × AreNamed IsTreeName calls × (t ≡ tree_of_calls calls)
+-- the path of an entry is a part of the listing
+abbrev pub path_of_span : List ℕ → Span → List ℕ
+path_of_span bytes s = part bytes s.start s.length
 
--- an open directory
-abbrev pub open_of_span : List ℕ → List Span → ℕ → OpenDirectory
-open_of_span bytes spans i = record { number = i; name = last_name (path_at_span bytes spans i) }
+-- the name of the entry with a number
+abbrev pub name_of_span : List ℕ → List Span → ℕ → List ℕ
+name_of_span bytes spans i = last_name (unwrap_or (option_map (path_of_span bytes) (slice_get spans i)) [])
 
-unfoldable pub tree_of_spans : List ℕ → List Span → TreeContents
-tree_of_spans bytes spans = record { entries = (contents_of_spans bytes spans).entries; open_directories = map (open_of_span bytes spans) (contents_of_spans bytes spans).open_numbers }
+-- where what lies in it ends, 0 for a file
+abbrev pub end_of_span : List Span → ℕ → ℕ
+end_of_span spans i = unwrap_or (option_map (λ s. s.end) (slice_get spans i)) 0
+
+abbrev pub tree_of_spans : List ℕ → List Span → TreeContents
+tree_of_spans bytes spans = nested_tree (name_of_span bytes spans) (end_of_span spans) (length spans)
 
 -- whether the entry is a directory
 abbrev pub is_dir_span : Span → Bool
@@ -131,15 +136,20 @@ mark_of_span separator bytes s = mark_of separator bytes s.start s.length (is_di
 abbrev pub outline_of_spans : List ℕ → ℕ → List Span → OutlineContents
 outline_of_spans bytes separator spans = record { bytes = bytes; separator = separator; tree = tree_of_spans bytes spans; marks = map (mark_of_span separator bytes) spans }
 
--- the path of each entry lies in one record
-abbrev pub LieInRecords : ℕ → List ℕ → List Span → Type 0
-LieInRecords separator bytes spans = (i : ℕ) (s : Span) → slice_get spans i ≡ Some s → LiesInRecord separator bytes s.start s.length (is_dir_span s)
+-- the span of the entry with a number lies in the listing, and has its path, in one record
+pub record IsSpan (bytes : List ℕ) (separator : ℕ) (es : List Entry) (i : ℕ) (s : Span) : Type 0 where
+  pub fits : s.start + s.length ≤ length bytes
+  pub path : (e : Entry) → slice_get es i ≡ Some e → path_of_span bytes s ≡ e.path
+  pub in_record : LiesInRecord separator bytes s.start s.length (is_dir_span s)
+
+abbrev pub AreSpans : List ℕ → ℕ → List Entry → List Span → Type 0
+AreSpans bytes separator es spans = (i : ℕ) (s : Span) → slice_get spans i ≡ Some s → IsSpan bytes separator es i s
 
 -- the numbers of an outline
-pub record IsOutline (bytes : List ℕ) (separator : ℕ) (spans : List Span) (stack : List ℕ) (directories : ℕ) : Type 0 where
-  pub spans_are : AreSpans bytes spans stack directories
-  pub made : IsMade (tree_of_spans bytes spans)
-  pub records : LieInRecords separator bytes spans
+pub record IsOutline (bytes : List ℕ) (separator : ℕ) (spans : List Span) (nested : Nesting) : Type 0 where
+  pub all_bytes : IsBytes bytes
+  pub nesting : AreNested (name_of_span bytes spans) (end_of_span spans) (length spans) nested.stack nested.directories
+  pub spans_are : AreSpans bytes separator (tree_of_spans bytes spans).entries spans
   pub room : length spans + 1 < open_end
 
 -- the entries of an outline and their records

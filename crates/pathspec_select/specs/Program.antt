@@ -9,7 +9,9 @@ use Rattle.gix_pathspec.specs.Specs.{Spec}
 use Rattle.gix_pathspec.specs.Search.{Numbered, specs_of}
 use Rattle.pathspec_select.specs.declared.refusal.Refusal.{Refusal}
 use Rattle.pathspec_select.specs.declared.refusal.Refusal.TheVariants as refusal
-use Rattle.pathspec_select.specs.Listing.{records, first_bad, output, table_of}
+use Rattle.pathspec_parts.specs.Records.{records, first_bad}
+use Rattle.pathspec_parts.specs.AttributeRows.{table_of}
+use Rattle.pathspec_select.specs.Listing.{output}
 use Rattle.pathspec_select.specs.RequestFaults.{RequestFault}
 use Rattle.pathspec_select.specs.Options.{options_of}
 use Rattle.pathspec_select.specs.Requests.JobSpecs.{FromWords, FromInput}

@@ -9,8 +9,8 @@ use Rattle.pathspec_select.specs.declared.refusal.Refusal.{Refusal}
 use Rattle.pathspec_select.specs.declared.refusal.Refusal.TheVariants as refusal
 use Rattle.pathspec_select.specs.declared.listing.contents.ListingError.{ListingError}
 use Rattle.pathspec_select.specs.declared.listing.contents.ListingError.TheVariants as listing
-use Rattle.pathspec_select.specs.declared.walk.SelectError.{SelectError}
-use Rattle.pathspec_select.specs.declared.walk.SelectError.TheVariants as walk
+use Rattle.pathspec_walk.specs.declared.walk.SelectError.{SelectError}
+use Rattle.pathspec_walk.specs.declared.walk.SelectError.TheVariants as walk
 use Rattle.pathspec_select.specs.RequestFaults.{RequestFault}
 
 -- the exit status

@@ -1,6 +1,6 @@
 -- What words and the environment ask for, and what an input has for it.
 use Rattle.std.specs.Prelude.{ℕ, List, Option, Some, None, if◌then◌else◌, Result, Ok, Err}
-use Rattle.pathspec_parts.specs.AttributeRows.{Row}
+use Rattle.pathspec_parts.specs.AttributeRows.{Row, RowsContents}
 use Rattle.pathspec_pattern.specs.declared.defaults.Defaults.{Defaults}
 use Rattle.pathspec_pattern.specs.Environment.{Words, defaults_of}
 use Rattle.gix_pathspec.specs.Results.{◌>>=◌}
@@ -10,7 +10,7 @@ use Rattle.gix_pathspec.specs.Lines.{search_of_texts, search_of_lines}
 use Rattle.pathspec_select.specs.RequestFaults.{RequestFault}
 use Rattle.pathspec_select.specs.RequestFaults.RequestFault.{BadEnvironment, NoEnd, BadSpec}
 use Rattle.pathspec_select.specs.Options.{Options, options_of}
-use Rattle.pathspec_select.specs.Rows.{RowsContents, rows_of_options}
+use Rattle.pathspec_select.specs.Rows.{rows_of_options}
 use Rattle.pathspec_select.specs.Input.{has_end_line, spec_text, listing_text}
 
 -- ---- where specs stand

@@ -10,11 +10,6 @@ use Rattle.pathspec_select.specs.RequestFaults.{RequestFault}
 use Rattle.pathspec_select.specs.Options.{ListAt, Options, no_options}
 use Rattle.pathspec_select.specs.OptionWords.{options_from}
 
--- What a look-up of rows holds: its rows in their order, and how many questions failed.
-pub record RowsContents : Type 0 where
-  pub rows : List Row
-  pub failures : ℕ
-
 -- a list that can't be read is a wrong use
 abbrev pub list_result : {A : Type 0} → Result A Fault → Result A RequestFault
 list_result (Ok x) = Ok x

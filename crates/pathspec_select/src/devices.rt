@@ -10,7 +10,7 @@ use std::io::{Read, Write};
 
 const CHUNK: usize = 65536;
 
-/// A write failed, or took no byte.
+/// The error of a write that failed, or took no byte.
 #[derive(Clone, Copy)]
 pub(crate) struct WriteError;
 
@@ -24,7 +24,7 @@ impl From<WriteError> for Refusal {
     }
 }
 
-/// All bytes that a reader has left. It takes at most two and a half times as much memory as it reads.
+/// Reads all bytes that a reader has left. The call takes at most two and a half times as much memory as it reads.
 ///
 /// # Errors
 /// [`Refusal::Read`] where a read fails, [`Refusal::Memory`].

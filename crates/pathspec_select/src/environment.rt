@@ -1,4 +1,4 @@
-//! What the environment says about pathspecs.
+//! The variables of the environment for pathspecs.
 ghost use Rattle.std.specs.Prelude.{◌≡◌, IfOk, IfErr, MatchOption, Ok, string_bytes};
 ghost use Rattle.std.specs.Option.{option_copied, option_map};
 ghost use Rattle.pathspec_pattern.specs.Environment.{defaults_of, flag_of, asked_variables};
@@ -28,12 +28,12 @@ pub struct Environment {
 impl Environment {
     ghost use Rattle.pathspec_select.specs.Environment.{words_of, word_of};
 
-    /// The words of the variables that count, each asked for by its name: `GIT_LITERAL_PATHSPECS`, `GIT_ICASE_PATHSPECS`,
-    /// and unless the first is true `GIT_GLOB_PATHSPECS` and `GIT_NOGLOB_PATHSPECS` (git, "Environment variables"). `var`
-    /// answers as [`std::env::var`] does. After a word that is none of truth no more are asked for. A variable that wasn't
-    /// asked for is left out.
+    /// Reads the words of git's variables that count (git, "Environment variables"). They are `GIT_LITERAL_PATHSPECS`,
+    /// `GIT_ICASE_PATHSPECS`, and unless the first is true `GIT_GLOB_PATHSPECS` and `GIT_NOGLOB_PATHSPECS`. `var` answers as
+    /// [`std::env::var`] does. After a word that is none of truth the call asks for no more. A variable that wasn't asked for
+    /// is left out.
     ///
-    /// It looks at each byte of a word a fixed number of times, and takes no memory beside what `var` takes.
+    /// The call looks at each byte of a word a fixed number of times, and takes no memory beside what `var` takes.
     ///
     /// # Errors
     /// The first answer that is at fault: [`Refusal::Usage`] for a word that isn't UTF-8, [`Refusal::Memory`].
@@ -84,7 +84,7 @@ impl Environment {
         })
     }
 
-    /// What specs get that say nothing of it.
+    /// The defaults that the variables set.
     ///
     /// # Errors
     /// [`Refusal::Environment`] with the first fault, [`Refusal::Memory`].
@@ -99,7 +99,7 @@ impl Environment {
         }
     }
 
-    /// The text of the variable with this name, if it is one of the four and set.
+    /// The text of the variable with the given name, if it is one of the four and set.
     fn word(&self, name: &str) -> Option<&str>
         ensures { option_copied result ≡ word_of (words_of self.now) name.now }
     {
@@ -117,7 +117,7 @@ impl Environment {
     }
 }
 
-/// The word of the variable with this name, if it is set.
+/// The word of the variable with the given name, if it is set.
 ///
 /// # Errors
 /// [`Refusal::Usage`] where it isn't UTF-8, [`Refusal::Memory`].

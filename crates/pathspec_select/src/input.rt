@@ -5,7 +5,7 @@ ghost use Rattle.pathspec_select.specs.Input.{is_end_line, has_end_line, spec_te
 use crate::Refusal;
 use bstr::ByteSlice;
 
-/// What an input has before the line `--` and after it.
+/// The two parts of an input: before the line `--`, and after it.
 #[derive(Drop)]
 pub(crate) struct Parts<'i> {
     /// The lines of the specs.
@@ -13,7 +13,7 @@ pub(crate) struct Parts<'i> {
     pub(crate) listing: &'i [u8],
 }
 
-/// The parts of an input, which the first line `--` divides. It copies nothing, and looks at each byte up to that line once.
+/// Divides an input at its first line `--`. The call copies nothing, and looks at each byte up to that line once.
 ///
 /// # Errors
 /// [`Refusal::Specs`]: no line is `--`.

@@ -1,4 +1,4 @@
-//! What words and the environment ask for.
+//! Jobs, which words and the environment ask for.
 ghost use Rattle.std.specs.Prelude.{◌≡◌, None, Err, map, string_bytes, IfOk, IfSome, IsTrue};
 ghost use Rattle.std.specs.Option.{option_copied, option_map};
 ghost use Rattle.bstr.specs.BStr.{bstr_bytes};
@@ -15,16 +15,16 @@ ghost use Rattle.pathspec_select.specs.Requests.{request_view, numbered_specs, a
 pub(crate) mod specs;
 
 use crate::options::{self, Options};
-use crate::rows::{self, Rows};
-use crate::{Environment, Refusal, words};
+use crate::{Environment, Refusal, rows, words};
 use bstr::BStr;
 use gix_pathspec::{Defaults, Search};
+use pathspec_parts::attributes::Rows;
 use specs::{JobSpecs, SearchBuilder};
 use std::alloc::Global;
 use std::fmt;
 use std::marker::Model;
 
-/// What a run has to do: the specs that its records are compared with, and the byte that ends a record.
+/// The job of a run: the specs that its records are compared with, and the byte that ends a record.
 #[derive(Drop)]
 pub struct Job {
     pub(crate) specs: JobSpecs,
@@ -51,26 +51,25 @@ impl Model for Job {
 }
 
 impl Job {
-    /// What words and the environment ask for: the job, and the attributes of paths.
+    /// Reads a job, and the attributes of paths, from words and the environment.
     ///
-    /// The words are the arguments after the program's name: the options `-z`, `--prefix P`, `--root R`,
-    /// `--attr PATH LIST` and `--specs-first NAME`, then `--` or nothing, and the specs, which are read as in the directory
-    /// P of a repository that lies at R. Of repeated `--prefix`, `--root` or `--specs-first` only the last is looked at.
-    /// Where P is longer than one byte, one `/` at its end isn't part of it. A LIST is read as
+    /// The words are the arguments after the program's name: options, then `--` or nothing, and the specs. The options are
+    /// `-z`, `--prefix P`, `--root R`, `--attr PATH LIST` and `--specs-first NAME`. Specs are read as in the directory P of
+    /// the repository at R. Of repeated `--prefix`, `--root` or `--specs-first` only the last is looked at. Where P is longer
+    /// than one byte, one `/` at its end isn't part of it. A LIST is read as
     /// [`parse::attributes`](gix_pathspec::parse::attributes) reads it. No specs and a prefix stand for the prefix.
     ///
-    /// With `--specs-first` no word may be a spec: each run reads the specs from the front of its input, and NAME is what
-    /// their source is called. For example `--specs-first specs` makes a job without a search, whose
-    /// [`source`](Job::source) is `specs`.
+    /// With `--specs-first` no word may be a spec: each run reads the specs from the front of its input, and NAME is their
+    /// source's name. So `--specs-first specs` makes a job without a search, whose [`source`](Job::source) is `specs`.
     ///
-    /// It looks at each byte a fixed number of times, and for each spec at the prefix and the root. It takes memory for
+    /// The call looks at each byte a fixed number of times, and for each spec at the prefix and the root. It takes memory for
     /// the rows and for the search, or for the bytes that an error carries.
     ///
     /// # Errors
-    /// The first fault, in this order: [`Refusal::Usage`]; [`Refusal::Environment`]; [`Refusal::Spec`] of the first spec
-    /// that can't be read, and then of the first that has no normal form. [`Refusal::Memory`] has no place among them:
-    /// it may come for any of them. But an unknown option, a missing argument, a prefix that isn't clean and specs beside
-    /// `--specs-first` are told before any memory is taken.
+    /// The first fault, in this order: [`Refusal::Usage`]; [`Refusal::Environment`]; [`Refusal::Spec`] of the first spec that
+    /// can't be read, and then of the first that has no normal form. [`Refusal::Memory`] may come for any of them. But an
+    /// unknown option, a missing argument, a prefix that isn't clean and specs beside `--specs-first` are told before any
+    /// memory is taken.
     pub fn from_words(
         alloc: Global,
         words: &[String],
@@ -96,7 +95,7 @@ impl Job {
         Ok((Job { specs, separator }, rows))
     }
 
-    /// The search that records are asked of; None where each run builds one of the specs in its input.
+    /// The search that chooses records; None where each run builds one from the specs in its input.
     pub fn search(&self) -> Option<&Search>
         ensures { option_copied result ≡ search_in self.now.specs }
     {
@@ -106,7 +105,7 @@ impl Job {
         }
     }
 
-    /// What the source of the specs is called that stand first in an input; None where they stand in the words.
+    /// The name of the source of specs that stand first in an input; None where the specs stand in the words.
     pub fn source(&self) -> Option<BStr<'_>>
         ensures { option_map bstr_bytes result ≡ source_in self.now.specs }
     {
@@ -124,10 +123,10 @@ impl Job {
     }
 }
 
-/// The specs that options ask for, under these defaults.
+/// The specs that options ask for, under the defaults.
 ///
 /// # Errors
-/// [`Refusal::Spec`], where they stand in the words; [`Refusal::Memory`].
+/// [`Refusal::Spec`], where the specs stand in the words; [`Refusal::Memory`].
 fn asked_specs(alloc: Global, options: Options<'_>, defaults: Defaults) -> Result<JobSpecs, Refusal>
     requires { IsTrue (is_clean_prefix options.prefix.now) }
     ensures specs { (viewed : OptionsView) → ShowsOptions options.entry viewed

@@ -8,7 +8,7 @@ use crate::Refusal;
 use bstr::BStr;
 use pathspec_parts::path;
 
-/// What the options say but for lists of attributes, and the words after them.
+/// The values of the options but for lists of attributes, and the words after them.
 #[derive(Drop)]
 pub(crate) struct Options<'w> {
     pub(crate) prefix: &'w [u8],
@@ -18,7 +18,7 @@ pub(crate) struct Options<'w> {
     pub(crate) specs: &'w [String],
 }
 
-/// What a word is, where an option may stand.
+/// The meaning of a word where an option may stand.
 #[derive(Drop)]
 enum OptionWord {
     EndsOptions,
@@ -38,24 +38,24 @@ pub(crate) enum Setting<'w> {
     EndsByNul,
     /// Specs are read in this directory.
     HasPrefix(&'w [u8]),
-    /// The repository lies here.
+    /// The repository lies at this path.
     HasRoot(&'w [u8]),
     /// A path has this list of attributes.
     HasList(&'w [u8], &'w [u8]),
-    /// The specs stand first in the input, and their source is called so.
+    /// The specs stand first in the input, and their source has this name.
     HasSource(&'w [u8]),
 }
 
-/// How words begin.
+/// The beginning of words.
 #[derive(Drop)]
 pub(crate) enum Words<'w> {
-    /// With an option, and then the other words.
+    /// An option, and the words after it.
     After(Setting<'w>, &'w [String]),
-    /// With the specs, which these words are.
+    /// The specs, which are all that is left of the words.
     Specs(&'w [String]),
 }
 
-/// The first option, or the specs that begin.
+/// The first option of words, or their specs.
 ///
 /// # Errors
 /// [`Refusal::Usage`]: the option is unknown or lacks an argument.
@@ -91,7 +91,7 @@ pub(crate) fn first_option(words: &[String]) -> Result<Words<'_>, Refusal>
     }
 }
 
-/// What a word is, where an option may stand.
+/// The meaning of a word where an option may stand.
 fn option_word(word: &[u8]) -> OptionWord
     ensures { option_view result ≡ option_word word.now }
 {
@@ -127,8 +127,8 @@ fn argument(words: &[String]) -> Result<(&[u8], &[String]), Refusal>
     }
 }
 
-/// What the words ask for, but for lists of attributes. Options are read up to `--`, or up to the first word that begins
-/// with no `-`; a prefix, a root or a source that is given later takes the place of an earlier one. It copies nothing.
+/// Reads the options but for lists of attributes, up to `--`, or up to the first word that begins with no `-`. A later prefix,
+/// root or source takes the place of an earlier one. The call copies nothing.
 ///
 /// # Errors
 /// [`Refusal::Usage`]: an option is unknown or lacks an argument, the prefix isn't clean, or specs stand in the words beside
@@ -140,7 +140,7 @@ pub(crate) fn options_from_words(words: &[String]) -> Result<Options<'_>, Refusa
     with_specs_once(with_clean_prefix(unchecked_options(words)?)?)
 }
 
-/// What the words ask for, where the prefix may be any argument.
+/// Reads the options, where the prefix may be any argument.
 fn unchecked_options(words: &[String]) -> Result<Options<'_>, Refusal>
     ensures { ComputesOptions (options_from no_options (map string_bytes words.now)) result }
 {
@@ -159,7 +159,7 @@ fn unchecked_options(words: &[String]) -> Result<Options<'_>, Refusal>
     }
 }
 
-/// The options with one more, and the words after it.
+/// The options with one more setting, and the words after it.
 fn with_setting<'w>(options: Options<'w>, setting: Setting<'w>, specs: &'w [String]) -> Options<'w>
     ensures settings { (viewed : OptionsView) → HasSettings options.entry viewed
         → HasSettings result (with_setting (setting_view setting.entry) viewed) }

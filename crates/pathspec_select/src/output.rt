@@ -1,4 +1,4 @@
-//! What is written for a listing, through a buffer.
+//! The output for a listing, through a buffer.
 ghost use Rattle.std.specs.Prelude.{◌++◌, OnOk, OnErr};
 ghost use Rattle.std.specs.Io.KnownBytes.{Appends};
 ghost use Rattle.std.specs.Option.{option_map};
@@ -14,16 +14,16 @@ use bstr::BStr;
 use std::alloc::Global;
 use std::io::Write;
 
-/// How many bytes are kept back, so that few writes are made.
+/// The count of bytes that are kept back, so that few writes are made.
 const ROOM: usize = 65536;
 
-/// No byte of a listing.
+/// The empty piece of a listing.
 const NO_PIECE: Piece = Piece { start: 0, end: 0 };
 
-/// Writes the records of these entries of a listing, each with the separator after it.
+/// Writes the records of entries of a listing, each with the separator after it.
 ///
-/// It copies each byte of a record at most once, and none of records that follow one another and fill the buffer. It takes a
-/// fixed amount of memory.
+/// The call copies each byte of a record at most once, and none of records that follow one another and fill the buffer. It
+/// takes a fixed amount of memory.
 ///
 /// # Errors
 /// [`Refusal::Memory`], and nothing is written; [`Refusal::Write`], where a beginning of the bytes is.
@@ -41,7 +41,7 @@ pub(crate) fn write_records<W: Write>(
     let mut buffer = Vec::with_capacity(alloc, ROOM)?;
     let mut piece = NO_PIECE;
     for index in 0..entries.len() {
-        add_record(
+        append_record(
             writer,
             &mut buffer,
             &mut piece,
@@ -56,15 +56,15 @@ pub(crate) fn write_records<W: Write>(
 }
 
 // In line, so that the piece stays in registers.
-/// Puts the record of an entry, with the separator after it, after those bytes that a buffer holds and those of a piece of the
-/// listing behind them. Where the record follows the piece in the listing, the piece grows by it; else the piece goes into the
-/// buffer, and the record is the next piece. Of `*.md` in a listing of `a.md`, `b.md`, `c.c`, `d.md` the first two records are one
+/// Appends the record of an entry, with the separator after it, to the output: the buffer, and the pending piece of the
+/// listing behind it. A record that follows the piece in the listing extends it. Otherwise the piece goes to the buffer, and
+/// the record starts a new one. With `*.md` and a listing of `a.md`, `b.md`, `c.c`, `d.md`, the first two records are one
 /// piece, and `d.md` is the next.
 ///
 /// # Errors
 /// [`WriteError`]: a beginning of all these bytes is written.
 #[inline(always)]
-fn add_record<W: Write>(
+fn append_record<W: Write>(
     writer: &mut W,
     buffer: &mut Vec<u8>,
     piece: &mut Piece,
@@ -96,7 +96,7 @@ fn add_record<W: Write>(
     write_buffered(writer, buffer, outline.bytes_of(before))
 }
 
-/// Puts the text of a record, if there is one, and the separator after it, after those bytes that a buffer holds.
+/// Appends the text of a record, if there is one, and the separator after it to a buffer.
 ///
 /// # Errors
 /// [`WriteError`]: a beginning of all these bytes is written.
@@ -119,7 +119,7 @@ fn write_record<W: Write>(
     write_buffered(writer, buffer, &[separator])
 }
 
-/// Puts bytes after those that a buffer holds, or writes both where they leave no room.
+/// Appends bytes to a buffer, or writes both where they leave no room.
 ///
 /// # Errors
 /// [`WriteError`]: a beginning of all these bytes is written.

@@ -12,28 +12,28 @@ ghost use Rattle.pathspec_select.specs.Refusals.{refused_listing, refused_walk};
 use crate::input::Parts;
 use crate::job::specs::JobSpecs;
 use crate::listing::{self, ListingError};
-use crate::walk::{SelectError, select};
 use crate::{Environment, Job, Refusal, devices, input, output};
-use gix_pathspec::Search;
+use gix_pathspec::{Search, laws};
 use pathspec_parts::attributes::LookUp;
+use pathspec_walk::{SelectError, select};
 use std::alloc::{AllocError, Global};
 use std::io::{Read, Write};
 
-/// Runs `pathspec-select` over a reader and a writer: reads a listing of paths, and writes the records that the words'
-/// specs choose, in their order, each with the separator after it. With `--specs-first` the specs stand before the listing.
-/// Its [`Refusal`] has the exit status and the line for standard error.
+/// Runs `pathspec-select` over a reader and a writer. It reads a listing of paths, and writes the records that the words'
+/// specs choose, in their order, each with the separator after it. With `--specs-first` the specs stand before the listing. A
+/// [`Refusal`] has the exit status and the line for standard error.
 ///
-/// The words and the environment are read by [`Job::from_words`], and [`run_with`] does the rest, with the attributes that
-/// `--attr` gives.
+/// [`Job::from_words`] reads the words and the environment, and [`run_with`] does the rest, with the attributes that `--attr`
+/// gives.
 ///
-/// It doesn't flush the writer. A caller who hands in a `BufWriter` calls its `flush` afterwards and looks at the answer:
-/// when it is dropped it writes what it holds, too, but then tells of no fault.
+/// The call doesn't flush the writer. A caller who hands in a `BufWriter` calls its `flush` afterwards and looks at the
+/// answer. When it is dropped it writes what it holds, too, but then tells of no fault.
 ///
 /// # Errors
 /// The first fault, in this order: [`Refusal::Usage`]; [`Refusal::Environment`]; [`Refusal::Spec`] of a word;
-/// [`Refusal::Read`]; [`Refusal::Specs`], and [`Refusal::Spec`] of a line of the input; [`Refusal::Line`];
-/// [`Refusal::Write`]. [`Refusal::Memory`] has no place among them: it may come for any of them, but not for wrong options.
-/// Nothing is written before a fault, but for a write's.
+/// [`Refusal::Read`]; [`Refusal::Specs`], and [`Refusal::Spec`] of a line of the input; [`Refusal::Line`]; [`Refusal::Write`].
+/// [`Refusal::Memory`] may come for any of them, but not for wrong options. Nothing is written before a fault, but for a
+/// write's.
 pub fn run<R: Read, W: Write>(
     alloc: Global,
     words: &[String],
@@ -50,29 +50,27 @@ pub fn run<R: Read, W: Write>(
     ensures test { ChosenIsTest }
 {
     // The proof reads here that the test is the statement.
-    Search::chosen_is_test();
+    laws::chosen_is_test();
     let (job, mut rows) = Job::from_words(alloc, words, environment)?;
     run_with(alloc, &job, reader, writer, &mut rows)
 }
 
-/// Does a job over a reader and a writer, with any look-up of attributes: reads an input, walks over the tree of its listing
-/// by [`select`], and writes the records of the chosen entries, in their order, each with the separator after it.
+/// Does a job over a reader and a writer, with any look-up of attributes. It reads an input, walks over the tree of its
+/// listing by [`select`], and writes the records of the chosen entries, in their order. Each has the separator after it.
 ///
-/// The input is the listing. Where the job was made with `--specs-first`, it is lines of specs, the line `--` and then the
-/// listing: the specs' lines end with a line feed, or with a carriage return and one, whatever the separator, and become a
-/// search as [`Search::from_lines`] makes one, anew in each call. For example the input `a`, line feed, `--`, line feed,
-/// `a/x`, line feed, `b` has the spec `a` and the records `a/x` and `b`. Neither part is copied.
+/// The input is the listing. For a job with `--specs-first` it is lines of specs, the line `--` and then the listing. The
+/// specs' lines end with a line feed, or with a carriage return and one, whatever the separator. They become a search as
+/// [`Search::from_lines`] makes one, anew in each call. So the input `a\n--\na/x\nb` has the spec `a` and the records `a/x`
+/// and `b`. Neither part is copied.
 ///
-/// It looks at each byte of the listing a fixed number of times, and asks the search about each entry at most twice. A
+/// The call looks at each byte of the listing a fixed number of times, and asks the search about each entry at most twice. A
 /// file mostly takes 4 bytes and a directory 28, and 8 more where it is chosen. A directory that comes again is a further
-/// entry, so that a listing which isn't in byte order takes more.
-///
-/// It doesn't flush the writer, as [`run`] doesn't.
+/// entry, so that a listing which isn't in byte order takes more. The writer isn't flushed, as by [`run`].
 ///
 /// # Errors
 /// The first fault, in this order: [`Refusal::Read`]; [`Refusal::Specs`] and [`Refusal::Spec`], where the specs stand in the
-/// input; [`Refusal::Line`], whose number counts the records of the listing alone; [`Refusal::Write`]. [`Refusal::Memory`]
-/// may come for any of them, and where the look-up fails. Nothing is written before a fault, but for a write's.
+/// input; [`Refusal::Line`], whose number counts the records of the listing alone; [`Refusal::Write`]. [`Refusal::Memory`] may
+/// come for any of them, and where the look-up fails. Nothing is written before a fault, but for a write's.
 pub fn run_with<R: Read, W: Write, L: LookUp<Fault = AllocError>>(
     alloc: Global,
     job: &Job,

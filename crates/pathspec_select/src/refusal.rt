@@ -1,4 +1,4 @@
-//! Why the program ends without having done all.
+//! The reasons why the program ends without having done all.
 ghost use Rattle.std.specs.Prelude.{◌≡◌};
 ghost use Rattle.pathspec_select.specs.Refusals.{exit_status};
 
@@ -6,11 +6,11 @@ use gix_pathspec::Error;
 use gix_pathspec::search::BuildError;
 use std::alloc::AllocError;
 
-/// Why the program ends without having done all. Its text is the line for standard error.
+/// The reason why the program ends without having done all. Its text is the line for standard error.
 #[derive(Debug, Drop, PartialEq, Eq, thiserror::Error)]
 pub enum Refusal {
-    /// An option is unknown or lacks an argument, the prefix isn't clean, a list of attributes can't be read, or specs stand
-    /// in the words beside the option `--specs-first`.
+    /// An option is unknown or lacks an argument, the prefix isn't clean, or a list of attributes can't be read. Or specs
+    /// stand in the words beside the option `--specs-first`.
     #[error("usage: pathspec-select [-z] [--prefix P] [--root R] [--attr PATH LIST]... [--specs-first NAME] [--] [SPEC...]")]
     Usage,
     /// The environment is at fault: a variable is no word of truth, or globs are both asked for and not.
@@ -49,7 +49,7 @@ impl Refusal {
         }
     }
 
-    /// The refusal for an error of the spec with this number.
+    /// The refusal for an error of the spec with a number.
     pub(crate) fn of_spec(number: usize, error: Error) -> Refusal
         ensures { RefusesError number error result }
     {

@@ -1,4 +1,4 @@
-//! The specs that words are read as.
+//! The specs of words.
 ghost use Rattle.std.specs.Prelude.{map, string_bytes};
 ghost use Rattle.gix_pathspec.specs.Patterns.{pattern_spec};
 ghost use Rattle.gix_pathspec.specs.Reading.{reading};
@@ -11,9 +11,7 @@ use crate::Refusal;
 use gix_pathspec::{Defaults, Pattern, parse};
 use std::alloc::Global;
 
-/// The spec of each word, under the defaults.
-///
-/// It looks at each byte of a word a fixed number of times.
+/// Reads the spec of each word, under the defaults. The call looks at each byte of a word a fixed number of times.
 ///
 /// # Errors
 /// The first fault: [`Refusal::Spec`]; or [`Refusal::Memory`].
@@ -35,7 +33,7 @@ pub(crate) fn parse_words(
     Ok(patterns)
 }
 
-/// The spec of the word with this number.
+/// Reads the spec of the word with a number.
 fn parse_word(
     alloc: Global,
     number: usize,

@@ -11,10 +11,10 @@ use std::process::ExitCode;
 use std::rt::Env;
 use std::str;
 
-/// How many bytes of a word are asked for at first.
+/// The room for a word at first, in bytes.
 const ROOM: usize = 256;
 
-/// Why the words after the program's name can't be taken.
+/// The reason why the words after the program's name can't be taken.
 #[derive(Debug, Drop)]
 enum WordsError {
     /// The word with this number, from 1, isn't UTF-8.
@@ -50,8 +50,8 @@ fn words<R: Env + Alloc<A = Global>>(rt: &R) -> Result<Vec<String>, WordsError> 
     Ok(words)
 }
 
-/// Puts the word with this number at the front of a buffer, which grows until it fits, and gives its length; or None where
-/// there is no such word.
+/// Reads the word with a number into a buffer, which grows until it fits, and gives its length; None where there is no such
+/// word.
 fn word_into<R: Env>(
     rt: &R,
     number: usize,

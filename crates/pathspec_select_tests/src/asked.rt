@@ -45,7 +45,7 @@ pub(super) fn environment_of(
     })
 }
 
-/// What the words of a line ask for, with these variables. The job is boxed, as searches are.
+/// The job that the words of a line and variables ask for. It is boxed, as searches are.
 pub(super) fn job_of(
     alloc: Global,
     line: &str,

@@ -8,7 +8,7 @@ use std::alloc::{AllocError, Global};
 use std::io::{self, ErrorKind, Read, Write};
 use std::test::Fail;
 
-/// What a reader answers to a call: bytes, none, or a fault.
+/// The answer of a reader to a call: bytes, none, or a fault.
 type Given<'a> = Result<&'a [u8], ErrorKind>;
 
 /// Answers its calls one after another, with bytes, with none or with a fault, and counts them. All calls after these it
@@ -118,8 +118,8 @@ fn a_failed_read_is_refused(rt: HostRuntime) -> Result<(), Fail> {
 /// How many bytes a writer takes at a call, or how it fails.
 type Took = Result<usize, ErrorKind>;
 
-/// Answers its calls one after another, with the bytes that it takes, as many as it is told, or with a fault, and counts
-/// them; the calls after these it answers all alike.
+/// A writer whose calls are answered one after another: by how many bytes it takes at most, or by a fault. It counts the
+/// calls, and answers all later ones alike.
 #[derive(Drop)]
 struct ScriptedWriter<'a> {
     answers: &'a [Took],
@@ -166,11 +166,11 @@ fn ends<W: Write>(
     Ok(text.as_slice() == want.as_bytes())
 }
 
-/// What a writer answers and what then, how often it is called, what it has taken, all or a front, and what the refusal is told
-/// as, "" where there is none; the writer is never flushed.
+/// A writer's answers, that to later calls, and the end of a run over it: the count of calls, the bytes taken, and the
+/// refusal, "" for none. The writer is never flushed.
 type Accepted<'a> = (&'a [Took], Took, usize, &'a [u8], &'a str);
 
-/// Whether a run over a writer ends so.
+/// Whether a run over a writer has a given end.
 fn is_accepted(
     alloc: Global,
     run: (&str, &[u8]),
@@ -220,8 +220,8 @@ fn no_write_is_made_again_and_none_flushed(rt: HostRuntime) -> Result<(), Fail> 
     Ok(())
 }
 
-/// Whether a front is taken by a writer that takes one byte a call, and answers so its first call, its second, and so on until
-/// one that is never made.
+/// Whether a writer that takes one byte a call has taken a front of the output, where it fails at its first call, at its
+/// second, and so on, up to none.
 fn is_front(alloc: Global, last: Took) -> Result<bool, Fail> {
     const LISTING: &[u8] = b"a\nb/\nb/c\n";
     const ONES: &[Took] = &[Ok(1); 9];

@@ -18,7 +18,7 @@ struct SetVariables<'v> {
 }
 
 impl SetVariables<'_> {
-    /// What [`std::env::var`] answers where these variables are set.
+    /// The answer of [`std::env::var`] where these variables are set.
     fn var(&mut self, name: &str) -> Result<String, VarError> {
         self.asked = self.asked.saturating_add(1);
         match text_of(self.variables, name) {

@@ -138,7 +138,7 @@ fn a_row_is_added_or_the_rows_are_as_before(rt: HostRuntime) -> Result<(), Fail>
 #[derive(Clone, Copy)]
 struct Run(&'static str, Variables<'static>, &'static str, &'static str);
 
-/// What a run answers that was to write this; or that memory ran out, where nothing is written.
+/// Whether a run wrote what was wanted; or that memory ran out, where nothing is written.
 fn end_of_run(answer: Result<(), Refusal>, written: &[u8], want: &str) -> Result<bool, AllocError> {
     match answer {
         Ok(()) => Ok(written == want.as_bytes()),

@@ -17,8 +17,8 @@ fn add_texts(texts: &mut Vec<u8>, search: &Search) -> Result<(), Fail> {
     Ok(())
 }
 
-/// Adds what a job is: the byte that ends its records, and then the long texts of its specs, or that they stand in the
-/// input, with the name of the source.
+/// Adds the parts of a job: the byte that ends its records, and then the long texts of its specs. Specs that stand in the
+/// input are told by the name of their source.
 fn add_job(text: &mut Vec<u8>, job: &Job) -> Result<(), Fail> {
     text.push(job.separator())?;
     match (job.search(), job.source()) {

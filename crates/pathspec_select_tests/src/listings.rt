@@ -3,8 +3,8 @@ use pathspec_parts::tree::{Cursor, Walk};
 use pathspec_select::listing::{Listing, ListingError, read};
 use std::test::Fail;
 
-/// Whether a walk gives these entries of a listing, where every directory is entered: the path, whether it is a directory, and
-/// the record that it is made from, "" for none.
+/// Whether a walk that enters every directory of a listing gives these entries: the path, whether it is a directory, and its
+/// record, "" for none.
 fn gives_entries<W: Walk<Place = usize>>(
     walk: &mut W,
     listing: &Listing<'_>,

@@ -5,7 +5,7 @@ use std::alloc::{AllocError, Global};
 use std::io::Read;
 use std::test::Fail;
 
-/// What a wrong use is told.
+/// The status and the line of a wrong use.
 pub(super) const WRONG_USE: &str =
     "status 2: usage: pathspec-select [-z] [--prefix P] [--root R] [--attr PATH LIST]... [--specs-first NAME] [--] [SPEC...]";
 
@@ -120,7 +120,7 @@ fn chosen_records_are_written(rt: HostRuntime) -> Result<(), Fail> {
     assert_runs(rt.alloc(), ROWS)
 }
 
-/// Whether a run writes or is told this, with the words of a line and a last one, which may be empty or hold a space.
+/// Whether a run writes `want` or is refused so, with the words of a line and a last one, which may be empty or hold a space.
 pub(super) fn writes_with(
     alloc: Global,
     (line, last): (&str, &str),

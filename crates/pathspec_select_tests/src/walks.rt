@@ -11,13 +11,13 @@ use std::test::Fail;
 /// How a walk ends.
 #[derive(Clone, Copy)]
 enum End<'w> {
-    /// It gives and enters these entries.
+    /// The numbers of the entries that it gives, and of those that it enters.
     Gives(&'w [usize], &'w [usize]),
-    /// Its look-up fails at the entry with this path.
+    /// The path of the entry at which its look-up fails.
     Fails(&'w str),
 }
 
-/// Whether a cursor stands as it does where a walk ends so; it gave these entries, or its look-up failed.
+/// Whether a cursor stands where a walk ends that gave entries, or whose look-up failed.
 fn is_end(found: Option<&[usize]>, cursor: &Cursor<'_>, end: End<'_>) -> bool {
     match (found, end) {
         (Some(found), End::Gives(given, entered)) => {
@@ -28,7 +28,7 @@ fn is_end(found: Option<&[usize]>, cursor: &Cursor<'_>, end: End<'_>) -> bool {
     }
 }
 
-/// Whether a walk ends so.
+/// Whether a walk has a given end.
 fn is_walk(
     alloc: Global,
     tree: &Tree,

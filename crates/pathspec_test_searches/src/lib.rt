@@ -12,8 +12,8 @@ pub fn pattern_of(alloc: Global, text: &str) -> Result<Pattern, Error> {
     Pattern::from_bytes(alloc, text.as_bytes(), Defaults::default())
 }
 
-/// What is built from these patterns, given in this directory of a repository at `/r`. It is boxed, as all searches of
-/// the tests are: then a test is proved without a look at what a search is made of.
+/// Builds a search of patterns, given in a directory of a repository at `/r`. It is boxed, as all searches of the tests are:
+/// then a test is proved without a look at what a search is made of.
 pub fn build_from(
     alloc: Global,
     patterns: Vec<Pattern>,

@@ -17,15 +17,15 @@ pub const ALL: usize = 1 << 32;
 /// How many growths a call may have.
 const MOST: usize = 10_000;
 
-/// From now on the growth with this number is refused, where the next one is 1.
+/// Refuses the growth with this number from now on, where the next one is 1.
 pub fn refuse(alloc: Global, number: usize) {
     let _: Result<Vec<u8>, AllocError> = Vec::with_capacity(alloc, COMMAND | number);
 }
 
 /// A call that may be made while one of its growths is refused.
 pub trait Refusable {
-    /// Makes the call while the growth with a number is refused: None where it tells that memory ran out, leaves what it was
-    /// given, and answers when it is made again; and else whether it answers what it answers with memory.
+    /// Makes the call while the growth with a number is refused, and says whether it answers as with memory. None where it
+    /// tells that memory ran out, leaves what it was given, and answers when it is made again.
     fn end(&self, alloc: Global, number: usize) -> Result<Option<bool>, Fail>;
 }
 
@@ -53,14 +53,14 @@ pub fn assert_calls<C: Refusable>(alloc: Global, calls: &[C]) -> Result<(), Fail
 pub trait Call {
     type Given: Drop;
 
-    /// What the call is made on.
+    /// The value that the call is made on.
     fn given(&self, alloc: Global) -> Result<Self::Given, Fail>;
 
     /// Whether the call answers what it has to; or memory ran out.
     fn make(&self, alloc: Global, given: &mut Self::Given) -> Result<bool, AllocError>;
 }
 
-/// That call.
+/// A call on a value, to be made with each growth refused.
 #[derive(Clone, Copy)]
 pub struct Calls<C>(pub C);
 
@@ -93,7 +93,7 @@ pub trait Making {
     fn make(&self, alloc: Global) -> Result<bool, AllocError>;
 }
 
-/// That call.
+/// A call that makes a value, to be made with each growth refused.
 #[derive(Clone, Copy)]
 pub struct Makes<M>(pub M);
 

@@ -1,28 +1,25 @@
-//! What counts: questions to specs about paths, and comparisons of heads with them.
+//! Specs and excludes that a match can only ask, so that a scratch counts each question.
 //!
-//! A match stands outside of the module `search`. It sees specs and heads by these types alone, and can't make a scratch: so
-//! the one that it borrows counts all that it asks and compares.
-ghost use Rattle.std.specs.Prelude.{◌≡◌, ◌↔◌, ℕ, ◌+◌, ◌^◌, ◌<◌, ◌≤◌, length, map, All, IsTrue, IfOk, IfSome, OnOk, OnErr};
+//! A match stands outside of the module `search`. It sees specs by these types alone, and heads by `PlacesByHead`. It can't
+//! make a scratch, so the one that it borrows counts all that it asks and compares.
+ghost use Rattle.std.specs.Prelude.{◌≡◌, ◌↔◌, ◌+◌, ◌<◌, ◌≤◌, length, map, All, IsTrue, IfOk, OnOk, OnErr};
 ghost use Rattle.bstr.specs.BStr.{bstr_bytes};
-ghost use Rattle.pathspec_parts.specs.Attributes.{next_count};
+ghost use Rattle.pathspec_parts.specs.Attributes.{AsksLookUp};
 ghost use Rattle.pathspec_glob.specs.Counts.{Counts};
-ghost use Rattle.pathspec_heads.specs.Heads.{IsLastFront, IsChainOf};
-ghost use Rattle.pathspec_heads.specs.Groups.{IsInChain, IsLeastFrom};
 ghost use Rattle.gix_pathspec.specs.Effort.{kind_at};
 ghost use Rattle.pathspec_parts.specs.Outcomes.{names_of};
 ghost use Rattle.gix_pathspec.specs.Room.{HasRoom, tokens_of, names_in_order};
 
 use crate::search::MatchKind;
 use crate::search::spec::CompiledSpec;
-use crate::search::takers::Taker;
+use crate::search::subtree_excludes::SubtreeExclude;
 use bstr::BStr;
-use pathspec_heads::places::{self, Deepest, PlacesByHead};
 use pathspec_parts::attributes::{LookUp, Outcome};
 use pathspec_parts::glob;
 use std::alloc::{AllocError, Global};
 use std::marker::Model;
 
-/// Specs in search order. Their only question about a path is whether one of them matches it, and a scratch counts it.
+/// Specs in search order. A match can only ask whether the one at a place matches a path, and a scratch counts that.
 #[derive(Drop)]
 pub(crate) struct CountedSpecs {
     all: Vec<CompiledSpec>,
@@ -37,13 +34,13 @@ impl Model for CountedSpecs {
     ghost view = { λ s. s.all.items };
 }
 
-/// Takers. Their only question is whether one of them takes a directory, and a scratch counts it.
+/// Subtree excludes. A question to them is whether the one at a place covers a directory, and a scratch counts it.
 #[derive(Drop)]
-pub(crate) struct CountedTakers {
-    all: Vec<Taker>,
+pub(crate) struct CountedExcludes {
+    all: Vec<SubtreeExclude>,
 }
 
-impl Model for CountedTakers {
+impl Model for CountedExcludes {
     ghost use Rattle.std.specs.Prelude.{List};
     ghost use Rattle.gix_pathspec.specs.Specs.{Spec};
 
@@ -52,12 +49,11 @@ impl Model for CountedTakers {
     ghost view = { λ t. t.all.items };
 }
 
-/// What questions to specs write: the room of their globs, an outcome for each spec, and how many questions there were.
-/// Nothing sets the count back.
+/// The room that questions to specs write: that of their globs, an outcome for each spec, and a count that is never set back.
 #[derive(Drop)]
 pub(crate) struct SpecScratch {
     globs: glob::Scratch,
-    /// A place for each attribute that the spec lists, by the specs in search order.
+    /// An outcome for each spec in search order, with a place for each attribute that the spec lists.
     outcomes: Vec<Outcome>,
     tested: u128,
 }
@@ -72,68 +68,15 @@ impl Model for SpecScratch {
     ghost view = { λ s. record { room = record { tokens = s.globs.tokens; names = map names_of s.outcomes.items }; tested = s.tested } };
 }
 
-/// The heads of specs, by their places in search order. A scratch counts each comparison with a path.
-#[derive(Drop)]
-pub(crate) struct CountedHeads {
-    places: PlacesByHead,
-}
-
-impl Model for CountedHeads {
-    ghost use Rattle.pathspec_heads.specs.Groups.{GroupedPlaces};
-
-    ghost Value = { GroupedPlaces };
-
-    ghost view = { λ h. h.places };
-}
-
-impl CountedHeads {
-    /// These heads.
-    pub(super) fn new(places: PlacesByHead) -> CountedHeads
-        ensures { result ≡ places }
-    {
-        CountedHeads { places }
-    }
-
-    /// What comparisons with a path write, before the first.
-    pub(super) fn new_scratch(&self) -> places::Scratch
-        ensures { result ≡ 0 }
-    {
-        self.places.new_scratch()
-    }
-
-    // In line, and so the next place, since a match asks for them at each path.
-    /// The last head that begins the text, as [`PlacesByHead::deepest`] finds it.
-    #[inline(always)]
-    pub(crate) fn deepest(&self, text: &[u8], scratch: &mut places::Scratch) -> Deepest
-        ensures chain { IfSome result.head (λ j. IsChainOf self.now.heads text.now j) }
-        ensures found { IsLastFront self.now.heads (length self.now.heads) text.now result.head }
-        ensures counted { Counts scratch.old result.compared scratch.new }
-        ensures cost { (b : ℕ) → length self.now.heads < 2 ^ b → result.compared ≤ b + 2 }
-        ensures asked { 0 < length self.now.heads → 1 ≤ result.compared }
-    {
-        self.places.deepest(text, scratch)
-    }
-
-    /// The least place from one on whose head begins this one.
-    #[inline(always)]
-    pub(crate) fn next_place(&self, head: usize, from: usize) -> Option<usize>
-        requires { head < length self.now.heads }
-        ensures { IsLeastFrom (IsInChain self.now.heads self.now.starts self.now.order head)
-            from result }
-    {
-        self.places.next_place(head, from)
-    }
-}
-
 impl CountedSpecs {
-    /// These specs.
+    /// Wraps specs, so that a scratch counts each question to them.
     pub(super) fn new(all: Vec<CompiledSpec>) -> CountedSpecs
         ensures { result ≡ all.items }
     {
         CountedSpecs { all }
     }
 
-    /// How many specs there are.
+    /// The count of specs.
     pub(crate) fn len(&self) -> usize
         ensures { result ≡ length self.now }
     {
@@ -154,9 +97,9 @@ impl CountedSpecs {
         self.all
     }
 
-    // In line, and what it calls, since a match asks this of each spec whose head begins the path.
-    /// How the spec at a place matches a path that isn't empty, as [`CompiledSpec::matches`] says. It looks at the path's first
-    /// and last byte, and then asks the spec if these leave it open.
+    // In line, with all that it calls: a match asks each spec whose head begins the path.
+    /// The way in which the spec at a place matches a path that isn't empty, as [`CompiledSpec::matches`] says. The call asks
+    /// the spec only where the path's first and last byte leave the answer open.
     ///
     /// # Errors
     /// The look-up's fault.
@@ -175,10 +118,8 @@ impl CountedSpecs {
             ≡ kind_at (L.table look_up.old) self.now (bstr_bytes path.entry) is_dir place) }
         ensures room { scratch.new.room ≡ scratch.old.room }
         ensures counted { Counts scratch.old.tested 1 scratch.new.tested }
-        ensures table_stays { L.table look_up.new ≡ L.table look_up.old }
-        ensures ok_leaves_count { OnOk result (L.failures look_up.new ≡ L.failures look_up.old) }
-        ensures err_counts { OnErr result
-            (L.failures look_up.new ≡ next_count (L.failures look_up.old)) }
+        ensures look_up { AsksLookUp (L.table look_up.old) (L.failures look_up.old)
+            (L.table look_up.new) (L.failures look_up.new) result }
     {
         scratch.tested = scratch.tested.wrapping_add(1);
         let spec = &self.all[place];
@@ -190,42 +131,47 @@ impl CountedSpecs {
     }
 }
 
-impl CountedTakers {
+impl CountedExcludes {
     ghost use Rattle.std.specs.Prelude.{Some, slice_get};
     ghost use Rattle.gix_pathspec.specs.Specs.{Spec};
-    ghost use Rattle.gix_pathspec.specs.Takers.{taker_takes};
+    ghost use Rattle.gix_pathspec.specs.SubtreeExcludes.{covers};
 
-    /// These excludes.
-    pub(super) fn new(all: Vec<Taker>) -> CountedTakers
+    /// Wraps subtree excludes, so that a scratch counts each question to them.
+    pub(super) fn new(all: Vec<SubtreeExclude>) -> CountedExcludes
         ensures { result ≡ all.items }
     {
-        CountedTakers { all }
+        CountedExcludes { all }
     }
 
-    /// How many there are.
+    /// The count of excludes.
     pub(crate) fn len(&self) -> usize
         ensures { result ≡ length self.now }
     {
         self.all.len()
     }
 
-    /// Whether the exclude at a place takes the directory whole, or the rest of it, as [`Taker::takes`] says.
-    pub(crate) fn takes(&self, place: usize, directory: BStr<'_>, scratch: &mut SpecScratch) -> bool
+    /// Whether the exclude at a place covers the directory, as [`SubtreeExclude::covers`] says.
+    pub(crate) fn covers(
+        &self,
+        place: usize,
+        directory: BStr<'_>,
+        scratch: &mut SpecScratch,
+    ) -> bool
         requires place { place < length self.now }
         requires room { All (λ s. tokens_of s ≤ scratch.old.room.tokens) self.now }
         ensures answer { (s : Spec) → slice_get self.now place ≡ Some s
-            → result ≡ taker_takes s (bstr_bytes directory.entry) }
+            → result ≡ covers s (bstr_bytes directory.entry) }
         ensures room { scratch.new.room ≡ scratch.old.room }
         ensures counted { Counts scratch.old.tested 1 scratch.new.tested }
     {
         scratch.tested = scratch.tested.wrapping_add(1);
-        self.all[place].takes(directory, &mut scratch.globs)
+        self.all[place].covers(directory, &mut scratch.globs)
     }
 }
 
 impl SpecScratch {
-    /// Room for questions to these specs, before the first. Its cost is linear in the tokens of the largest glob and in the
-    /// names of attributes that the specs list.
+    /// Makes room for questions to the specs, with the count at 0. The cost is linear in the tokens of the largest glob and in
+    /// the names of attributes that the specs list.
     ///
     /// # Errors
     /// Memory runs out.
@@ -240,14 +186,14 @@ impl SpecScratch {
         })
     }
 
-    /// Whether it has room for questions to these specs. The cost is linear in the names of their attributes.
+    /// Whether there is room for questions to the specs. The cost is linear in the names of their attributes.
     pub(super) fn fits(&self, specs: &CountedSpecs) -> bool
         ensures { IsTrue result ↔ HasRoom specs.now self.now.room }
     {
         self.outcomes.len() == specs.all.len() && have_room(&specs.all, &self.globs, &self.outcomes)
     }
 
-    /// How many questions to specs there were, modulo 2^128.
+    /// The count of questions to specs, modulo 2^128.
     pub(crate) fn tested(&self) -> u128
         ensures { result ≡ self.now.tested }
     {
@@ -255,7 +201,7 @@ impl SpecScratch {
     }
 }
 
-/// As many tokens as the largest glob of these specs has.
+/// A count of tokens that no glob of the specs exceeds.
 fn most_tokens(specs: &[CompiledSpec]) -> usize
     ensures { All (λ n. tokens_of n.spec ≤ result) specs.now }
 {
@@ -266,7 +212,7 @@ fn most_tokens(specs: &[CompiledSpec]) -> usize
     most
 }
 
-/// An outcome for each of these specs.
+/// Makes an outcome for each spec, in order.
 fn outcomes(alloc: Global, specs: &[CompiledSpec]) -> Result<Vec<Outcome>, AllocError>
     ensures { IfOk result (λ outcomes. map names_of outcomes.items ≡ names_in_order specs.now) }
 {
@@ -277,7 +223,7 @@ fn outcomes(alloc: Global, specs: &[CompiledSpec]) -> Result<Vec<Outcome>, Alloc
     Ok(outcomes)
 }
 
-/// Whether each of these specs has room in these globs' scratch, and in the outcome at its place.
+/// Whether each spec has room in the scratch of globs, and in the outcome at its place.
 fn have_room(specs: &[CompiledSpec], globs: &glob::Scratch, outcomes: &[Outcome]) -> bool
     requires { length outcomes.now ≡ length specs.now }
     ensures { IsTrue result ↔ HasRoom specs.now

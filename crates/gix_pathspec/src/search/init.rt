@@ -1,5 +1,5 @@
-//! Makes searches: normalises specs, numbers them and puts them in search order.
-ghost use Rattle.std.specs.Prelude.{◌≡◌, List, Ok, Err, None, map, IfOk, IfErr, IsTrue};
+//! Makes searches: puts normalised specs in search order, and groups them by their heads.
+ghost use Rattle.std.specs.Prelude.{◌≡◌, List, Ok, Err, None, map, IfOk, IfErr, IsTrue, Some, OnOk};
 ghost use Rattle.std.specs.Iterator.{Drains, IsFinite};
 ghost use Rattle.std.specs.Option.{option_map};
 ghost use Rattle.std.specs.Box.{box_value};
@@ -10,33 +10,36 @@ ghost use Rattle.gix_pathspec.specs.Errors.{IsMemory};
 ghost use Rattle.gix_pathspec.specs.Patterns.{pattern_spec};
 ghost use Rattle.gix_pathspec.specs.NormalForm.{NormalFormIsNormal};
 ghost use Rattle.gix_pathspec.specs.Prefixes.{common_front, common_prefix};
-ghost use Rattle.gix_pathspec.specs.Search.{KeepsSpecs, IsFresh, specs_of, numbered_from, in_search_order, search_of, HoldsNormalForms};
+ghost use Rattle.gix_pathspec.specs.Search.{KeepsSpecs, IsFresh, specs_of, numbered_from, in_search_order, search_of, HoldsNormalForms, at_number};
 ghost use Rattle.gix_pathspec.specs.Effort.{ArePlacesOf, heads_in_order};
-ghost use Rattle.gix_pathspec.specs.Takers.{takers_of};
-ghost use Rattle.gix_pathspec.specs.Building.{prefix_bytes, TellsFault, Builds, IsErrorAt, AreNumbered, AddsNext, with_next, or_prefix, search_of_numbered};
+ghost use Rattle.gix_pathspec.specs.SubtreeExcludes.{subtree_excludes_of};
+ghost use Rattle.gix_pathspec.specs.Building.{prefix_bytes, TellsFault, Builds, IsErrorAt, AreNumbered, AddsNext, with_next, default_numbered_to_prefix, search_of_numbered};
 ghost use Rattle.gix_pathspec.specs.Reach.{IsReachOf};
 ghost use Rattle.gix_pathspec.specs.Room.{Fits};
 ghost use Rattle.gix_pathspec.specs.SelectionLaws.{NoNilPrefix, SpecPathsAreBytes};
+ghost use Rattle.gix_pathspec.specs.Reading.{reading};
+ghost use Rattle.gix_pathspec.specs.Lines.{numbered_of_lines, search_of_lines};
 
 use crate::by_head::SpecsByHead;
-use crate::by_head::takers::TakersByHead;
-use crate::search::counted::{CountedHeads, CountedSpecs, CountedTakers};
+use crate::by_head::subtree_excludes::ExcludesByHead;
+use crate::search::compiling::{compile, compile_all, compile_lines};
+use crate::search::counted::{CountedExcludes, CountedSpecs};
+use crate::search::matching::boxed_scratch;
 use crate::search::reach::Reach;
-use crate::search::scratch::boxed_scratch;
 use crate::search::spec::CompiledSpec;
-use crate::search::takers::takers_with_heads;
+use crate::search::subtree_excludes::excludes_with_heads;
 use crate::search::{Scratch, Search};
-use crate::{Error, MagicSignature, Pattern};
+use crate::{Defaults, Error, MagicSignature, Pattern};
 use bstr::{BStr, BString};
+use pathspec_heads::agreement::agreement;
 use pathspec_heads::places::PlacesByHead;
 use std::alloc::{AllocError, AllocFailed, Global};
 use std::iter::IntoIterator;
 
-/// Why specs make no search.
+/// The reason why specs make no search.
 #[derive(Debug, Drop, PartialEq, Eq, thiserror::Error)]
 pub enum BuildError {
-    /// A spec has no normal form, or the line of a text says no spec: its place in the list or the number of its line,
-    /// counted from 0, and why. It is the first such spec or line.
+    /// The number, from 0, of the first spec that has no normal form, or of the first line that says no spec; and its error.
     #[error("spec {0}: {1}")]
     Spec(usize, Error),
     /// Memory ran out.
@@ -65,14 +68,14 @@ impl<T: Drop> From<AllocFailed<T>> for BuildError {
 }
 
 impl Search {
-    /// Makes a search of specs that are given in the directory `prefix` of a repository that lies at `root`. It takes
-    /// every spec, normalises each as [`Pattern::normalize`] does, and puts excludes before includes. A list of no
-    /// specs stands for the prefix, if there is one that isn't empty.
+    /// Makes a search of specs that were given in the directory `prefix` of the repository at `root`. The call takes every
+    /// spec, normalises each as [`Pattern::normalize`] does, and puts excludes before includes. A list without specs stands
+    /// for the prefix, if that isn't empty.
     ///
     /// The prefix must be clean, as [`Pattern::normalize`] asks. None is the empty prefix.
     ///
-    /// The cost is linear in the bytes of all specs, and for each spec in the prefix and the root; and it sorts their
-    /// heads. The search has room for its own matches; nothing grows afterwards.
+    /// The cost is linear in the bytes of all specs, and for each spec in the prefix and the root. A sort of their heads comes
+    /// on top. The search has room for its own matches; nothing grows afterwards.
     ///
     /// # Errors
     /// [`BuildError::Spec`] for the first spec that has no normal form, and [`BuildError::Memory`].
@@ -97,8 +100,7 @@ impl Search {
             × (xs : List Pattern) × I.into_iter_gives specs it × Drains I.IntoIter.next_gives it xs
             × (search_of (prefix_bytes prefix.entry) (bstr_bytes root.entry) (map pattern_spec xs)
             ≡ Err fault))) }
-        // So a search has just the normal forms of its specs, and of no specs and a prefix that of the prefix; and each is
-        // its own normal form.
+        // A search has just the normal forms of its specs, or else of the prefix, and each is its own normal form.
         ensures forms { HoldsNormalForms × NormalFormIsNormal }
     {
         let prefix = prefix.unwrap_or(BStr::new(b""));
@@ -106,9 +108,44 @@ impl Search {
         of_compiled(alloc, compiled, None, prefix, root)
     }
 
-    /// A search with the same specs and source, with room of its own. Its counts begin at 0.
+    /// Makes a search of the specs on a text's lines, and keeps `source`, as a file's name. gix-pathspec has no such call.
     ///
-    /// The cost is that of [`Search::from_specs`].
+    /// A line feed ends each line, and the last may lack it. One carriage return directly before a line feed isn't part of the
+    /// line. [`parse::parse`] reads each line as a spec of any bytes: nothing is trimmed or unquoted, and an empty line is at
+    /// fault. git reads a file of `--pathspec-from-file` so, but takes quotes off. The text `a\n:!a/x\n` has the specs `a`,
+    /// with the number 0, and `:!a/x`, with the number 1.
+    ///
+    /// The call normalises each spec as it reads its line, and keeps no list of the written specs. They become a search as
+    /// [`Search::from_specs`] makes one, under the same condition on the prefix. The call looks at each byte of the text a
+    /// fixed number of times; the rest is the cost of [`Search::from_specs`].
+    ///
+    /// # Errors
+    /// [`BuildError::Spec`] with the number, from 0, of the first line that says no spec. If each says one, it is the number
+    /// of the first whose spec has no normal form. [`BuildError::Memory`].
+    pub fn from_lines(
+        alloc: Global,
+        text: &[u8],
+        source: BStr<'_>,
+        defaults: Defaults,
+        prefix: Option<BStr<'_>>,
+        root: BStr<'_>,
+    ) -> Result<Search, BuildError>
+        requires clean { IsTrue (is_clean_prefix (prefix_bytes prefix)) }
+        ensures search { Builds (λ search. search.specs) (search_of_lines defaults
+            (prefix_bytes prefix.entry) (bstr_bytes root.entry) text.now) result }
+        ensures source { IfOk result (λ search. search.source ≡ Some (bstr_bytes source.entry)) }
+        ensures effort { IfOk result (λ search. IsFresh search.counts) }
+        // A search has just the normal forms of its specs, and each is its own normal form.
+        ensures forms { OnOk result (HoldsNormalForms × NormalFormIsNormal) }
+    {
+        let prefix = prefix.unwrap_or(BStr::new(b""));
+        let specs = compile_lines(alloc, text, defaults, prefix, root)?;
+        let source = BString::from_slice(alloc, source.as_bytes())?;
+        of_compiled(alloc, specs, Some(source), prefix, root)
+    }
+
+    /// Makes a search with equal specs and source, its own room and all counts at 0. The cost is that of
+    /// [`Search::from_specs`].
     ///
     /// # Errors
     /// [`Error::Memory`] alone.
@@ -124,8 +161,8 @@ impl Search {
     }
 }
 
-/// Makes a search of specs that are ready for matching, or where there is none, of the prefix, if it isn't empty.
-pub(super) fn of_compiled(
+/// Makes a search of specs that are ready for matching. A list without specs stands for the prefix, if that isn't empty.
+fn of_compiled(
     alloc: Global,
     specs: Vec<CompiledSpec>,
     source: Option<BString>,
@@ -140,12 +177,12 @@ pub(super) fn of_compiled(
     ensures source { IfOk result (λ search. search.source ≡ option_map bstring_bytes source) }
     ensures effort { IfOk result (λ search. IsFresh search.counts) }
 {
-    let given = or_prefix(alloc, specs, prefix, root)?;
+    let given = default_to_prefix(alloc, specs, prefix, root)?;
     let ordered = in_search_order(alloc, given)?;
     Ok(of_ordered(alloc, ordered, source)?)
 }
 
-/// The search of these specs, which stand in search order.
+/// Makes a search of specs that stand in search order.
 ///
 /// # Errors
 /// Memory runs out.
@@ -161,31 +198,31 @@ fn of_ordered(
     ensures source { IfOk result (λ search. search.source ≡ option_map bstring_bytes source) }
     ensures effort { IfOk result (λ search. IsFresh search.counts) }
 {
-    let (reach, takers) = pruning(alloc, &specs)?;
+    let (reach, excludes) = pruning(alloc, &specs)?;
     let (specs, scratch) = with_room(alloc, specs)?;
     Ok(Search {
         specs,
         scratch,
         reach,
-        takers,
+        excludes,
         nil: Pattern::nil(alloc),
         source,
     })
 }
 
-/// What specs reach, and the takers among them.
+/// Makes the tables that pruning reads, and the subtree excludes, for which no table answers.
 ///
 /// # Errors
 /// Memory runs out.
-fn pruning(alloc: Global, specs: &[CompiledSpec]) -> Result<(Reach, TakersByHead), AllocError>
+fn pruning(alloc: Global, specs: &[CompiledSpec]) -> Result<(Reach, ExcludesByHead), AllocError>
     ensures reach { IfOk result (λ pair. IsReachOf (specs_of specs.now) pair.0) }
-    ensures takers { IfOk result (λ pair. pair.1 ≡ takers_of (specs_of specs.now)) }
+    ensures excludes { IfOk result (λ pair. pair.1 ≡ subtree_excludes_of (specs_of specs.now)) }
 {
     let reach = Reach::of_specs(alloc, specs)?;
-    Ok((reach, takers_by_head(alloc, specs)?))
+    Ok((reach, excludes_by_head(alloc, specs)?))
 }
 
-/// Specs by their heads, with room for their matches.
+/// Groups specs by their heads, and makes room for their matches.
 ///
 /// # Errors
 /// Memory runs out.
@@ -202,8 +239,8 @@ fn with_room(
     Ok((specs, scratch))
 }
 
-/// The specs, or where there is none, the spec of the prefix, if it isn't empty.
-fn or_prefix(
+/// The specs, or without any the spec of the prefix, if that isn't empty.
+fn default_to_prefix(
     alloc: Global,
     mut specs: Vec<CompiledSpec>,
     prefix: BStr<'_>,
@@ -211,8 +248,8 @@ fn or_prefix(
 ) -> Result<Vec<CompiledSpec>, BuildError>
     requires clean { IsTrue (is_clean_prefix (bstr_bytes prefix)) }
     requires bytes { SpecPathsAreBytes (specs_of specs.items) }
-    ensures specs { Builds (λ given. given.items) (or_prefix (bstr_bytes prefix.entry)
-        (bstr_bytes root.entry) specs.items) result }
+    ensures specs { Builds (λ given. given.items) (default_numbered_to_prefix
+        (bstr_bytes prefix.entry) (bstr_bytes root.entry) specs.items) result }
     ensures bytes { IfOk result (λ given. SpecPathsAreBytes (specs_of given.items)) }
 {
     if !specs.is_empty() || prefix.as_bytes().is_empty() {
@@ -225,104 +262,7 @@ fn or_prefix(
     Ok(specs)
 }
 
-/// Takes every pattern, normalises each as it comes and makes it ready for matching, numbered from 0.
-///
-/// It takes the patterns behind one that has no normal form, too.
-fn compile_all<I: IntoIterator<Item = Pattern>>(
-    alloc: Global,
-    patterns: I,
-    prefix: BStr<'_>,
-    root: BStr<'_>,
-) -> Result<Vec<CompiledSpec>, BuildError>
-where
-    I::IntoIter: Drop,
-    requires clean { IsTrue (is_clean_prefix (bstr_bytes prefix)) }
-    requires ends { (it : I.IntoIter) → I.into_iter_gives patterns it
-        → I.IntoIter.can_next it × IsFinite (I.IntoIter.remaining it) }
-    ensures ok { IfOk result (λ specs. (it : I.IntoIter) × (xs : List Pattern)
-        × I.into_iter_gives patterns it × Drains I.IntoIter.next_gives it xs
-        × (numbered_from 0 (bstr_bytes prefix.entry) (bstr_bytes root.entry) (map pattern_spec xs)
-        ≡ Ok specs.items)) }
-    ensures bytes { IfOk result (λ specs. SpecPathsAreBytes (specs_of specs.items)) }
-    ensures err { IfErr result (λ e. TellsFault e (λ fault. (it : I.IntoIter)
-        × (xs : List Pattern) × I.into_iter_gives patterns it × Drains I.IntoIter.next_gives it xs
-        × (numbered_from 0 (bstr_bytes prefix.entry) (bstr_bytes root.entry) (map pattern_spec xs)
-        ≡ Err fault))) }
-{
-    let mut specs = Vec::new(alloc);
-    let mut fault = None;
-    for pattern in patterns {
-        fault = compile_next(alloc, &mut specs, fault, pattern, prefix, root)?;
-    }
-    match fault {
-        None => Ok(specs),
-        Some(error) => Err(error),
-    }
-}
-
-// In line, since it moves a large pattern for each spec.
-/// Makes one more spec ready for matching, unless one before it is at fault. It gives the first fault, if there is one.
-///
-/// # Errors
-/// Memory runs out.
-#[inline(always)]
-pub(super) fn compile_next(
-    alloc: Global,
-    specs: &mut Vec<CompiledSpec>,
-    fault: Option<BuildError>,
-    pattern: Pattern,
-    prefix: BStr<'_>,
-    root: BStr<'_>,
-) -> Result<Option<BuildError>, AllocError>
-    requires clean { IsTrue (is_clean_prefix (bstr_bytes prefix)) }
-    requires bytes { SpecPathsAreBytes (specs_of specs.old.items) }
-    ensures specs { IfOk result (AddsNext (bstr_bytes prefix.entry) (bstr_bytes root.entry)
-        (pattern_spec pattern) specs.old.items fault specs.new.items) }
-    ensures bytes { SpecPathsAreBytes (specs_of specs.new.items) }
-{
-    if fault.is_some() {
-        return Ok(fault);
-    }
-    match compile(alloc, specs, pattern, prefix, root) {
-        Ok(()) => Ok(None),
-        Err(BuildError::Memory) => Err(AllocError),
-        Err(error) => Ok(Some(error)),
-    }
-}
-
-/// Normalises a pattern, makes it ready for matching and adds it to the specs, under the next number.
-fn compile(
-    alloc: Global,
-    specs: &mut Vec<CompiledSpec>,
-    mut pattern: Pattern,
-    prefix: BStr<'_>,
-    root: BStr<'_>,
-) -> Result<(), BuildError>
-    requires clean { IsTrue (is_clean_prefix (bstr_bytes prefix)) }
-    requires bytes { SpecPathsAreBytes (specs_of specs.old.items) }
-    ensures specs { Builds (λ done. specs.new.items) (with_next (bstr_bytes prefix.entry)
-        (bstr_bytes root.entry) (pattern_spec pattern) specs.old.items) result }
-    ensures bytes { SpecPathsAreBytes (specs_of specs.new.items) }
-{
-    let number = specs.len();
-    if let Err(error) = pattern.resolve(prefix, root) {
-        return Err(error_at(number, error));
-    }
-    specs.push(CompiledSpec::new(alloc, pattern, number)?)?;
-    Ok(())
-}
-
-/// The error for an error of the spec with this number.
-pub(super) fn error_at(number: usize, error: Error) -> BuildError
-    ensures { IsErrorAt number error result }
-{
-    match error {
-        Error::Memory => BuildError::Memory,
-        error => BuildError::Spec(number, error),
-    }
-}
-
-/// Excludes before includes, each group in its order.
+/// Puts excludes before includes, each group in its order.
 fn in_search_order(alloc: Global, specs: Vec<CompiledSpec>) -> Result<Vec<CompiledSpec>, AllocError>
     ensures { IfOk result (λ ordered. ordered.items ≡ in_search_order specs.items) }
 {
@@ -343,7 +283,7 @@ fn in_search_order(alloc: Global, specs: Vec<CompiledSpec>) -> Result<Vec<Compil
     Ok(ordered)
 }
 
-/// Specs by their heads.
+/// Groups specs by their heads.
 fn by_head(alloc: Global, specs: Vec<CompiledSpec>) -> Result<SpecsByHead, AllocError>
     ensures { IfOk result (λ held. held ≡ specs.items) }
 {
@@ -352,23 +292,21 @@ fn by_head(alloc: Global, specs: Vec<CompiledSpec>) -> Result<SpecsByHead, Alloc
     Ok(SpecsByHead::new(CountedSpecs::new(specs), heads, common))
 }
 
-/// The takers among these specs, by their heads.
-fn takers_by_head(alloc: Global, specs: &[CompiledSpec]) -> Result<TakersByHead, AllocError>
-    ensures { IfOk result (λ takers. takers ≡ takers_of (specs_of specs.now)) }
+/// The subtree excludes among the specs, by their heads.
+fn excludes_by_head(alloc: Global, specs: &[CompiledSpec]) -> Result<ExcludesByHead, AllocError>
+    ensures { IfOk result (λ excludes. excludes ≡ subtree_excludes_of (specs_of specs.now)) }
 {
-    let (takers, heads) = takers_with_heads(alloc, specs)?;
-    let places = PlacesByHead::new(alloc, &heads)?;
-    let heads = Box::new(alloc, CountedHeads::new(places))?;
-    Ok(TakersByHead::new(CountedTakers::new(takers), heads))
+    let (excludes, heads) = excludes_with_heads(alloc, specs)?;
+    let heads = Box::new(alloc, PlacesByHead::new(alloc, &heads)?)?;
+    Ok(ExcludesByHead::new(CountedExcludes::new(excludes), heads))
 }
 
 /// The places of specs by their heads.
-fn places_by_head(alloc: Global, specs: &[CompiledSpec]) -> Result<Box<CountedHeads>, AllocError>
+fn places_by_head(alloc: Global, specs: &[CompiledSpec]) -> Result<Box<PlacesByHead>, AllocError>
     ensures { IfOk result (λ places. ArePlacesOf specs.now (box_value places)) }
 {
     let heads = heads_in_order(alloc, specs)?;
-    let places = PlacesByHead::new(alloc, &heads)?;
-    Ok(Box::new(alloc, CountedHeads::new(places))?)
+    Ok(Box::new(alloc, PlacesByHead::new(alloc, &heads)?)?)
 }
 
 /// The heads of specs in their order.
@@ -383,7 +321,7 @@ fn heads_in_order(alloc: Global, specs: &[CompiledSpec]) -> Result<Vec<&[u8]>, A
     Ok(heads)
 }
 
-/// The longest text that every include's head begins with; empty where there is no include.
+/// The longest text that begins every include's head; empty where there is no include.
 fn common_prefix(alloc: Global, specs: &[CompiledSpec]) -> Result<Vec<u8>, AllocError>
     ensures { IfOk result (λ common. common.items ≡ common_prefix (specs_of specs.now)) }
 {
@@ -400,20 +338,14 @@ fn common_prefix(alloc: Global, specs: &[CompiledSpec]) -> Result<Vec<u8>, Alloc
     Vec::from_slice(alloc, common.unwrap_or(b""))
 }
 
-/// What two texts have in common at the front.
+/// The longest front that two texts share.
 fn common_front<'a>(left: &'a [u8], right: &[u8]) -> &'a [u8]
     ensures { result.now ≡ common_front left.now right.now }
 {
-    let shorter = left.len().min(right.len());
-    for n in 0..shorter {
-        if left[n] != right[n] {
-            return &left[..n];
-        }
-    }
-    &left[..shorter]
+    &left[..agreement(left, right)]
 }
 
-/// Specs equal to these.
+/// Clones each spec.
 fn clone_all(alloc: Global, specs: &[CompiledSpec]) -> Result<Vec<CompiledSpec>, Error>
     ensures ok { IfOk result (λ copies. copies.items ≡ specs.now) }
     ensures err { IfErr result IsMemory }
@@ -425,7 +357,7 @@ fn clone_all(alloc: Global, specs: &[CompiledSpec]) -> Result<Vec<CompiledSpec>,
     Ok(copies)
 }
 
-/// The same text, if there is one.
+/// A copy of the source, if there is one.
 fn clone_source(source: &Option<BString>) -> Result<Option<BString>, AllocError>
     ensures { IfOk result (λ copy.
         option_map bstring_bytes copy ≡ option_map bstring_bytes source.now) }

@@ -1,250 +1,288 @@
-//! Whether a spec matches a path, and how (gitglossary, "pathspec").
-ghost use Rattle.std.specs.Prelude.{◌≡◌, ◌≤◌, length, map, Some};
+//! Matching: the spec that settles a path, and the room that a match works in.
+ghost use Rattle.std.specs.Prelude.{◌≡◌, ◌≢◌, ◌↔◌, ◌<◌, ◌≤◌, [], length, IsTrue, IfOk, OnOk, OnErr};
+ghost use Rattle.std.specs.Option.{option_map, ForSome};
 ghost use Rattle.bstr.specs.BStr.{bstr_bytes};
-ghost use Rattle.pathspec_parts.specs.AttributeStates.{state_ref_view, assignment_view};
-ghost use Rattle.pathspec_parts.specs.Outcomes.{names_of, states_of};
-ghost use Rattle.gix_pathspec.specs.Specs.{ignores_case};
-ghost use Rattle.gix_pathspec.specs.Matching.{fit, is_in_prefix_directory, is_glob_match, is_verbatim_match, is_prefix_match, text_way, takes_kind, case_of, same_state, have_states};
+ghost use Rattle.pathspec_parts.specs.Attributes.{AsksLookUp};
+ghost use Rattle.gix_pathspec.specs.Specs.{is_exclude};
 ghost use Rattle.gix_pathspec.specs.Patterns.{pattern_spec};
-ghost use Rattle.gix_pathspec.specs.Room.{glob_of, tokens_of};
+ghost use Rattle.gix_pathspec.specs.Matching.{is_chosen, IsChosen};
+ghost use Rattle.gix_pathspec.specs.Found.{is_directory, answer_found, match_view};
+ghost use Rattle.gix_pathspec.specs.Search.{specs_of, answer, selects, IsFresh};
+ghost use Rattle.gix_pathspec.specs.Room.{Fits};
+ghost use Rattle.gix_pathspec.specs.Effort.{IsCounted, IsLittleCompared, IsBySpec, is_settled_early};
+ghost use Rattle.gix_pathspec.specs.SkipLaws.{FoundIsSkipped};
+ghost use Rattle.std.specs.Box.{box_value};
 
-use crate::search::MatchKind;
-use crate::search::spec::CompiledSpec;
-use crate::search::texts::{is_below, is_same_text};
-use crate::{MagicSignature, Pattern};
-use bitflags::Flags;
+use crate::Pattern;
+use crate::by_head::SpecsByHead;
+use crate::search::counted::SpecScratch;
+use crate::search::{MatchKind, Scratch, Search};
 use bstr::BStr;
-use pathspec_parts::attributes::{Assignment, Case, LookUp, Outcome, StateRef};
-use pathspec_parts::glob::{Glob, Scratch};
+use pathspec_parts::attributes::LookUp;
+use std::alloc::{AllocError, Global};
 
-/// How a pattern matches a path that isn't empty and is a directory or a file, if it does: always, or since its glob
-/// matches the path, or since the path is the pattern's or lies below it. Of several ways it is the first.
-///
-/// The glob is the pattern's, and None for a pattern that has none.
-///
-/// A pattern without case that has a prefix directory matches only what lies below that directory, and the directory
-/// itself, both compared with case.
-///
-/// Beside the steps of the glob, it looks at each byte of the pattern's path a fixed number of times. It takes no
-/// memory.
-#[inline(always)]
-fn match_kind(
-    pattern: &Pattern,
-    glob: &Option<Glob>,
-    globs: &mut Scratch,
-    path: BStr<'_>,
-    is_dir: bool,
-) -> Option<MatchKind>
-    requires glob { glob.now ≡ glob_of (pattern_spec pattern.now) }
-    requires room { tokens_of (pattern_spec pattern.now) ≤ globs.old.tokens }
-    ensures kind { result ≡ fit (pattern_spec pattern.now) (bstr_bytes path.entry) is_dir }
-    ensures room { globs.new.tokens ≡ globs.old.tokens }
-{
-    if !is_in_prefix_directory(pattern, path, is_dir) {
-        return None;
-    }
-    // A pattern with a glob has a wildcard, so it doesn't match always.
-    match glob {
-        Some(glob) if is_glob_match(pattern, glob, globs, path, is_dir) => {
-            Some(MatchKind::WildcardMatch)
-        }
-        None if pattern.always_matches() => Some(MatchKind::Always),
-        _ => text_kind(pattern, path, is_dir),
-    }
+/// The spec that settles a path, and the way in which it matches. Matches compare by their fields in order, patterns by value.
+#[derive(Clone, Debug, Drop, PartialEq, Eq, PartialOrd, Ord, Hash)]
+pub struct Match<'a> {
+    /// The spec that matched, or the nil pattern `:` where no spec settles the path.
+    pub pattern: &'a Pattern,
+    /// The place of the spec in the list that the search was made from, counted from 0. For the nil pattern it is 0 where the
+    /// path is empty, and else the count of specs.
+    pub sequence_number: usize,
+    /// The way in which the spec matches.
+    pub kind: MatchKind,
 }
 
-// In line, as the next ones, since a match asks this of each spec whose head begins the path.
-/// How the path is the pattern's or lies below it, if it does. Only one that is as long can be the pattern's.
-#[inline(always)]
-fn text_kind(pattern: &Pattern, path: BStr<'_>, is_dir: bool) -> Option<MatchKind>
-    ensures { result ≡ text_way (pattern_spec pattern.now) (bstr_bytes path.entry) is_dir }
-{
-    if path.as_bytes().len() == pattern.path().as_bytes().len() {
-        is_verbatim_match(pattern, path, is_dir).then_some(MatchKind::Verbatim)
-    } else {
-        is_prefix_match(pattern, path).then_some(MatchKind::Prefix)
+impl<'a> Match<'a> {
+    ghost use Rattle.gix_pathspec.specs.Skipping.{found_takes_whole};
+
+    /// Whether the spec is an exclude, so that it takes the path away.
+    pub fn is_excluded(&self) -> bool
+        ensures { result ≡ is_exclude (pattern_spec self.now.pattern.now) }
+    {
+        self.pattern.is_excluded()
+    }
+
+    /// Whether an exclude takes the matched directory whole, as `:!node_modules` does: it lists no attributes, and didn't
+    /// match by its glob. A walk may skip such a directory.
+    pub fn takes_whole(&self) -> bool
+        ensures { result ≡ found_takes_whole (match_view self.now) }
+    {
+        let is_by_glob = match self.kind {
+            MatchKind::WildcardMatch => true,
+            MatchKind::Always | MatchKind::Prefix | MatchKind::Verbatim => false,
+        };
+        self.is_excluded() && self.pattern.attributes.is_empty() && !is_by_glob
     }
 }
 
-/// Whether a spec that ignores case may match the path: the path lies below the spec's prefix directory or is that
-/// directory, compared with case. `:(icase)B`, given in `a`, may match `a/b`, but not `A/b`. The answer is also yes where
-/// case counts throughout, and where there is no prefix directory.
-#[inline(always)]
-pub(super) fn is_in_prefix_directory(pattern: &Pattern, path: BStr<'_>, is_dir: bool) -> bool
-    ensures { result ≡ is_in_prefix_directory (pattern_spec pattern.now)
-        (bstr_bytes path.entry) is_dir }
-{
-    if !ignores_case(pattern) {
-        return true;
-    }
-    let path = path.as_bytes();
-    let prefix = pattern.prefix_directory().as_bytes();
-    prefix.is_empty()
-        || is_below(path, prefix, false)
-        || is_same_text(path, prefix, false) && is_dir
-}
+impl Search {
+    ghost use Rattle.gix_pathspec.specs.Reading.{nil_spec};
+    ghost use Rattle.gix_pathspec.specs.SelectionLaws.{SelectsChosen, SelectsCommon, OrderIsFree, ChosenIsTest, FittedBeginsHead, FittedBeginsStem, FittedMatches};
 
-/// Whether the pattern's glob matches the path, which is a directory where the pattern wants one.
-fn is_glob_match(
-    pattern: &Pattern,
-    glob: &Glob,
-    globs: &mut Scratch,
-    path: BStr<'_>,
-    is_dir: bool,
-) -> bool
-    requires glob { glob_of (pattern_spec pattern.now) ≡ Some glob.now }
-    requires room { tokens_of (pattern_spec pattern.now) ≤ globs.old.tokens }
-    ensures answer { result ≡ is_glob_match (pattern_spec pattern.now)
-        (bstr_bytes path.entry) is_dir }
-    ensures room { globs.new.tokens ≡ globs.old.tokens }
-{
-    takes_kind(pattern, is_dir) && glob.matches(path.as_bytes(), case_of(pattern), globs)
-}
-
-/// Whether the path is the pattern's, and a directory where the pattern wants one.
-#[inline(always)]
-pub(super) fn is_verbatim_match(pattern: &Pattern, path: BStr<'_>, is_dir: bool) -> bool
-    ensures { result ≡ is_verbatim_match (pattern_spec pattern.now) (bstr_bytes path.entry) is_dir }
-{
-    takes_kind(pattern, is_dir)
-        && is_same_text(
-            path.as_bytes(),
-            pattern.path().as_bytes(),
-            ignores_case(pattern),
-        )
-}
-
-/// Whether the path lies below the pattern's.
-#[inline(always)]
-pub(super) fn is_prefix_match(pattern: &Pattern, path: BStr<'_>) -> bool
-    ensures { result ≡ is_prefix_match (pattern_spec pattern.now) (bstr_bytes path.entry) }
-{
-    is_below(
-        path.as_bytes(),
-        pattern.path().as_bytes(),
-        ignores_case(pattern),
-    )
-}
-
-/// Whether the pattern takes a directory, or else a file.
-fn takes_kind(pattern: &Pattern, is_dir: bool) -> bool
-    ensures { result ≡ takes_kind (pattern_spec pattern.now) is_dir }
-{
-    is_dir || !pattern.signature.contains(MagicSignature::MUST_BE_DIR)
-}
-
-/// Whether case counts for the pattern.
-pub(super) fn case_of(pattern: &Pattern) -> Case
-    ensures { result ≡ case_of (pattern_spec pattern.now) }
-{
-    if ignores_case(pattern) {
-        Case::Fold
-    } else {
-        Case::Sensitive
-    }
-}
-
-/// Whether ASCII case doesn't count for the pattern.
-pub(super) fn ignores_case(pattern: &Pattern) -> bool
-    ensures { result ≡ ignores_case (pattern_spec pattern.now) }
-{
-    pattern.signature.contains(MagicSignature::ICASE)
-}
-
-impl CompiledSpec {
-    ghost use Rattle.std.specs.Prelude.{IfOk, OnOk, OnErr, false};
-    ghost use Rattle.gix_pathspec.specs.Bytes.{is_empty};
-    ghost use Rattle.pathspec_parts.specs.Attributes.{next_count};
-    ghost use Rattle.gix_pathspec.specs.Matching.{has_attributes};
-    ghost use Rattle.gix_pathspec.specs.Found.{matched_kind};
-    ghost use Rattle.gix_pathspec.specs.Room.{attribute_names};
-
-    // Out of line, since few specs list attributes.
-    /// Whether the path has each attribute that the spec lists, which has to list some: under `:(attr:a -b)x`, whether
-    /// `a` is set and `b` is unset. It resets the outcome, and then asks the look-up once.
+    /// Makes room for matches of the search, with all counts at 0. Each walker that shares a search has a scratch of its own.
+    /// The cost is linear in the tokens of the largest glob and in the names of attributes that the specs list.
     ///
     /// # Errors
-    /// The look-up's fault.
-    #[inline(never)]
-    fn has_attributes<L: LookUp>(
+    /// Memory runs out.
+    pub fn new_scratch(&self, alloc: Global) -> Result<Scratch, AllocError>
+        ensures fits { IfOk result (Fits self.now.specs) }
+        ensures fresh { IfOk result (λ scratch. IsFresh scratch.counts) }
+    {
+        scratch_for(alloc, &self.specs)
+    }
+
+    /// Whether a scratch has room for matches of the search. One that [`Search::new_scratch`] made for it has. So has one of a
+    /// search whose specs list the same attributes and have globs that are no shorter. The cost is linear in the names of
+    /// attributes that the specs list.
+    pub fn fits(&self, scratch: &Scratch) -> bool
+        ensures { IsTrue result ↔ Fits self.now.specs scratch.now }
+    {
+        scratch.specs().fits(self.specs.counted())
+    }
+
+    /// The spec that settles a path: the first in search order that matches it. A path is selected if that is no exclude
+    /// (gitglossary, "pathspec"). Where no spec matches, the nil pattern `:` settles the path if there is no include, and else
+    /// nothing does. It also settles the empty path.
+    ///
+    /// A path is a directory where `is_dir` is `Some(true)`. A directory's path has no slash at its end: `:(glob)s*` matches
+    /// the directory `src`, but not `src/`. A match only reads the search, so walkers can share it, each with its own scratch.
+    ///
+    /// A match takes no memory. It looks at each byte of the common prefix once. It compares a path that begins with it with
+    /// at most as many heads as the count of specs has binary digits, and two ([`Scratch::last_compared`]). Then it asks specs
+    /// in search order, up to the first that matches, and no more than have a head that begins the path
+    /// ([`Scratch::last_tested`]). A spec looks at the path's first and last byte. Then it looks at each byte of its own path
+    /// a fixed number of times, and takes its glob's steps. Where it lists attributes and fits, it resets an outcome and asks
+    /// the look-up.
+    ///
+    /// # Errors
+    /// The look-up's fault, and only where the look-up failed in this call.
+    pub fn settle<L: LookUp>(
         &self,
         path: BStr<'_>,
-        is_dir: bool,
-        outcome: &mut Outcome,
+        is_dir: Option<bool>,
+        scratch: &mut Scratch,
+        look_up: &mut L,
+    ) -> Result<Option<Match<'_>>, L::Fault>
+        requires { Fits self.now.specs scratch.old }
+        ensures answer { IfOk result (λ found. option_map match_view found
+            ≡ answer (L.table look_up.old) self.now.specs
+            (bstr_bytes path.entry) (is_directory is_dir)) }
+        ensures selected { IfOk result (λ found.
+            SelectsChosen (L.table look_up.old) self.now.specs
+            (bstr_bytes path.entry) (is_directory is_dir) (option_map match_view found)) }
+        ensures begins { IfOk result (λ found.
+            SelectsCommon self.now.specs (bstr_bytes path.entry) (option_map match_view found)) }
+        // The order in which the specs were given doesn't change what is selected.
+        ensures order { OrderIsFree }
+        // A caller can write the list of chosen paths as a filter by the test `is_chosen`.
+        ensures test { ChosenIsTest }
+        // A path that a spec fits begins with its head and its stem; a spec without attributes matches what it fits.
+        ensures fitted { FittedBeginsHead × FittedBeginsStem × FittedMatches }
+        // A walk may skip a directory whose match takes it whole.
+        ensures whole { FoundIsSkipped }
+        ensures look_up { AsksLookUp (L.table look_up.old) (L.failures look_up.old)
+            (L.table look_up.new) (L.failures look_up.new) result }
+        ensures room { scratch.new.room ≡ scratch.old.room }
+
+        // Counts each question and each comparison, also where the look-up fails.
+        ensures counted { IsCounted self.now.specs (bstr_bytes path.entry)
+            scratch.old.counts scratch.new.counts }
+        ensures little_compared { IsLittleCompared self.now.specs (bstr_bytes path.entry)
+            scratch.new.counts.last_compared }
+        ensures looked { IfOk result (λ found.
+            IsBySpec self.now.specs (bstr_bytes path.entry) (option_map match_view found)
+            → (1 ≤ scratch.new.counts.last_tested) × (1 ≤ scratch.new.counts.last_compared)) }
+        ensures unasked { IsTrue (is_settled_early self.now.specs (bstr_bytes path.entry))
+            → (scratch.new.counts.last_tested ≡ 0) × (scratch.new.counts.last_compared ≡ 0) }
+    {
+        let found = self.specs.find_match(path, is_dir, scratch, look_up)?;
+        Ok(self.match_found(path, found))
+    }
+
+    /// Whether the search selects a path: no exclude matches it and some include does, or there is no include. Every search
+    /// selects the empty path. The cost and the paths are those of [`Search::settle`].
+    ///
+    /// # Errors
+    /// The look-up's fault, and only where the look-up failed in this call.
+    pub fn is_selected<L: LookUp>(
+        &self,
+        path: BStr<'_>,
+        is_dir: Option<bool>,
+        scratch: &mut Scratch,
         look_up: &mut L,
     ) -> Result<bool, L::Fault>
-        requires listed { is_empty self.now.spec.attributes ≡ false }
-        requires names { names_of outcome.old ≡ attribute_names self.now.spec }
-        ensures answer { IfOk result (λ has. has
-            ≡ has_attributes (L.table look_up.old) self.now.spec (bstr_bytes path.entry) is_dir) }
-        ensures names { names_of outcome.new ≡ names_of outcome.old }
-        ensures table_stays { L.table look_up.new ≡ L.table look_up.old }
-        ensures ok_leaves_count { OnOk result (L.failures look_up.new ≡ L.failures look_up.old) }
-        ensures err_counts { OnErr result
-            (L.failures look_up.new ≡ next_count (L.failures look_up.old)) }
+        requires { Fits self.now.specs scratch.old }
+        ensures answer { IfOk result (λ selected. selected
+            ≡ selects (answer (L.table look_up.old) self.now.specs
+            (bstr_bytes path.entry) (is_directory is_dir))) }
+        ensures selected { IfOk result (λ selected. bstr_bytes path.entry ≢ []
+            → IsTrue selected ↔ IsChosen (L.table look_up.old) (specs_of self.now.specs)
+            (bstr_bytes path.entry) (is_directory is_dir)) }
+        ensures chosen { IfOk result (λ selected. bstr_bytes path.entry ≢ []
+            → selected ≡ is_chosen (L.table look_up.old) (specs_of self.now.specs)
+            (bstr_bytes path.entry) (is_directory is_dir)) }
+        ensures room { scratch.new.room ≡ scratch.old.room }
+        ensures counted { IsCounted self.now.specs (bstr_bytes path.entry)
+            scratch.old.counts scratch.new.counts }
+        ensures little_compared { IsLittleCompared self.now.specs (bstr_bytes path.entry)
+            scratch.new.counts.last_compared }
+        ensures look_up { AsksLookUp (L.table look_up.old) (L.failures look_up.old)
+            (L.table look_up.new) (L.failures look_up.new) result }
     {
-        outcome.reset();
-        let found = look_up.look_up(path, Case::Sensitive, is_dir, outcome)?;
-        Ok(found && have_states(outcome, &self.pattern.attributes))
+        Ok(selects(&self.settle(path, is_dir, scratch, look_up)?))
     }
 
-    /// How the spec matches a path that isn't empty and is a directory or a file: it fits in this way, and the path has
-    /// the attributes that the spec lists.
-    ///
-    /// It asks the look-up at most once, and only where the spec lists attributes and fits.
+    /// The count of specs that the last [`Search::pattern_matching_relative_path`] asked, as [`Scratch::last_tested`] says.
+    pub fn last_tested(&self) -> usize
+        ensures { result ≡ self.now.counts.last_tested }
+    {
+        self.scratch.last_tested()
+    }
+
+    /// The count of heads that the last [`Search::pattern_matching_relative_path`] compared with the path.
+    pub fn last_compared(&self) -> u128
+        ensures { result ≡ self.now.counts.last_compared }
+    {
+        self.scratch.last_compared()
+    }
+
+    /// The count of specs that all calls of [`Search::pattern_matching_relative_path`] asked, modulo 2^128.
+    pub fn total_tested(&self) -> u128
+        ensures { result ≡ self.now.counts.tested }
+    {
+        self.scratch.total_tested()
+    }
+
+    /// The count of heads that all calls of [`Search::pattern_matching_relative_path`] compared, modulo 2^128.
+    pub fn total_compared(&self) -> u128
+        ensures { result ≡ self.now.counts.compared }
+    {
+        self.scratch.total_compared()
+    }
+
+    /// The match by the spec at the place found, or by the nil pattern, for the empty path or without includes.
+    fn match_found(&self, path: BStr<'_>, found: Option<(usize, MatchKind)>) -> Option<Match<'_>>
+        requires { ForSome found (λ at. at.0 < length self.now.specs) }
+        ensures { option_map match_view result
+            ≡ answer_found self.now.specs (bstr_bytes path.entry) found }
+    {
+        match found {
+            Some((place, kind)) => Some(Match {
+                pattern: self.specs.as_slice()[place].pattern(),
+                sequence_number: self.specs.as_slice()[place].number(),
+                kind,
+            }),
+            None if path.as_bytes().is_empty() => Some(self.nil_match(0)),
+            None if self.has_include() => None,
+            None => Some(self.nil_match(self.specs.len())),
+        }
+    }
+
+    /// The match by the nil pattern, which always matches, under a number.
+    fn nil_match(&self, number: usize) -> Match<'_>
+        ensures { match_view result
+            ≡ record { pattern = nil_spec; number = number; kind = MatchKind.Always } }
+    {
+        Match {
+            pattern: &self.nil,
+            sequence_number: number,
+            kind: MatchKind::Always,
+        }
+    }
+
+    /// The spec that settles a path, as [`Search::settle`] finds it, by a scratch that the search holds (gix-pathspec's call
+    /// of this name). The specs stay, but no clause says so: a proof that goes on with the search takes [`Search::settle`].
     ///
     /// # Errors
-    /// The look-up's fault.
-    #[inline(always)]
-    pub(super) fn matches<L: LookUp>(
-        &self,
+    /// The look-up's fault, and only where the look-up failed in this call.
+    pub fn pattern_matching_relative_path<L: LookUp>(
+        &mut self,
         path: BStr<'_>,
-        is_dir: bool,
-        globs: &mut Scratch,
-        outcome: &mut Outcome,
+        is_dir: Option<bool>,
         look_up: &mut L,
-    ) -> Result<Option<MatchKind>, L::Fault>
-        requires room { tokens_of self.now.spec ≤ globs.old.tokens }
-        requires names { names_of outcome.old ≡ attribute_names self.now.spec }
-        ensures answer { IfOk result (λ kind. kind
-            ≡ matched_kind (L.table look_up.old) self.now.spec (bstr_bytes path.entry) is_dir) }
-        ensures room { globs.new.tokens ≡ globs.old.tokens }
-        ensures names { names_of outcome.new ≡ names_of outcome.old }
-        ensures table_stays { L.table look_up.new ≡ L.table look_up.old }
-        ensures ok_leaves_count { OnOk result (L.failures look_up.new ≡ L.failures look_up.old) }
-        ensures err_counts { OnErr result
-            (L.failures look_up.new ≡ next_count (L.failures look_up.old)) }
+    ) -> Result<Option<Match<'_>>, L::Fault>
+        ensures answer { IfOk result (λ found. option_map match_view found
+            ≡ answer (L.table look_up.old) self.old.specs
+            (bstr_bytes path.entry) (is_directory is_dir)) }
+        ensures selected { IfOk result (λ found.
+            SelectsChosen (L.table look_up.old) self.old.specs
+            (bstr_bytes path.entry) (is_directory is_dir) (option_map match_view found)) }
+        ensures begins { IfOk result (λ found.
+            SelectsCommon self.old.specs (bstr_bytes path.entry) (option_map match_view found)) }
+        ensures look_up { AsksLookUp (L.table look_up.old) (L.failures look_up.old)
+            (L.table look_up.new) (L.failures look_up.new) result }
     {
-        let Some(kind) = match_kind(&self.pattern, &self.glob, globs, path, is_dir) else {
-            return Ok(None);
-        };
-        if self.pattern.attributes.is_empty() {
-            return Ok(Some(kind));
-        }
-        Ok(
-            self.has_attributes(path, is_dir, outcome, look_up)?
-                .then_some(kind),
-        )
+        let found = self
+            .specs
+            .find_match(path, is_dir, &mut self.scratch, look_up)?;
+        Ok(self.match_found(path, found))
     }
 }
 
-/// Whether each place of an outcome has the state of the assignment at this place.
-fn have_states(outcome: &Outcome, assignments: &[Assignment]) -> bool
-    requires { length outcome.now ≡ length assignments.now }
-    ensures { result
-        ≡ have_states (states_of outcome.now) (map assignment_view assignments.now) }
+/// Whether a search selects a path for which it found this match, or none.
+pub(super) fn selects(found: &Option<Match<'_>>) -> bool
+    ensures { result ≡ selects (option_map match_view found.now) }
 {
-    for (place, assignment) in assignments.iter().enumerate() {
-        if !is_same_state(outcome.state(place), assignment.state.as_ref()) {
-            return false;
-        }
+    match found {
+        Some(found) => !found.is_excluded(),
+        None => false,
     }
-    true
 }
 
-/// Whether two states are one.
-fn is_same_state(left: StateRef<'_>, right: StateRef<'_>) -> bool
-    ensures { result ≡ same_state (state_ref_view left.entry) (state_ref_view right.entry) }
+/// Makes room for matches of the specs, with all counts at 0.
+fn scratch_for(alloc: Global, specs: &SpecsByHead) -> Result<Scratch, AllocError>
+    ensures fits { IfOk result (Fits specs.now) }
+    ensures fresh { IfOk result (λ scratch. IsFresh scratch.counts) }
 {
-    left == right
+    let room = SpecScratch::for_specs(alloc, specs.counted())?;
+    Ok(Scratch::new(room, specs.heads().new_scratch()))
+}
+
+/// Makes room for matches of the specs, in a box: whoever drops a search needn't prove anew what becomes of a scratch's lists.
+pub(super) fn boxed_scratch(alloc: Global, specs: &SpecsByHead) -> Result<Box<Scratch>, AllocError>
+    ensures fits { IfOk result (λ scratch. Fits specs.now (box_value scratch)) }
+    ensures fresh { IfOk result (λ scratch. IsFresh (box_value scratch).counts) }
+{
+    Ok(Box::new(alloc, scratch_for(alloc, specs)?)?)
 }

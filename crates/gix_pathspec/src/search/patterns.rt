@@ -1,16 +1,22 @@
-//! What a search tells of its specs, and the iterators over them.
-ghost use Rattle.std.specs.Prelude.{◌≡◌, find, length, IfSome, Some, ⊤};
+//! Answers of a search about its specs, and the iterators over them.
+ghost use Rattle.std.specs.Prelude.{◌≡◌, find, length, IfSome, Some, ⊤, ◌≤◌, MatchOption, IsTrue, IsFalse};
 ghost use Rattle.std.specs.Option.{option_map};
 ghost use Rattle.std.specs.Iterator.{YieldsFirstBy, UpTo, item_count};
 ghost use Rattle.std.specs.Iterator.SizeHint.{IsWithinCount};
 ghost use Rattle.bstr.specs.BStr.{bstr_bytes};
-ghost use Rattle.gix_pathspec.specs.Specs.{is_include};
+ghost use Rattle.gix_pathspec.specs.Specs.{is_include, wants_directory};
 ghost use Rattle.gix_pathspec.specs.Patterns.{pattern_spec};
-ghost use Rattle.gix_pathspec.specs.SelectionLaws.{ChosenBeginsCommon, ChosenIsTest, NoNilPrefix, SpecPathsAreBytes};
+ghost use Rattle.gix_pathspec.specs.SelectionLaws.{ChosenBeginsCommon};
+ghost use Rattle.std.specs.List.{list_any, before_last};
+ghost use Rattle.gix_pathspec.specs.Attributes.{Table};
+ghost use Rattle.gix_pathspec.specs.Paths.{is_slash};
+ghost use Rattle.gix_pathspec.specs.Directories.{parent_or_self, parent, non_empty, front, leading_front, front_for, agrees_in_front, settles, settling_answer, allows_directory, directory_matches, ends_at_boundary, common_directory};
+ghost use Rattle.gix_pathspec.specs.DirectoryLaws.{OutsideFitsNone, OutsideIsSafe, LeadingIsWider, CommonDirectoryHoldsAll};
 
 use crate::Pattern;
 use crate::by_head::SpecsByHead;
 use crate::search::Search;
+use crate::search::directories::{non_empty, parent};
 use crate::search::spec::CompiledSpec;
 use bstr::BStr;
 use std::alloc::AllocError;
@@ -18,26 +24,26 @@ use std::marker::Model;
 use std::vec;
 
 impl Search {
+    ghost use Rattle.std.specs.Prelude.{◌&&◌, filter, if◌then◌else◌};
+    ghost use Rattle.std.specs.List.{list_all};
     ghost use Rattle.gix_pathspec.specs.Prefixes.{common_prefix, IsCommonPrefix, first_prefix_directory};
     ghost use Rattle.gix_pathspec.specs.Search.{specs_of};
 
-    /// What every path that an include matches begins with: the longest text that begins the head of each include,
-    /// and the empty text where there is no include.
+    /// The longest text that begins each include's head, and so each path that an include matches; empty without an include.
     ///
-    /// The head of a spec is its path before the first wildcard byte, of a spec without case its prefix directory, and
-    /// of a nil spec nothing. The search keeps it, so this takes constant time.
+    /// The head of a spec is its path before the first wildcard byte, as `src/` for `src/*.rs`. A spec without case has its
+    /// prefix directory as head, and a nil spec an empty one. The call takes constant time.
     pub fn common_prefix(&self) -> BStr<'_>
         ensures value { bstr_bytes result ≡ common_prefix (specs_of self.now.specs) }
         ensures longest { IsCommonPrefix (specs_of self.now.specs) (bstr_bytes result) }
-        // Whatever specs choose begins with their common prefix.
+        // Each path that specs choose begins with their common prefix.
         ensures chosen { ChosenBeginsCommon }
     {
         BStr::new(self.specs.common_prefix())
     }
 
-    /// The prefix directory of the first include, and the empty text where there is no include.
-    ///
-    /// It looks at each exclude once, and at no byte of a path.
+    /// The prefix directory of the first include, or the empty text without an include. The call looks at each exclude once,
+    /// and at no byte of a path.
     pub fn prefix_directory(&self) -> BStr<'_>
         ensures { bstr_bytes result ≡ first_prefix_directory (specs_of self.now.specs) }
     {
@@ -47,7 +53,53 @@ impl Search {
         }
     }
 
-    /// The first spec that puts paths in.
+    /// The longest directory, as the includes tell it, that every selected path is or lies in (gix-pathspec's call of this
+    /// name). None where there is no include, or where the directory is the whole tree.
+    ///
+    /// The directory is the common prefix if the first include wants a directory and each include's path ends there or goes on
+    /// with a slash. Otherwise it is the common prefix before its last slash: `src` for `src/*.rs`, and None for `src`.
+    ///
+    /// The call looks at each byte of the common prefix at most once, and at one byte of each spec.
+    pub fn longest_common_directory(&self) -> Option<BStr<'_>>
+        ensures answer { option_map bstr_bytes result ≡ common_directory (specs_of self.now.specs) }
+        // Every chosen path lies at or below the directory.
+        ensures holds_all { (table : Table)
+            → CommonDirectoryHoldsAll table (specs_of self.now.specs) }
+    {
+        match self.first_include() {
+            Some(first) => non_empty(self.common_directory_from(first)),
+            None => None,
+        }
+    }
+
+    /// The longest common directory of the includes, of which `first` is the first, as [`Search::longest_common_directory`]
+    /// says. It is empty for the whole tree.
+    fn common_directory_from(&self, first: &CompiledSpec) -> &[u8]
+        ensures { let specs = specs_of self.now.specs in let common = common_prefix specs in
+            result.now ≡ (if wants_directory first.now.spec
+            && list_all (ends_at_boundary common) (filter is_include specs)
+            then common else parent common) }
+    {
+        let common = self.common_prefix().as_bytes();
+        if first.wants_directory() && self.ends_at_boundary(common) {
+            common
+        } else {
+            parent(common)
+        }
+    }
+
+    /// Whether each include's path ends after as many bytes as `common` has, or has a slash there.
+    fn ends_at_boundary(&self, common: &[u8]) -> bool
+        ensures { result ≡ list_all (ends_at_boundary common.now)
+            (filter is_include (specs_of self.now.specs)) }
+    {
+        self.specs
+            .as_slice()
+            .iter()
+            .all(|spec| !spec.is_include() || spec.ends_at_boundary(common))
+    }
+
+    /// The first include in search order.
     pub(super) fn first_include(&self) -> Option<&CompiledSpec>
         ensures { option_map (λ c. c.now.spec) result
             ≡ find is_include (specs_of self.now.specs) }
@@ -55,7 +107,7 @@ impl Search {
         self.specs.as_slice().iter().find(|spec| spec.is_include())
     }
 
-    /// The specs in search order: excludes first, each group in the order in which the specs were given. Constant time.
+    /// The specs in search order: excludes first, each group in the order in which the specs were given. Takes constant time.
     pub fn patterns(&self) -> Patterns<'_>
         ensures { result ≡ specs_of self.now.specs }
     {
@@ -72,7 +124,7 @@ impl Search {
             specs,
             scratch: _scratch,
             reach: _reach,
-            takers: _takers,
+            excludes: _excludes,
             nil: _nil,
             source: _source,
         } = self;
@@ -80,32 +132,10 @@ impl Search {
             rest: specs.into_counted().into_specs().into_iter(),
         }
     }
-
-    /// In every search the paths of specs are bytes. What walks over a tree promise rests on that; the call itself does
-    /// nothing.
-    pub fn spec_paths_are_bytes(&self)
-        ensures { SpecPathsAreBytes (specs_of self.now.specs) }
-    {
-        let _ = &self.specs;
-    }
-
-    /// In every search a nil spec has no prefix directory. What walks over a tree promise rests on that; the call itself
-    /// does nothing.
-    pub fn nil_specs_lack_a_prefix(&self)
-        ensures { NoNilPrefix (specs_of self.now.specs) }
-    {
-        let _ = &self.specs;
-    }
-
-    /// The test of what is chosen, `is_chosen`, gives just what the statement `IsChosen` says, for all specs. That is a law
-    /// for callers whose contracts speak of the statement, and who may ask no search at all; the call itself does nothing.
-    pub fn chosen_is_test()
-        ensures { ChosenIsTest }
-    {}
 }
 
 impl SpecsByHead {
-    /// The specs, to read. A match stands outside the module `search`, so it can't call this.
+    /// The specs, to read. A match stands outside of the module `search`, so it can't call this.
     pub(super) fn as_slice(&self) -> &[CompiledSpec]
         ensures { result.now ≡ self.now }
     {
@@ -113,7 +143,7 @@ impl SpecsByHead {
     }
 }
 
-/// The specs of a search in search order, as [`Search::patterns`] gives them. It knows how many are left.
+/// An iterator over a search's specs in search order, made by [`Search::patterns`]. It knows how many are left.
 #[derive(Debug, Drop)]
 pub struct Patterns<'a> {
     rest: &'a [CompiledSpec],
@@ -168,7 +198,7 @@ impl Clone for Patterns<'_> {
     }
 }
 
-/// The specs of a search by value in search order, as [`Search::into_patterns`] gives them. It knows how many are left.
+/// An iterator over a search's specs by value, in search order, made by [`Search::into_patterns`]. It knows how many are left.
 #[derive(Debug, Drop)]
 pub struct IntoPatterns {
     rest: vec::IntoIter<CompiledSpec>,

@@ -1,38 +1,35 @@
-//! What the specs of a search reach, by the stems of its includes, and what its excludes take whole, by their paths.
+//! Tables for pruning: which paths the stems of includes reach, and which the paths of excludes take whole.
 ghost use Rattle.std.specs.Prelude.{◌≡◌, ◌&&◌, true, List, IfOk};
 ghost use Rattle.std.specs.List.{list_any};
-ghost use Rattle.gix_pathspec.specs.PathTables.{path_takes, IsPathTableOf};
-ghost use Rattle.gix_pathspec.specs.Tables.{IsTableOf};
+ghost use Rattle.gix_pathspec.specs.Tables.{path_takes, IsTableOf};
 ghost use Rattle.gix_pathspec.specs.Specs.{Spec, is_include};
 ghost use Rattle.gix_pathspec.specs.Pruning.{reaches};
-ghost use Rattle.gix_pathspec.specs.Reach.{reaches_live, taken_paths, stems_of, IsReachOf};
+ghost use Rattle.gix_pathspec.specs.Reach.{reaches_unshadowed, taken_paths, stems_of, IsReachOf};
 ghost use Rattle.gix_pathspec.specs.Search.{specs_of};
 
 use crate::search::spec::CompiledSpec;
-use pathspec_heads::paths::PathTable;
-use pathspec_heads::tables::{StemHints, StemTable};
+use pathspec_heads::tables::{StemScratch, StemTable};
 use std::alloc::{AllocError, Global};
 
-/// What specs reach, and what their excludes take whole. A search makes it once, and no question goes through its specs.
+/// Tables of what includes reach and excludes take whole. A search makes them once, so no question goes through its specs.
 #[derive(Drop)]
 pub(super) struct Reach {
     /// Whether an exclude takes every path.
     pub(super) excludes_all: bool,
-    /// Whether some spec puts paths in.
+    /// Whether some spec is an include.
     pub(super) has_include: bool,
     /// Whether an include always matches.
     includes_all: bool,
-    /// The stems of the includes that don't, but for those that an exclude buries.
-    live: Box<StemTable>,
-    /// The stems of the buried ones.
-    buried: Box<StemTable>,
+    /// The stems of the includes that don't always match, but for those that an exclude shadows.
+    reachable: Box<StemTable>,
+    /// The stems of the includes that an exclude shadows: it takes all that they take.
+    shadowed: Box<StemTable>,
     /// The paths at or below which an exclude takes everything.
-    taken: Box<PathTable>,
+    taken: Box<StemTable>,
 }
 
 impl Reach {
-    /// What these specs reach. Its cost is that of sorting the stems of the includes and the paths of the excludes, of which
-    /// it has copies.
+    /// Makes the tables of the specs. The cost is that of sorting copies of the includes' stems and the excludes' paths.
     ///
     /// # Errors
     /// Memory runs out.
@@ -40,8 +37,8 @@ impl Reach {
         ensures { IfOk result (IsReachOf (specs_of specs.now)) }
     {
         let taken = Box::new(alloc, path_table(alloc, specs)?)?;
-        let live = Box::new(alloc, stem_table(alloc, specs, &taken, false)?)?;
-        let buried = Box::new(alloc, stem_table(alloc, specs, &taken, true)?)?;
+        let reachable = Box::new(alloc, stem_table(alloc, specs, &taken, false)?)?;
+        let shadowed = Box::new(alloc, stem_table(alloc, specs, &taken, true)?)?;
         let excludes_all = specs.iter().any(|spec| spec.is_total_exclude());
         let has_include = specs.iter().any(|spec| spec.is_include());
         let includes_all = specs.iter().any(|spec| spec.is_total_include());
@@ -49,34 +46,35 @@ impl Reach {
             excludes_all,
             has_include,
             includes_all,
-            live,
-            buried,
+            reachable,
+            shadowed,
             taken,
         })
     }
 
-    /// Whether some include reaches the path, at the cost of [`StemTable::reaches`].
+    /// Whether some include reaches the path, at the cost of [`StemTable::reaches`] for two tables.
     pub(super) fn reaches(&self, path: &[u8], is_dir: Option<bool>) -> bool
         ensures { (specs : List Spec) → IsReachOf specs self.now
             → result ≡ list_any (λ s. is_include s && reaches s path.now is_dir) specs }
     {
-        self.reaches_live(path, is_dir, &mut StemHints::new()) || self.buried.reaches(path, is_dir)
+        self.reaches_unshadowed(path, is_dir, &mut StemScratch::new())
+            || self.shadowed.reaches(path, is_dir)
     }
 
-    /// Whether an include that no exclude buries reaches the path, at the same cost.
-    pub(super) fn reaches_live(
+    /// Whether an include that no exclude shadows reaches the path, at the cost of [`StemTable::reaches_with`].
+    pub(super) fn reaches_unshadowed(
         &self,
         path: &[u8],
         is_dir: Option<bool>,
-        hints: &mut StemHints,
+        scratch: &mut StemScratch,
     ) -> bool
         ensures { (specs : List Spec) → IsReachOf specs self.now
-            → result ≡ reaches_live specs path.now is_dir }
+            → result ≡ reaches_unshadowed specs path.now is_dir }
     {
-        self.includes_all || self.live.reaches_with_hints(path, is_dir, hints)
+        self.includes_all || self.reachable.reaches_with(path, is_dir, scratch)
     }
 
-    /// Whether an exclude takes the directory whole by its path, at the cost of [`PathTable::takes`].
+    /// Whether an exclude takes the directory whole by its path, at the cost of [`StemTable::takes`].
     pub(super) fn takes(&self, directory: &[u8]) -> bool
         ensures { (specs : List Spec) → IsReachOf specs self.now
             → result ≡ list_any (λ p. path_takes p directory.now true) (taken_paths specs) }
@@ -85,9 +83,9 @@ impl Reach {
     }
 }
 
-/// A table of the paths at or below which an exclude takes everything.
-fn path_table(alloc: Global, specs: &[CompiledSpec]) -> Result<PathTable, AllocError>
-    ensures { IfOk result (IsPathTableOf (taken_paths (specs_of specs.now))) }
+/// Makes the table of the paths at or below which an exclude takes everything.
+fn path_table(alloc: Global, specs: &[CompiledSpec]) -> Result<StemTable, AllocError>
+    ensures { IfOk result (IsTableOf (taken_paths (specs_of specs.now))) }
 {
     let mut paths = Vec::new(alloc);
     for spec in specs {
@@ -95,22 +93,22 @@ fn path_table(alloc: Global, specs: &[CompiledSpec]) -> Result<PathTable, AllocE
             paths.push(spec.as_path())?;
         }
     }
-    PathTable::new(alloc, &paths)
+    StemTable::new(alloc, &paths)
 }
 
-/// A table of the stems of the includes that don't always match: of those that an exclude buries, or of the others.
+/// Makes the table of stems of includes that don't always match: of those that an exclude shadows, or of the others.
 fn stem_table(
     alloc: Global,
     specs: &[CompiledSpec],
-    taken: &PathTable,
-    buried: bool,
+    taken: &StemTable,
+    shadowed: bool,
 ) -> Result<StemTable, AllocError>
-    requires { IsPathTableOf (taken_paths (specs_of specs.now)) taken.now }
-    ensures { IfOk result (IsTableOf (stems_of buried (specs_of specs.now) (specs_of specs.now))) }
+    requires { IsTableOf (taken_paths (specs_of specs.now)) taken.now }
+    ensures { IfOk result (IsTableOf (stems_of shadowed (specs_of specs.now) (specs_of specs.now))) }
 {
     let mut stems = Vec::new(alloc);
     for spec in specs {
-        if spec.has_stem(taken, buried) {
+        if spec.has_stem(taken, shadowed) {
             stems.push(spec.as_stem())?;
         }
     }

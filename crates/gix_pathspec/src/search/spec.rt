@@ -7,12 +7,10 @@ ghost use Rattle.gix_pathspec.specs.Patterns.{pattern_spec};
 ghost use Rattle.gix_pathspec.specs.Room.{glob_of};
 ghost use Rattle.gix_pathspec.specs.Specs.{has_wildcard};
 
-use crate::search::end_bytes::{first_byte, last_byte};
-use crate::search::matching;
+use crate::search::spec_matching::{self, first_byte, last_byte};
 use crate::{Error, MagicSignature, Pattern, SearchMode};
 use bitflags::Flags;
-use pathspec_heads::paths::{PathTable, SpecPath};
-use pathspec_heads::tables::SpecStem;
+use pathspec_heads::tables::{SpecStem, StemTable};
 use pathspec_parts::attributes::Outcome;
 use pathspec_parts::glob::{Glob, Mode, Scratch, first_wildcard};
 use std::alloc::{AllocError, Global};
@@ -24,13 +22,13 @@ use std::marker::Model;
 pub(crate) struct CompiledSpec {
     pub(super) pattern: Pattern,
     pub(super) number: usize,
-    /// How many bytes of the path are its stem.
+    /// The length of the path's stem, in bytes.
     pub(super) stem: usize,
-    /// None for a spec that compares its path literally.
+    /// The glob; None for a spec that compares its path literally.
     pub(super) glob: Option<Glob>,
-    /// The first byte of each path that it matches, where the head doesn't tell that.
+    /// The first byte of each path that the spec matches, where the head doesn't tell it.
     pub(super) first: Option<u8>,
-    /// The last byte of each path that its glob matches, where the pattern tells one.
+    /// The last byte of each path that the glob matches, where the pattern tells one.
     pub(super) last: Option<u8>,
 }
 
@@ -57,10 +55,10 @@ impl CompiledSpec {
     ghost use Rattle.gix_pathspec.specs.Patterns.{pattern_spec};
     ghost use Rattle.gix_pathspec.specs.Specs.{Spec, is_include, ignores_case, wants_directory, always_matches, has_wildcard};
     ghost use Rattle.gix_pathspec.specs.Prefixes.{stem, head};
-    ghost use Rattle.gix_pathspec.specs.PathTables.{IsPathTableOf};
+    ghost use Rattle.gix_pathspec.specs.Tables.{IsTableOf};
     ghost use Rattle.gix_pathspec.specs.Plain.{has_one_case};
     ghost use Rattle.gix_pathspec.specs.Pruning.{stem_of, is_total_exclude};
-    ghost use Rattle.gix_pathspec.specs.Reach.{takes_by_path, is_tabled, path_of, taken_paths, is_buried, has_stem};
+    ghost use Rattle.gix_pathspec.specs.Reach.{takes_by_path, is_tabled, path_of, taken_paths, is_shadowed, has_stem};
     ghost use Rattle.gix_pathspec.specs.Compiled.{numbered_pattern};
     ghost use Rattle.pathspec_parts.specs.Outcomes.{names_of};
     ghost use Rattle.gix_pathspec.specs.Room.{tokens_of, attribute_names};
@@ -93,7 +91,7 @@ impl CompiledSpec {
         })
     }
 
-    /// How many bytes of a pattern's path stand before its first wildcard; all of them, if the pattern is nil.
+    /// The length of a pattern's stem: the bytes of its path before the first wildcard, or all of them for the nil pattern.
     fn stem_length(pattern: &Pattern) -> usize
         ensures { result ≡ length (stem (pattern_spec pattern.now)) }
     {
@@ -105,7 +103,7 @@ impl CompiledSpec {
         }
     }
 
-    /// An equal spec, at the cost of [`CompiledSpec::new`].
+    /// Clones the spec, at the cost of [`CompiledSpec::new`].
     ///
     /// # Errors
     /// [`Error::Memory`] alone.
@@ -124,25 +122,25 @@ impl CompiledSpec {
         self.pattern.path().as_bytes()
     }
 
-    /// The path before its first wildcard byte; of a nil spec the whole path.
+    /// The stem: the path before its first wildcard byte, or all of a nil spec's path.
     pub(super) fn stem(&self) -> &[u8]
         ensures { result.now ≡ stem self.now.spec }
     {
         &self.path()[..self.stem]
     }
 
-    /// Whether the spec has a wildcard. It looks at no byte.
+    /// Whether the spec has a wildcard. Looks at no byte of the path.
     pub(super) fn has_wildcard(&self) -> bool
         ensures { result ≡ has_wildcard self.now.spec }
     {
         self.stem < self.path().len()
     }
 
-    /// Whether ASCII case doesn't count.
+    /// Whether the spec ignores ASCII case.
     pub(super) fn ignores_case(&self) -> bool
         ensures { result ≡ ignores_case self.now.spec }
     {
-        matching::ignores_case(&self.pattern)
+        spec_matching::ignores_case(&self.pattern)
     }
 
     /// Whether the spec takes only directories and what lies below them.
@@ -152,21 +150,21 @@ impl CompiledSpec {
         self.pattern.signature.contains(MagicSignature::MUST_BE_DIR)
     }
 
-    /// Whether this is an exclude that takes every path.
+    /// Whether the spec is an exclude that takes every path, whatever a look-up says.
     pub(super) fn is_total_exclude(&self) -> bool
         ensures { result ≡ is_total_exclude self.now.spec }
     {
         !self.is_include() && self.always_matches() && self.pattern.attributes.is_empty()
     }
 
-    /// Whether this is an include that always matches.
+    /// Whether the spec is an include that always matches.
     pub(super) fn is_total_include(&self) -> bool
         ensures { result ≡ (is_include self.now.spec && always_matches self.now.spec) }
     {
         self.is_include() && self.always_matches()
     }
 
-    /// Whether this is an exclude that lists no attributes and doesn't always match.
+    /// Whether the spec is an exclude that lists no attributes and doesn't always match.
     pub(super) fn takes_by_path(&self) -> bool
         ensures { result ≡ takes_by_path self.now.spec }
     {
@@ -180,29 +178,30 @@ impl CompiledSpec {
         !(self.ignores_case() && !self.pattern.prefix_directory().as_bytes().is_empty())
     }
 
-    /// Whether a table of paths answers what the exclude takes whole.
+    /// Whether the spec is an exclude whose path stands in the table of taken paths.
     pub(super) fn is_tabled(&self) -> bool
         ensures { result ≡ is_tabled self.now.spec }
     {
         self.takes_by_path() && self.has_one_case()
     }
 
-    /// The path of the spec, and what else of it a table of paths asks.
-    pub(super) fn as_path(&self) -> SpecPath<'_>
+    /// The spec's path as a stem, for the table of taken paths.
+    pub(super) fn as_path(&self) -> SpecStem<'_>
         ensures { result ≡ path_of self.now.spec }
     {
-        SpecPath {
+        SpecStem {
             text: self.path(),
             ignores_case: self.ignores_case(),
+            has_wildcard: false,
             wants_directory: self.wants_directory(),
         }
     }
 
-    /// Whether an exclude buries the include: it takes the include's path as what the include wants, and so all that the
-    /// include takes. Its cost is that of [`PathTable::takes`].
-    fn is_buried(&self, taken: &PathTable) -> bool
-        ensures { (specs : List Spec) → IsPathTableOf (taken_paths specs) taken.now
-            → result ≡ is_buried specs self.now.spec }
+    /// Whether an exclude takes the path of an include without a wildcard, and so all that the include takes, as `:!a` does
+    /// for `a/b`. The cost is that of [`StemTable::takes`].
+    fn is_shadowed(&self, taken: &StemTable) -> bool
+        ensures { (specs : List Spec) → IsTableOf (taken_paths specs) taken.now
+            → result ≡ is_shadowed specs self.now.spec }
     {
         if self.always_matches() || self.has_wildcard() {
             return false;
@@ -214,19 +213,19 @@ impl CompiledSpec {
         }
     }
 
-    /// Whether this is an include that doesn't always match, and is buried or not.
-    pub(super) fn has_stem(&self, taken: &PathTable, buried: bool) -> bool
-        ensures { (specs : List Spec) → IsPathTableOf (taken_paths specs) taken.now
-            → result ≡ has_stem buried specs self.now.spec }
+    /// Whether the spec is an include that doesn't always match, and whether an exclude shadows it is as `shadowed` says.
+    pub(super) fn has_stem(&self, taken: &StemTable, shadowed: bool) -> bool
+        ensures { (specs : List Spec) → IsTableOf (taken_paths specs) taken.now
+            → result ≡ has_stem shadowed specs self.now.spec }
     {
         if !self.is_include() || self.always_matches() {
             return false;
         }
-        let is_buried = self.is_buried(taken);
-        if buried { is_buried } else { !is_buried }
+        let is_shadowed = self.is_shadowed(taken);
+        if shadowed { is_shadowed } else { !is_shadowed }
     }
 
-    /// The stem of the spec, and what else of it a table of stems asks.
+    /// The spec's stem, with the properties that a table of stems asks.
     pub(super) fn as_stem(&self) -> SpecStem<'_>
         ensures { result ≡ stem_of self.now.spec }
     {
@@ -238,8 +237,8 @@ impl CompiledSpec {
         }
     }
 
-    /// What every path that the spec matches begins with, compared with case: the path's stem, or the prefix directory
-    /// of a spec without case. A nil spec has none.
+    /// The head of the spec: every path that it matches begins with the head, compared with case. It is the stem, without case
+    /// the prefix directory, and empty for a nil spec.
     pub(super) fn head(&self) -> &[u8]
         ensures { result.now ≡ head self.now.spec }
     {
@@ -252,21 +251,21 @@ impl CompiledSpec {
         }
     }
 
-    /// The spec itself.
+    /// The spec as a pattern.
     pub(crate) fn pattern(&self) -> &Pattern
         ensures { pattern_spec result.now ≡ self.now.spec }
     {
         &self.pattern
     }
 
-    /// The spec alone, by value.
+    /// The spec as a pattern, by value.
     pub(super) fn into_pattern(self) -> Pattern
         ensures { pattern_spec result ≡ self.spec }
     {
         self.pattern
     }
 
-    /// Whether the spec puts paths in.
+    /// Whether the spec is an include.
     pub(super) fn is_include(&self) -> bool
         ensures { result ≡ is_include self.now.spec }
     {
@@ -280,7 +279,7 @@ impl CompiledSpec {
         self.pattern.always_matches()
     }
 
-    /// How many tokens the spec's glob has, 0 where it has none.
+    /// The count of tokens of the spec's glob; 0 without a glob.
     pub(super) fn tokens(&self) -> usize
         ensures { result ≡ tokens_of self.now.spec }
     {
@@ -290,7 +289,7 @@ impl CompiledSpec {
         }
     }
 
-    /// A place for the state of each attribute that the spec lists.
+    /// Makes an outcome with a place for the state of each attribute that the spec lists.
     ///
     /// # Errors
     /// Memory runs out.
@@ -300,7 +299,7 @@ impl CompiledSpec {
         Outcome::for_assignments(alloc, &self.pattern.attributes)
     }
 
-    /// Whether a match of the spec has room for its glob and for the states of its attributes.
+    /// Whether the scratch has room for the spec's glob, and the outcome for the states of its attributes.
     pub(super) fn fits(&self, globs: &Scratch, outcome: &Outcome) -> bool
         ensures { IsTrue result ↔ (tokens_of self.now.spec ≤ globs.now.tokens)
             × (names_of outcome.now ≡ attribute_names self.now.spec) }
@@ -312,7 +311,7 @@ impl CompiledSpec {
         has_room && outcome.is_for(&self.pattern.attributes)
     }
 
-    /// The place of the spec in the list that the search was made from.
+    /// The place of the spec in the list that the search was made from, counted from 0.
     pub(crate) fn number(&self) -> usize
         ensures { result ≡ self.now.number }
     {
@@ -320,8 +319,7 @@ impl CompiledSpec {
     }
 }
 
-/// The mode of a pattern's glob; None for a pattern that compares its path literally. The caller knows whether it has a
-/// wildcard.
+/// The mode of a pattern's glob; None where the pattern compares its path literally. `is_wild` says whether it has a wildcard.
 pub(super) fn glob_mode(pattern: &Pattern, is_wild: bool) -> Option<Mode>
     requires { is_wild ≡ has_wildcard (pattern_spec pattern.now) }
     ensures { let spec = pattern_spec pattern.now in
@@ -337,8 +335,8 @@ pub(super) fn glob_mode(pattern: &Pattern, is_wild: bool) -> Option<Mode>
     }
 }
 
-/// A pattern's glob; None for a pattern that compares its path literally. The caller knows whether it has a wildcard. The cost
-/// is linear in the path.
+/// Compiles a pattern's glob; None for a pattern that compares its path literally. `is_wild` says whether the pattern has a
+/// wildcard. The cost is linear in the path.
 ///
 /// # Errors
 /// Memory runs out.

@@ -8,10 +8,9 @@ ghost use Rattle.pathspec_parts.specs.Attributes.{attribute_name_of, begins_with
 use bstr::BStr;
 use std::alloc::{AllocError, Global};
 
-/// The name of an attribute: ASCII letters, digits, `-`, `.` and `_`, where the first byte is no `-`
-/// (gitattributes).
+/// The name of an attribute: ASCII letters, digits, `-`, `.` and `_`, where the first byte is no `-` (gitattributes).
 ///
-/// The empty name is one. Names are compared by their bytes.
+/// The empty text is a name. Names compare by their bytes.
 #[derive(Debug, Drop, PartialEq, Eq, PartialOrd, Ord, Hash)]
 pub struct Name {
     bytes: Vec<u8>,
@@ -21,9 +20,7 @@ pub struct Name {
 impl Name {
     ghost use Rattle.pathspec_parts.specs.AttributeNames.{name_bytes};
 
-    /// The name with these bytes, or None where they are no name.
-    ///
-    /// It looks at each byte at most twice, and copies the bytes.
+    /// Makes a name of bytes, or None where they are no name. The call looks at each byte at most twice, and copies the bytes.
     ///
     /// # Errors
     /// Memory runs out. Bytes that are no name take no memory.
@@ -40,7 +37,7 @@ impl Name {
         }))
     }
 
-    /// Its bytes.
+    /// The bytes of the name.
     pub fn as_bytes(&self) -> BStr<'_>
         ensures bytes { bstr_bytes result ≡ name_bytes self.now }
         ensures name { IsTrue (is_attribute_name (name_bytes self.now)) }
@@ -48,7 +45,7 @@ impl Name {
         BStr::new(self.bytes.as_slice())
     }
 
-    /// A name equal to this one.
+    /// Clones the name.
     ///
     /// # Errors
     /// Memory runs out.

@@ -8,7 +8,7 @@ use std::convert::Infallible;
 
 /// A look-up that has no answer for any path: each attribute is unspecified. It never fails.
 ///
-/// So `:(attr:text)x` matches nothing, and `:(attr:!text)x` neither, since a spec with attributes wants an answer.
+/// With it `:(attr:text)x` matches nothing, and neither does `:(attr:!text)x`, since a spec with attributes wants an answer.
 #[derive(Clone, Copy, Debug, Default)]
 pub struct NoAttributes;
 

@@ -1,4 +1,4 @@
-//! What a look-up says of the attributes that it is asked for.
+//! Outcomes: the states of attributes that a look-up is asked for.
 ghost use Rattle.std.specs.Prelude.{◌≡◌, ◌<◌, ◌↔◌, [], length, vec_len, map, slice_get, bytes_eq, Some, IsTrue, IfOk, OnOk, OnErr};
 ghost use Rattle.bstr.specs.BStr.{bstr_bytes};
 ghost use Rattle.pathspec_parts.specs.Attributes.{State as Attribute};
@@ -27,9 +27,7 @@ impl Model for Outcome {
 }
 
 impl Outcome {
-    /// The names of the assignments in their order, each with the state [`State::Unspecified`].
-    ///
-    /// It copies each name.
+    /// Makes an outcome with copies of the assignments' names, in their order, each with the state [`State::Unspecified`].
     ///
     /// # Errors
     /// Memory runs out.
@@ -47,21 +45,21 @@ impl Outcome {
         Ok(Outcome { places })
     }
 
-    /// How many places it has.
+    /// The count of places.
     pub fn len(&self) -> usize
         ensures { result ≡ length self.now }
     {
         self.places.len()
     }
 
-    /// Whether it has none.
+    /// Whether there are no places.
     pub fn is_empty(&self) -> bool
         ensures { IsTrue result ↔ (self.now ≡ []) }
     {
         self.places.is_empty()
     }
 
-    /// Whether it has a place for each of these assignments, in their order. The cost is linear in the bytes of their names.
+    /// Whether the outcome has a place for each assignment, in their order. The cost is linear in the bytes of their names.
     pub fn is_for(&self, assignments: &[Assignment]) -> bool
         ensures { IsTrue result
             ↔ (names_of self.now ≡ map (λ a. a.name) (map assignment_view assignments.now)) }
@@ -85,10 +83,8 @@ impl Outcome {
         self.places[place].state.as_ref()
     }
 
-    /// Gives the state to each place with this name, and to no other place.
-    ///
-    /// It compares the name with the name at each place, and copies the state once for each place
-    /// that has it.
+    /// Gives the state to each place with the name, and to no other place. The call compares the name with the name at each
+    /// place, and copies the state once for each place that has it.
     ///
     /// # Errors
     /// Memory runs out. Every place is then as before. A name that no place has takes no memory.
@@ -114,14 +110,14 @@ impl Outcome {
     }
 }
 
-/// Whether this place has this name.
+/// Whether a place has the name.
 fn is_named(place: &Assignment, name: &[u8]) -> bool
     ensures { result ≡ bytes_eq (assignment_view place.now).name name.now }
 {
     place.name.as_bytes().as_bytes() == name
 }
 
-/// A copy of the state for each place with this name.
+/// Copies the state once for each place with the name.
 fn copies_for(
     alloc: Global,
     places: &[Assignment],
@@ -142,7 +138,7 @@ fn copies_for(
     Ok(copies)
 }
 
-/// Gives one of the copies to each place with this name.
+/// Gives one of the copies to each place with the name.
 fn put_copies(places: &mut [Assignment], name: &[u8], mut copies: Vec<State>)
     requires { vec_len copies ≡ name_count (map assignment_view places.old) name.now }
     ensures { (state : Attribute) → AreCopies state copies.items

@@ -1,4 +1,4 @@
-//! What an attribute is for a path.
+//! The states of attributes for paths.
 ghost use Rattle.std.specs.Prelude.{◌≡◌, IfOk, OnErr, IsTrue};
 ghost use Rattle.pathspec_parts.specs.Attributes.{is_value};
 ghost use Rattle.pathspec_parts.specs.AttributeStates.{state_view, state_ref_view, assignment_view};
@@ -6,43 +6,43 @@ ghost use Rattle.pathspec_parts.specs.AttributeStates.{state_view, state_ref_vie
 use crate::attributes::Name;
 use std::alloc::{AllocError, Global};
 
-/// What an attribute is for a path (gitattributes).
+/// The state of an attribute for a path (gitattributes).
 #[derive(Debug, Drop, PartialEq, Eq, PartialOrd, Ord, Hash)]
 pub enum State {
-    /// It is set, as `name` says.
+    /// The attribute is set, as by `name`.
     Set,
-    /// It is unset, as `-name` says.
+    /// The attribute is unset, as by `-name`.
     Unset,
-    /// It has a value, as `name=value` says.
+    /// The attribute has a value, as by `name=value`.
     Value(Vec<u8>),
-    /// Nothing is said of it, as `!name` says.
+    /// The attribute is unspecified, as by `!name`.
     Unspecified,
 }
 
 /// A [`State`] whose value is lent.
 #[derive(Clone, Copy, Debug, PartialEq, Eq, PartialOrd, Ord, Hash)]
 pub enum StateRef<'a> {
-    /// It is set.
+    /// The attribute is set.
     Set,
-    /// It is unset.
+    /// The attribute is unset.
     Unset,
-    /// It has a value.
+    /// The attribute has a value.
     Value(&'a [u8]),
-    /// Nothing is said of it.
+    /// The attribute is unspecified.
     Unspecified,
 }
 
-/// The name of an attribute, and what the attribute is to be.
+/// The name of an attribute, and the state that it is to have.
 #[derive(Debug, Drop, PartialEq, Eq, PartialOrd, Ord, Hash)]
 pub struct Assignment {
-    /// Which attribute.
+    /// The attribute's name.
     pub name: Name,
-    /// What it is to be.
+    /// The state that the attribute is to have.
     pub state: State,
 }
 
 impl State {
-    /// The same state, with its value lent.
+    /// Lends the state: a [`StateRef`] with the bytes of its value.
     pub fn as_ref(&self) -> StateRef<'_>
         ensures { state_ref_view result ≡ state_view self.now }
     {
@@ -54,7 +54,7 @@ impl State {
         }
     }
 
-    /// A state equal to this one.
+    /// Clones the state.
     ///
     /// # Errors
     /// Memory runs out. Only a value takes memory.
@@ -72,7 +72,7 @@ impl State {
 }
 
 impl<'a> StateRef<'a> {
-    /// The same state, with a copy of its value.
+    /// An owned [`State`], with a copy of the value.
     ///
     /// # Errors
     /// Memory runs out. Only a value takes memory.
@@ -90,7 +90,7 @@ impl<'a> StateRef<'a> {
 }
 
 impl Assignment {
-    /// An assignment equal to this one.
+    /// Clones the assignment.
     ///
     /// # Errors
     /// Memory runs out.

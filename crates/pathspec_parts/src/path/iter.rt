@@ -8,14 +8,14 @@ ghost use Rattle.pathspec_parts.specs.Components.{remaining_components};
 use crate::split;
 use bstr::BStr;
 
-/// The components of a path, as [`components`](crate::path::components) gives them.
+/// An iterator over the components of a path, made by [`components`](crate::path::components).
 #[derive(Clone, Copy, Debug)]
 pub struct Components<'a> {
     rest: &'a [u8],
 }
 
 impl<'a> Components<'a> {
-    /// The components of this path.
+    /// Makes an iterator over the components of a path.
     pub(crate) fn new(path: BStr<'a>) -> Components<'a>
         ensures { remaining_components result ≡ components (bstr_bytes path.entry) }
     {

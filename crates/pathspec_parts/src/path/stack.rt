@@ -24,7 +24,7 @@ impl<'a> Model for Stack<'a> {
 }
 
 impl<'a> Stack<'a> {
-    /// An empty stack. It takes no memory.
+    /// Makes an empty stack. It takes no memory.
     pub fn new(alloc: Global) -> Stack<'a>
         ensures { result ≡ record { names = []; least = 0 } }
     {
@@ -58,28 +58,28 @@ impl<'a> Stack<'a> {
         popped
     }
 
-    /// How many components stand on it.
+    /// The count of components on the stack.
     pub fn len(&self) -> usize
         ensures { result ≡ length self.now.names }
     {
         self.names.len()
     }
 
-    /// Whether none does.
+    /// Whether the stack is empty.
     pub fn is_empty(&self) -> bool
         ensures { IsTrue result ↔ (self.now.names ≡ []) }
     {
         self.names.is_empty()
     }
 
-    /// The component with an index, the lowest at 0.
+    /// The component at an index, where the lowest has the index 0.
     pub fn get(&self, index: usize) -> Option<BStr<'a>>
         ensures { option_map bstr_bytes result ≡ slice_get self.now.names index }
     {
         self.names.get(index).copied()
     }
 
-    /// From now on the least height counts anew, this moment included.
+    /// Begins the least height anew, with the height at this moment.
     pub fn mark(&mut self)
         ensures { self.new ≡ record self.old { least = length self.old.names } }
     {

@@ -8,14 +8,14 @@ use std::alloc::{AllocError, Global};
 use std::fmt;
 use std::marker::Model;
 
-/// A walk over the entries of a tree, which its caller steers: it goes into those directories that are entered.
+/// A walk over the entries of a tree, which its caller steers: it goes into the directories that the caller enters.
 ///
-/// It is the only way to the entries, so what it never gave was never looked at: its trail, [`Walk::entered`], tells
-/// which directories were entered. It can't be copied. What is printed of it is where it stands and its trail.
+/// A cursor is the only way to the entries. So its trail, [`Walk::entered`], tells which directories were looked into. It
+/// can't be copied. Its debug form has its place and its trail.
 #[derive(Drop)]
 pub struct Cursor<'a> {
     steps: Steps<'a, Tree>,
-    /// The path of the entry at which it stands.
+    /// The path of the entry at which the cursor stands.
     path: Vec<u8>,
 }
 
@@ -42,8 +42,8 @@ impl<'a> Model for Cursor<'a> {
 }
 
 impl<'a> Cursor<'a> {
-    /// A cursor before the first entry. It reserves all that it needs, the bytes of the longest path and a number for
-    /// each directory: no later call takes memory.
+    /// Makes a cursor before the first entry. It reserves the bytes of the longest path and a number for each directory: no
+    /// later call takes memory.
     ///
     /// # Errors
     /// Memory runs out.
@@ -63,7 +63,7 @@ impl<'a> Walk for Cursor<'a> {
 
     ghost contents = { λ it. it };
 
-    /// It looks at the bytes of the entry's name, and at no entry that it passes over.
+    /// Goes to the next entry, and looks at the bytes of its name. An entry that is passed over costs no look.
     fn next(&mut self) -> Option<usize> {
         let tree = self.steps.entries();
         let Some(number) = self.steps.next() else {

@@ -11,18 +11,17 @@ use bstr::BStr;
 use std::alloc::{AllocError, Global};
 use std::marker::Model;
 
-/// Entries by number, in the order of a tree, each with the number at which what lies in it ends.
-///
-/// Whatever keeps its entries so gets the [`Steps`] of a walk over them.
+/// Entries by number, in the order of a tree, each with its end: the number of the first later entry that doesn't lie in it.
+/// Whoever keeps entries so gets the [`Steps`] of a walk over them.
 pub trait Entries {
     /// The entries.
     ghost list: { Self → List Entry };
 
-    /// How many there are.
+    /// The count of entries.
     fn len(&self) -> usize
         ensures { result ≡ length (list self.now) };
 
-    /// How many of them are directories.
+    /// The count of directories.
     fn directories(&self) -> usize
         ensures count { result ≡ directory_count (list self.now) }
         ensures nested { IsNested (list self.now) }
@@ -33,13 +32,13 @@ pub trait Entries {
         requires { number < length (list self.now) }
         ensures { (e : Entry) → slice_get (list self.now) number ≡ Some e → result ≡ e.is_dir };
 
-    /// The number of the first entry after this one that doesn't lie in it.
+    /// The end of an entry: the number of the first later entry that doesn't lie in it.
     fn end_of(&self, number: usize) -> usize
         requires { number < length (list self.now) }
         ensures { IsEndOf (list self.now) number result };
 }
 
-/// Entries whose paths stand somewhere as they are, so that [`Steps`] over them are a [`Walk`].
+/// Entries whose paths can be lent, so that [`Steps`] over them are a [`Walk`].
 pub trait EntryPaths: Entries {
     /// The path of an entry.
     fn path(&self, number: usize) -> &[u8]
@@ -47,11 +46,11 @@ pub trait EntryPaths: Entries {
         ensures { IsPathOf (Self.list self.now) number result.now };
 }
 
-/// A walk over numbered entries, but for their paths: where it stands, which entry comes next, and its trail.
+/// A walk over numbered entries without their paths: where it stands, which entry comes next, and its trail.
 #[derive(Drop)]
 pub struct Steps<'a, E: Entries> {
     entries: &'a E,
-    /// The number of the entry at which it stands.
+    /// The number of the entry at which the walk stands.
     at: Option<usize>,
     /// The number of the entry that comes next.
     next: usize,
@@ -77,7 +76,7 @@ impl<'a, E: Entries> Model for Steps<'a, E> {
 }
 
 impl<'a, E: Entries> Steps<'a, E> {
-    /// Steps before the first entry. They reserve a number for each directory: no later call takes memory.
+    /// Makes steps before the first entry. They reserve a number for each directory, so no later call takes memory.
     ///
     /// # Errors
     /// Memory runs out.
@@ -94,7 +93,7 @@ impl<'a, E: Entries> Steps<'a, E> {
         })
     }
 
-    /// What the walk is over. Only a cursor is lent it: whoever holds a walk gets to the entries by the walk alone.
+    /// The entries of the walk, lent to a cursor alone: whoever holds a walk gets to them by the walk alone.
     pub(super) fn entries(&self) -> &'a E
         ensures { E.list result.now ≡ self.now.entries }
     {
@@ -109,13 +108,13 @@ impl<'a, E: Entries> Steps<'a, E> {
         self.at
     }
 
-    /// Goes to the next entry that doesn't lie in a directory that wasn't entered, and gives its number; nothing at the
-    /// end, where no entry stands. It looks at no entry that it passes over.
+    /// Goes to the next entry whose directories were all entered, and gives its number; None at the end, where no entry
+    /// stands. The call looks at no entry that it passes over.
     pub fn next(&mut self) -> Option<usize>
         ensures next { result ≡ next_seen self.old.entered (next_number self.old) self.old.entries }
         ensures place { self.new ≡ cursor_at self.old result }
         ensures within { IfSome result (λ n. n < length self.old.entries) }
-        // The path of the entry before it lies at or below each directory that it lies in.
+        // The previous entry's path lies at or below each directory that the next entry lies in.
         ensures near { IfSome result (λ n. IsNearPath self.old.entries n (path_at self.old)) }
         ensures nested { IsNested self.old.entries }
         ensures bytes { HasBytePaths self.old.entries }
@@ -142,8 +141,8 @@ impl<'a, E: Entries> Steps<'a, E> {
         }
     }
 
-    /// Enters the directory, so that the entries in it come next, and writes its number on the trail, once. It says
-    /// whether there is a directory: nothing changes at a file, and where no entry stands.
+    /// Enters the directory, so that the entries in it come next, and writes its number on the trail, once. The answer is
+    /// whether there is a directory. Nothing changes at a file, and where no entry stands.
     pub fn enter(&mut self) -> bool
         ensures entered { self.new ≡ after_enter self.old }
         ensures is_dir { result ≡ is_dir_at self.old }
@@ -209,7 +208,7 @@ impl<'a, E: EntryPaths> Walk for Steps<'a, E> {
     }
 }
 
-/// Puts a number after rising ones, none of which is greater, if it isn't there. It takes no memory.
+/// Appends a number to rising ones, none of which is greater, if it isn't there. It takes no memory.
 fn push_once(numbers: &mut Vec<usize>, number: usize)
     requires rising { IsStrictlyIncreasing numbers.old.items }
     requires below { (m : ℕ) → Contains numbers.old.items m → m < number + 1 }
@@ -224,7 +223,7 @@ fn push_once(numbers: &mut Vec<usize>, number: usize)
     let _ = numbers.push(number);
 }
 
-/// Whether rising numbers, none of which is greater, have this one: it is the last then.
+/// Whether a number is one of rising ones, none of which is greater: then it is the last.
 fn has_last(numbers: &[usize], number: usize) -> bool
     requires rising { IsStrictlyIncreasing numbers.now }
     requires below { (m : ℕ) → Contains numbers.now m → m < number + 1 }

@@ -1,4 +1,4 @@
-//! Walks over the entries of a tree, whatever way these are kept.
+//! Walks over the entries of a tree, however they are kept.
 ghost use Rattle.std.specs.Prelude.{◌≡◌, ◌↔◌, ℕ, List, map, IsTrue};
 ghost use Rattle.std.specs.Option.{option_map};
 ghost use Rattle.bstr.specs.BStr.{bstr_bytes};
@@ -8,13 +8,13 @@ ghost use Rattle.pathspec_parts.specs.Cursors.{CursorContents, next_seen, IsNew,
 
 use bstr::BStr;
 
-/// A walk over the entries of a tree, which its caller steers: it goes into those directories that are entered.
+/// A walk over the entries of a tree, which its caller steers: it goes into the directories that the caller enters.
 ///
-/// Each of its steps names the entry by a place, as an index into what is walked over. Whoever is handed a walk gets to the
-/// entries by it alone: so its trail, [`Walk::entered`], tells which directories were looked into. [`super::Cursor`] walks over
-/// a [`super::Tree`], and its places are the numbers of entries.
+/// Each step names an entry by a place, as an index into what is walked over. Whoever is handed a walk gets to the entries by
+/// it alone. So its trail, [`Walk::entered`], tells which directories were looked into. The places of a [`super::Cursor`],
+/// which walks over a [`super::Tree`], are the numbers of entries.
 pub trait Walk {
-    /// What names an entry.
+    /// A name of an entry, as its number.
     type Place: Copy;
 
     /// The number that a place has among these entries.
@@ -23,8 +23,7 @@ pub trait Walk {
     /// The entries, the one at which the walk stands, and the trail.
     ghost contents: { Self → CursorContents };
 
-    /// Goes to the next entry that doesn't lie in a directory that wasn't entered, and gives its place; nothing at the
-    /// end, where no entry stands.
+    /// Goes to the next entry whose directories were all entered, and gives its place; None at the end, where no entry stands.
     fn next(&mut self) -> Option<Self::Place>
         ensures next { let c = contents self.old in
             option_map (number c.entries) result ≡ next_seen c.entered (next_number c) c.entries }
@@ -41,8 +40,8 @@ pub trait Walk {
     fn is_dir(&self) -> bool
         ensures { result ≡ is_dir_at (contents self.now) };
 
-    /// Enters the directory, so that the entries in it come next, and writes its place on the trail, once. It says
-    /// whether there is a directory: nothing changes at a file, and where no entry stands.
+    /// Enters the directory, so that the entries in it come next, and writes its place on the trail, once. The answer is
+    /// whether there is a directory. Nothing changes at a file, and where no entry stands.
     fn enter(&mut self) -> bool
         ensures entered { contents self.new ≡ after_enter (contents self.old) }
         ensures is_dir { result ≡ is_dir_at (contents self.old) };

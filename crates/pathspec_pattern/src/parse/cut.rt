@@ -14,11 +14,11 @@ use std::marker::Model;
 /// The parts of a text with magic, after its `:`.
 #[derive(Drop)]
 pub(super) struct Cut<'t> {
-    /// A word over `/`, `^` and `!`.
+    /// Short magic: bytes of `/`, `^` and `!`.
     pub(super) short: &'t [u8],
-    /// Whether a further `:` ends it.
+    /// Whether a further `:` ends the short magic.
     pub(super) ended: bool,
-    /// What stands in parentheses, where any do.
+    /// The text in parentheses, if there are any.
     pub(super) long: Option<&'t [u8]>,
     pub(super) body: &'t [u8],
 }
@@ -62,7 +62,7 @@ pub(super) fn cut_text(alloc: Global, text: &[u8]) -> Result<Cut<'_>, Error>
     })
 }
 
-/// What follows the first byte.
+/// The text behind its first byte.
 fn after_first(text: &[u8]) -> &[u8]
     ensures { result.now ≡ drop 1 text.now }
 {
@@ -83,7 +83,7 @@ fn free_byte(rest: &[u8]) -> Option<u8>
     }
 }
 
-/// Short magic, and what follows it.
+/// Splits a text into the short magic in front and the rest.
 fn split_short(magic: &[u8]) -> (&[u8], &[u8])
     ensures short { result.0.now ≡ take_while is_short magic.now }
     ensures rest { result.1.now ≡ drop (prefix_len is_short magic.now) magic.now }
@@ -91,7 +91,7 @@ fn split_short(magic: &[u8]) -> (&[u8], &[u8])
     magic.split_at(short_len(magic))
 }
 
-/// How many bytes of short magic stand in front.
+/// The count of bytes of short magic in front.
 fn short_len(magic: &[u8]) -> usize
     ensures count { result ≡ prefix_len is_short magic.now }
     ensures within { result ≤ length magic.now }
@@ -99,7 +99,7 @@ fn short_len(magic: &[u8]) -> usize
     magic.iter().take_while(|byte| is_short(**byte)).count()
 }
 
-/// Whether an end mark stands in front, and what follows it.
+/// Whether the end mark `:` stands in front, and the text behind it.
 fn split_mark(rest: &[u8]) -> (bool, &[u8])
     ensures ended { result.0 ≡ first_is is_colon rest.now }
     ensures rest { result.1.now ≡ after_mark rest.now }

@@ -12,17 +12,16 @@ use pathspec_parts::attributes::{Assignment, Name, State};
 use pathspec_parts::split;
 use std::alloc::Global;
 
-/// Reads a list of attributes, as `attr:` takes it (gitglossary, "pathspec"): parts between spaces, of which empty ones
-/// don't count. `name` sets an attribute, `-name` unsets it and `!name` leaves it unspecified. `name=value`, cut at its
-/// first `=`, gives it a value of ASCII letters, digits, `,`, `-` and `_`, in which a backslash stands for the byte
-/// after it.
+/// Reads a list of attributes, as `attr:` takes it (gitglossary, "pathspec"): parts between spaces, of which empty ones don't
+/// count. `name` sets an attribute, `-name` unsets it and `!name` leaves it unspecified. `name=value` is cut at its first `=`.
+/// A value has ASCII letters, digits, `,`, `-` and `_`; a backslash stands for the byte after it.
 ///
-/// It looks at each byte a fixed number of times, and takes memory for the assignments with their names and values, or
+/// The call looks at each byte a fixed number of times. It takes memory for the assignments with their names and values, or
 /// for the bytes that an error carries.
 ///
 /// # Errors
-/// [`Error::EmptyAttributes`] for the empty list; for the first part at fault [`Error::InvalidValueByte`] or
-/// [`Error::TrailingEscape`], which tell of its value, and only then [`Error::InvalidName`]; [`Error::Memory`].
+/// [`Error::EmptyAttributes`] for the empty list. For the first part at fault [`Error::InvalidValueByte`] or
+/// [`Error::TrailingEscape`], which tell of its value, and only then [`Error::InvalidName`]. [`Error::Memory`].
 pub fn attributes(alloc: Global, list: &[u8]) -> Result<Vec<Assignment>, Error>
     ensures { Computes (λ vec. map assignment_view vec.items) (assignments_of list.now) result }
 {
@@ -41,7 +40,7 @@ pub fn attributes(alloc: Global, list: &[u8]) -> Result<Vec<Assignment>, Error>
     Ok(assignments)
 }
 
-/// The assignment that a part of a list says.
+/// Reads the assignment that a part of a list is.
 fn assignment(alloc: Global, part: &[u8]) -> Result<Assignment, Error>
     ensures { Computes assignment_view (assignment_of part.now) result }
 {
@@ -76,7 +75,7 @@ fn assignment_of_state(alloc: Global, state: State, bytes: &[u8]) -> Result<Assi
     })
 }
 
-/// The name of these bytes.
+/// Reads the name that bytes write.
 fn name(alloc: Global, bytes: &[u8]) -> Result<Name, Error>
     ensures { Computes name_bytes (name_of bytes.now) result }
 {
@@ -86,7 +85,7 @@ fn name(alloc: Global, bytes: &[u8]) -> Result<Name, Error>
     }
 }
 
-/// The value that these bytes write.
+/// Reads the value that bytes write.
 fn value(alloc: Global, written: &[u8]) -> Result<Vec<u8>, Error>
     ensures { Computes vec_items (value_of written.now) result }
 {

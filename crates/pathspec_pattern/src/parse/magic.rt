@@ -1,4 +1,4 @@
-//! What long magic asks for (gitglossary, "pathspec").
+//! Long magic (gitglossary, "pathspec"): reads what its pieces ask for.
 ghost use Rattle.std.specs.Prelude.{◌≡◌, map, unwrap_or, None};
 ghost use Rattle.std.specs.Option.{option_map};
 ghost use Rattle.pathspec_parts.specs.AttributeStates.{assignment_view};
@@ -14,7 +14,7 @@ use pathspec_parts::attributes::Assignment;
 use std::alloc::Global;
 use std::marker::Model;
 
-/// What the magic that has been read asks for.
+/// The magic of a text, as far as it was read.
 #[derive(Drop)]
 pub(super) struct Magic<'p> {
     pub(super) signature: MagicSignature,
@@ -30,36 +30,36 @@ impl<'p> Model for Magic<'p> {
     ghost view = { λ m. record { signature = signature_bits m.signature; mode = m.mode; attributes = map assignment_view m.attributes.items; prefix = option_map (λ piece. piece.now) m.prefix } };
 }
 
-/// What a piece of long magic asks for.
+/// The meaning of a piece of long magic.
 enum Keyword<'p> {
     /// A bit of the signature.
-    Adds(MagicSignature),
+    Flag(MagicSignature),
     /// A mode.
-    Picks(SearchMode),
-    /// Nothing.
+    Mode(SearchMode),
+    /// A piece that asks for nothing, as `attr`.
     Ignored,
     /// The attributes of a list.
-    Lists(&'p [u8]),
+    Attributes(&'p [u8]),
     /// The prefix length that digits write.
-    Counts(&'p [u8]),
-    /// There is no such piece.
+    PrefixLength(&'p [u8]),
+    /// A piece that is no keyword.
     Unknown,
 }
 
-/// What a piece asks for, by the table of pieces.
+/// The keyword that a piece is.
 fn keyword_of(piece: &[u8]) -> Keyword<'_>
     ensures { keyword_view result ≡ keyword_of piece.now }
 {
     if piece == b"top".as_slice() {
-        Keyword::Adds(MagicSignature::TOP)
+        Keyword::Flag(MagicSignature::TOP)
     } else if piece == b"icase".as_slice() {
-        Keyword::Adds(MagicSignature::ICASE)
+        Keyword::Flag(MagicSignature::ICASE)
     } else if piece == b"exclude".as_slice() {
-        Keyword::Adds(MagicSignature::EXCLUDE)
+        Keyword::Flag(MagicSignature::EXCLUDE)
     } else if piece == b"literal".as_slice() {
-        Keyword::Picks(SearchMode::Literal)
+        Keyword::Mode(SearchMode::Literal)
     } else if piece == b"glob".as_slice() {
-        Keyword::Picks(SearchMode::PathAwareGlob)
+        Keyword::Mode(SearchMode::PathAwareGlob)
     } else if piece == b"attr".as_slice() {
         Keyword::Ignored
     } else {
@@ -67,14 +67,14 @@ fn keyword_of(piece: &[u8]) -> Keyword<'_>
     }
 }
 
-/// What a piece asks for that carries a value.
+/// The keyword that a piece with a value is, as `attr:a`.
 fn valued_keyword_of(piece: &[u8]) -> Keyword<'_>
     ensures { keyword_view result ≡ valued_keyword_of piece.now }
 {
     if let Some(list) = piece.strip_prefix(b"attr:") {
-        Keyword::Lists(list)
+        Keyword::Attributes(list)
     } else if let Some(digits) = piece.strip_prefix(b"prefix:") {
-        Keyword::Counts(digits)
+        Keyword::PrefixLength(digits)
     } else {
         Keyword::Unknown
     }
@@ -100,7 +100,7 @@ impl<'p> Magic<'p> {
         }
     }
 
-    /// The same with the mode that a piece picks; a mode may be picked again, and not beside another.
+    /// Adds the search mode that a piece picks. A mode may be picked twice; two different modes are refused.
     fn with_mode(self, alloc: Global, piece: &[u8], mode: SearchMode) -> Result<Magic<'p>, Error>
         ensures { IsAnswer (with_mode self.entry piece.now mode) result }
     {
@@ -113,7 +113,7 @@ impl<'p> Magic<'p> {
         })
     }
 
-    /// The same with the attributes that a piece lists; a second list is refused, unless the first was of spaces alone.
+    /// Adds the attributes that a piece lists. A second list is refused, unless the first was of spaces alone.
     fn with_attributes(self, alloc: Global, piece: &[u8], list: &[u8]) -> Result<Magic<'p>, Error>
         ensures { IsAnswer (with_list self.entry piece.now list.now) result }
     {
@@ -126,7 +126,7 @@ impl<'p> Magic<'p> {
         })
     }
 
-    /// The same with the prefix length that a piece asks for: of several the last counts.
+    /// Adds the prefix length that a piece asks for. Of several pieces the last counts.
     fn with_prefix(self, alloc: Global, piece: &'p [u8], digits: &[u8]) -> Result<Magic<'p>, Error>
         ensures { IsAnswer (with_prefix self.entry piece.now digits.now) result }
     {
@@ -139,29 +139,29 @@ impl<'p> Magic<'p> {
         })
     }
 
-    /// The same with what a piece asks for.
+    /// Adds what a piece asks for: `icase` adds a flag, `glob` a search mode, `attr:a` attributes, `prefix:2` a prefix length.
     fn with_piece(self, alloc: Global, piece: &'p [u8]) -> Result<Magic<'p>, Error>
         ensures { IsAnswer (with_piece self.entry piece.now (keyword_of piece.now)) result }
     {
         match keyword_of(piece) {
-            Keyword::Adds(flag) => Ok(Magic {
+            Keyword::Flag(flag) => Ok(Magic {
                 signature: self.signature.union(flag),
                 ..self
             }),
-            Keyword::Picks(mode) => self.with_mode(alloc, piece, mode),
+            Keyword::Mode(mode) => self.with_mode(alloc, piece, mode),
             Keyword::Ignored => Ok(self),
-            Keyword::Lists(list) => self.with_attributes(alloc, piece, list),
-            Keyword::Counts(digits) => self.with_prefix(alloc, piece, digits),
+            Keyword::Attributes(list) => self.with_attributes(alloc, piece, list),
+            Keyword::PrefixLength(digits) => self.with_prefix(alloc, piece, digits),
             Keyword::Unknown => Err(Error::InvalidKeyword(error::to_vec(alloc, piece)?)),
         }
     }
 }
 
-/// What the pieces of long magic make of the magic before them. It looks at each byte a fixed number of times.
+/// Adds what the pieces of long magic ask for to the magic before them. The call looks at each byte a fixed number of times.
 ///
 /// # Errors
-/// For the first piece at fault [`Error::InvalidKeyword`], [`Error::LiteralWithGlob`], [`Error::SecondAttributes`] or
-/// the error of its list, as [`lists::attributes`] gives it; [`Error::Memory`].
+/// For the first piece at fault [`Error::InvalidKeyword`], [`Error::LiteralWithGlob`], [`Error::SecondAttributes`] or the
+/// error of its list, as [`lists::attributes`] gives it; [`Error::Memory`].
 pub(super) fn after_long<'p>(
     alloc: Global,
     short: Magic<'p>,

@@ -31,7 +31,7 @@ pub(super) fn is_escape(byte: u8, is_escaped: bool) -> bool
     byte == b'\\' && !is_escaped
 }
 
-/// The first piece, and what follows the comma that cuts it off, if one does.
+/// The first piece, and the text behind the comma that cuts it off, if one does.
 pub(super) fn split_piece(long: &[u8]) -> (&[u8], Option<&[u8]>)
     ensures last { IfNone result.1 (IsOnlyPiece long.now result.0.now) }
     ensures first { IfSome result.1 (λ others. IsFirstPiece long.now result.0.now others.now) }

@@ -11,7 +11,7 @@ use crate::{Error, error};
 use pathspec_parts::truth::decimal_value;
 use std::alloc::Global;
 
-/// Whether the text is a decimal digit or more.
+/// Whether the text is one or more decimal digits.
 pub(super) fn is_number(digits: &[u8]) -> bool
     ensures { result ≡ is_number digits.now }
 {
@@ -52,7 +52,7 @@ fn boundary_of(path: &[u8], piece: &[u8]) -> Option<usize>
     Some(length)
 }
 
-/// What stands after the `prefix:` of a piece.
+/// The digits behind the `prefix:` of a piece.
 fn digits_of(piece: &[u8]) -> &[u8]
     ensures { result.now ≡ drop 7 piece.now }
 {

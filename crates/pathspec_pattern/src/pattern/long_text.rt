@@ -21,13 +21,13 @@ use std::fmt;
 impl Pattern {
     ghost use Rattle.pathspec_pattern.specs.Patterns.{pattern_spec};
 
-    /// The pattern as a text of long magic: `:` where it is nil, and else `:(`, its keywords with commas between them,
-    /// `)`, its path, and a slash where it wants a directory. The keywords are `top`, `exclude`, `icase`, `literal` or
-    /// `glob`, `prefix:` with the length of the prefix directory where there is one, and `attr:` with the attributes, whose
-    /// commas are escaped: of `:(icase)B`, normalised under `a`, it is `:(icase,prefix:1)a/B`.
+    /// The pattern as a text of long magic: `:` if it is nil, and else `:(`, keywords, `)`, the path, and `/` if a directory
+    /// is wanted. The keywords are `top`, `exclude`, `icase`, `literal` or `glob`, `prefix:` with the length of a prefix
+    /// directory, and `attr:` with the attributes. Commas stand between them, and the attributes' own are escaped. The text of
+    /// `:(icase)B`, normalised under `a`, is `:(icase,prefix:1)a/B`.
     ///
-    /// Further bits of the signature aren't written, and of a nil pattern neither are its bits nor its attributes. The text
-    /// takes as much memory as it is long.
+    /// Further bits of the signature aren't written. Neither are the bits and the attributes of a nil pattern. The text takes
+    /// as much memory as it is long.
     ///
     /// # Errors
     /// [`Error::Memory`] alone.
@@ -40,10 +40,10 @@ impl Pattern {
         // Text that is UTF-8 is printed as it is.
         ensures printed { IfOk result (λ text. IsUtf8 (bstring_bytes text)
             → printed_text (pattern_spec self.now) ≡ bstring_bytes text) }
-        // Only expressible specs come back, and their texts tell them apart; what a text says is expressible.
+        // Only expressible specs are read back, and their texts tell them apart; each spec that a text says is expressible.
         ensures laws { RoundTripIsExact × LongTextIsInjective
             × ParsedIsExpressible × ParsedRoundTrips }
-        // So are normal forms of what texts say, under whatever prefix and root, unless they are nil.
+        // Normal forms of specs that texts say are expressible, too, under any prefix and root, unless they are nil.
         ensures normal { NormalFormKeepsMagic × NormalFormIsExpressible × NormalFormRoundTrips }
     {
         Ok(BString::new(self.long_text()?))
@@ -179,7 +179,7 @@ fn write_assignments(text: &mut Vec<u8>, assignments: &[Assignment]) -> Result<(
     Ok(())
 }
 
-/// Writes a space, unless it would stand in front of the first.
+/// Writes a space, unless the index is 0.
 fn write_space(text: &mut Vec<u8>, index: usize) -> Result<(), AllocError>
     ensures { AddsBytes text.old.items text.new.items
         (if index == 0 then [] else space ∷ []) result }

@@ -17,7 +17,7 @@ use bstr::BStr;
 use pathspec_parts::path::{self, Components, Stack};
 use std::alloc::{AllocError, Global};
 
-/// What a path stands on.
+/// The base of a path, from which it counts.
 #[derive(Clone, Copy)]
 enum Base<'p> {
     /// The root of the repository: the path is absolute.
@@ -28,7 +28,7 @@ enum Base<'p> {
     Top,
 }
 
-/// A path's own components, and what is left of them on what the path stands on, with each `..` resolved.
+/// A path's base and its own components, and the names that are left of both when each `..` is resolved.
 #[derive(Drop)]
 struct Walk<'p> {
     base: Base<'p>,
@@ -37,7 +37,7 @@ struct Walk<'p> {
     ghost left: { IsLeft (base_of base) (remaining_components own) stack },
 }
 
-/// What normalising changes.
+/// The fields that normalising changes.
 #[derive(Drop)]
 struct Resolved {
     path: Vec<u8>,
@@ -49,25 +49,25 @@ impl Pattern {
     ghost use Rattle.pathspec_pattern.specs.Patterns.{pattern_spec, pattern_normal_form};
     ghost use Rattle.pathspec_pattern.specs.Resolving.{resolved_spec, is_resolved};
 
-    /// Normalises the path to what it means from the top of the repository, when it is given in the directory `prefix`
-    /// of a repository that lies at `root`. The prefix must be clean: names joined by single slashes, or empty.
+    /// Normalises the path, given in the directory `prefix` of the repository at `root`, to one from its top: under `a`,
+    /// `../b` becomes `b`. The prefix must be clean: names joined by single slashes, or empty.
     ///
     /// An absolute path loses the root's components. A relative one gets the prefix in front, unless the pattern has
-    /// [`MagicSignature::TOP`]. Then each `..` takes off the component before it, and what is left is joined by
-    /// slashes. Where nothing is left, the root itself becomes an empty path, and an empty path stays empty if no prefix
-    /// stands in front of it; any other becomes the path `.` of a pattern that is nil.
+    /// [`MagicSignature::TOP`]. Then each `..` takes off the component before it, and slashes join what is left. Where nothing
+    /// is left, the root itself becomes an empty path, and an empty path without a prefix in front stays empty. Any other
+    /// becomes the path `.` of a pattern that is nil.
     ///
-    /// The new [`Pattern::prefix_directory`] has the names of the prefix that the path never climbs above, and of an
-    /// absolute path all its names. The last name of the new path is no part of it, unless the pattern has
-    /// [`MagicSignature::MUST_BE_DIR`]: of `/r/a/b` in the root `/r` it is `a`. A nil pattern has none.
+    /// The new [`Pattern::prefix_directory`] has the names of the prefix that the path never climbs above, and of an absolute
+    /// path all its names. The last name of the new path is no part of it, unless the pattern has
+    /// [`MagicSignature::MUST_BE_DIR`]. Of `/r/a/b` in the root `/r` it is `a`. A nil pattern has none.
     ///
-    /// It looks at each byte of the path, of the prefix and of the root a fixed number of times, and takes as much
-    /// memory as they are long, and some for each component. A clean path on the top of the repository stays, and takes none.
+    /// The call looks at each byte of the path, of the prefix and of the root a fixed number of times. It takes as much memory
+    /// as they are long, and some for each component. A clean path on the top of the repository stays, and takes none.
     ///
     /// # Errors
-    /// [`Error::OutsideRoot`] for an absolute path that doesn't lie in the root or whose root isn't absolute,
-    /// [`Error::LeavesRepository`] for a path that climbs above the top, both with the path as it was;
-    /// [`Error::Memory`]. The pattern is then as it was.
+    /// [`Error::OutsideRoot`] for an absolute path that doesn't lie in the root or whose root isn't absolute.
+    /// [`Error::LeavesRepository`] for a path that climbs above the top. Both carry the path as it was. [`Error::Memory`]. The
+    /// pattern is then as it was.
     pub fn normalize(&mut self, prefix: BStr<'_>, root: BStr<'_>) -> Result<&mut Pattern, Error>
         requires { IsTrue (is_clean_prefix (bstr_bytes prefix)) }
         ensures same { IfOk result (λ p. p.ghost_name ≡ self.entry.ghost_name) }
@@ -79,10 +79,10 @@ impl Pattern {
         Ok(self)
     }
 
-    /// As [`Pattern::normalize`], for a caller who goes on with the pattern also after an error.
+    /// Normalises the pattern as [`Pattern::normalize`] does, for a caller who goes on with it after an error, too.
     ///
     /// # Errors
-    /// Those of [`Pattern::normalize`]; the pattern is then as it was.
+    /// The errors of [`Pattern::normalize`]; the pattern is then as it was.
     pub fn resolve(&mut self, prefix: BStr<'_>, root: BStr<'_>) -> Result<(), Error>
         requires { IsTrue (is_clean_prefix (bstr_bytes prefix)) }
         ensures form { Computes (λ _. pattern_spec self.new)
@@ -91,9 +91,9 @@ impl Pattern {
         ensures idempotent { OnOk result (IsNormal (pattern_spec self.new)) }
         // In the words of heights: when a path leaves, which names survive, and how many are kept.
         ensures by_heights { ClimbByHeight × SurvivorsByHeight × KeptIsLeastHeight }
-        // Of each normal form: it is its own, and keeps the signature, the mode and the attributes.
+        // Each normal form is its own, and keeps the signature, the mode and the attributes.
         ensures laws { NormalFormIsNormal × NormalFormKeepsMagic }
-        // Its prefix directory ends where the path or one of its names does, and a nil one has none.
+        // The prefix directory of a normal form ends where the path or one of its names does, and a nil one has none.
         ensures directory { NormalFormHasBoundary × NilHasNoDirectory }
     {
         if self.is_resolved(prefix) {
@@ -106,10 +106,8 @@ impl Pattern {
         Ok(())
     }
 
-    /// Whether the pattern is resolved as it stands: on the top of the repository, with a path that is clean, as a prefix is.
-    /// There `a/b` is, and `a//b` and `a/../b` are not.
-    ///
-    /// It looks at each byte of the path once, and takes no memory.
+    /// Whether the pattern is resolved as it stands: it counts from the top of the repository, and its path is clean. `a/b` is
+    /// clean, and `a//b` and `a/../b` are not. The call looks at each byte of the path once, and takes no memory.
     fn is_resolved(&self, prefix: BStr<'_>) -> bool
         ensures { result ≡ is_resolved (base (bstr_bytes prefix.entry) (pattern_spec self.now))
             (pattern_spec self.now) }
@@ -120,7 +118,7 @@ impl Pattern {
         }
     }
 
-    /// What normalising changes.
+    /// Computes the fields that normalising changes.
     fn resolved(&self, prefix: BStr<'_>, root: BStr<'_>) -> Result<Resolved, Error>
         requires { IsTrue (is_clean_prefix (bstr_bytes prefix)) }
         ensures { Computes (resolved_spec (pattern_spec self.now))
@@ -137,7 +135,7 @@ impl Pattern {
         self.resolved_along(&walk)
     }
 
-    /// What the path stands on, where it is given in the directory `prefix`.
+    /// The base of the path, which was given in the directory `prefix`.
     fn base<'p>(&self, prefix: BStr<'p>) -> Base<'p>
         ensures { base_of result ≡ base (bstr_bytes prefix.entry) (pattern_spec self.now) }
     {
@@ -150,7 +148,7 @@ impl Pattern {
         }
     }
 
-    /// The path's own components: on the root those after the root's, or None if it doesn't lie there.
+    /// The path's own components: of an absolute path those after the root's, or None if it doesn't lie in the root.
     fn own_components(&self, base: Base<'_>, root: BStr<'_>) -> Option<Components<'_>>
         ensures { option_map remaining_components result
             ≡ own_components (base_of base.entry) (bstr_bytes root.entry)
@@ -162,7 +160,7 @@ impl Pattern {
         }
     }
 
-    /// What a walk makes of the pattern.
+    /// The fields that a walk makes of the pattern.
     fn resolved_along(&self, walk: &Walk<'_>) -> Result<Resolved, Error>
         ensures ok { IfOk result (λ r. resolved_spec (pattern_spec self.now) r
             ≡ resolved (base_of walk.now.base) (pattern_spec self.now)
@@ -183,8 +181,8 @@ impl Pattern {
         })
     }
 
-    /// Whether a path of which nothing is left stays an empty path: it is the root itself, without `..`, or it was
-    /// empty and stands on the top.
+    /// Whether a path of which nothing is left stays empty: it is the root itself, without `..`, or was empty and counts from
+    /// the top.
     fn stays_empty(&self, walk: &Walk<'_>) -> bool
         ensures { result ≡ stays_empty (base_of walk.now.base) (pattern_spec self.now)
             (remaining_components walk.now.own) }
@@ -196,7 +194,7 @@ impl Pattern {
         }
     }
 
-    /// What at least one name makes of the pattern.
+    /// The fields that a walk makes of the pattern, where at least one name is left.
     fn with_names(&self, walk: &Walk<'_>) -> Result<Resolved, Error>
         requires { walk.now.stack.names ≢ [] }
         ensures ok { IfOk result (λ r. resolved_spec (pattern_spec self.now) r
@@ -204,7 +202,7 @@ impl Pattern {
             (remaining_components walk.now.own) walk.now.stack.names) }
         ensures err { IfErr result IsMemory }
     {
-        // As long as the path was: what stands in front of it makes it grow once.
+        // As much room as the path had; a prefix in front of it makes it grow once.
         let mut path = Vec::with_capacity(*self.path.allocator(), self.path.len())?;
         let count = self.directory_count(walk);
         write_names(&mut path, &walk.stack, 0, count)?;
@@ -218,8 +216,8 @@ impl Pattern {
         })
     }
 
-    /// How long the prefix directory of the new path is, where `front` is the length of what was kept of the prefix: it
-    /// stays as it was where nothing stands in front of the path and its bytes stay.
+    /// The length of the new path's prefix directory, where `front` is that of the kept names. For a nil pattern it is 0. It
+    /// stays where the path counts from the top and its bytes stay, and else is `front`.
     fn new_prefix_length(&self, walk: &Walk<'_>, path: &[u8], front: usize) -> usize
         requires path { path.now ≡ join_names walk.now.stack.names }
         requires front { front ≡ directory_length (base_of walk.now.base)
@@ -236,7 +234,7 @@ impl Pattern {
         }
     }
 
-    /// Whether nothing stands in front of the path, and its bytes stay.
+    /// Whether the path counts from the top of the repository, and its bytes stay.
     fn keeps_directory(&self, walk: &Walk<'_>, path: &[u8]) -> bool
         requires { path.now ≡ join_names walk.now.stack.names }
         ensures { result ≡ keeps_directory (base_of walk.now.base)
@@ -248,8 +246,7 @@ impl Pattern {
         }
     }
 
-    /// How many of the names are the prefix directory: the kept ones, without the last of all unless a directory is
-    /// wanted.
+    /// The count of names in the prefix directory: the kept ones, without the path's last unless a directory is wanted.
     fn directory_count(&self, walk: &Walk<'_>) -> usize
         ensures count { result ≡ directory_count (base_of walk.now.base) (pattern_spec self.now)
             (remaining_components walk.now.own) walk.now.stack.names }
@@ -263,7 +260,7 @@ impl Pattern {
         walk.kept().min(most)
     }
 
-    /// The pattern with an empty path. It takes no memory.
+    /// The fields of the pattern with an empty path. Takes no memory.
     fn empty(&self) -> Resolved
         ensures { resolved_spec (pattern_spec self.now) result
             ≡ record (pattern_spec self.now) { path = []; prefix_length = 0 } }
@@ -277,7 +274,7 @@ impl Pattern {
 }
 
 impl<'p> Base<'p> {
-    /// The names that a path stands on.
+    /// The names of the base.
     fn names(self) -> Components<'p>
         ensures { remaining_components result ≡ base_names (base_of self.entry) }
     {
@@ -289,7 +286,7 @@ impl<'p> Base<'p> {
 }
 
 impl<'p> Walk<'p> {
-    /// Walks a path's own components from what it stands on, or gives None where they climb out.
+    /// Walks a path's own components from its base, or gives None where they climb out.
     ///
     /// # Errors
     /// Memory runs out.
@@ -315,8 +312,8 @@ impl<'p> Walk<'p> {
         Ok(Some(Walk { base, own, stack }))
     }
 
-    /// How many of the names are kept for the prefix directory: on a prefix as many as it has names that the path
-    /// never climbs above, on the root all.
+    /// The count of names that are kept for the prefix directory: those of a prefix that the path never climbs above, or on
+    /// the root all.
     fn kept(&self) -> usize
         ensures count { result
             ≡ kept (base_of self.now.base) (remaining_components self.now.own) self.now.stack.names }
@@ -398,7 +395,7 @@ fn write_names(
     Ok(())
 }
 
-/// Writes the name that has this index, with a slash in front where it isn't the first.
+/// Writes the name at an index, with a slash in front unless it is the first.
 fn write_name(path: &mut Vec<u8>, index: usize, name: BStr<'_>) -> Result<(), AllocError>
     ensures { AddsBytes path.old.items path.new.items
         (if index == 0 then bstr_bytes name.entry else slash ∷ bstr_bytes name.entry) result }

@@ -1,4 +1,4 @@
-//! The specs of a job: a search of words, or what a search of lines is built with.
+//! The specs of a job: a search of words, or a builder of searches of lines.
 ghost use Rattle.std.specs.Prelude.{◌≡◌, Some, None, map, IfOk, IsTrue};
 ghost use Rattle.bstr.specs.BStr.{bstr_bytes};
 ghost use Rattle.pathspec_parts.specs.Paths.{is_clean_prefix};
@@ -13,16 +13,16 @@ use gix_pathspec::{Defaults, Pattern, Search};
 use std::alloc::{AllocError, Global};
 use std::marker::Model;
 
-/// Where the specs of a job stand.
+/// The specs of a job, by where they stand.
 #[derive(Drop)]
 pub(crate) enum JobSpecs {
-    /// In the words, and this is their search.
+    /// The search of specs that stand in the words.
     FromWords(Search),
-    /// First in the input, and a search of them is built with this.
+    /// The builder of a search of specs that stand first in the input.
     FromInput(SearchBuilder),
 }
 
-/// What a search of the lines at the front of an input is built with.
+/// A builder of searches of the lines at the front of an input.
 #[derive(Drop)]
 pub(crate) struct SearchBuilder {
     source: BString,
@@ -45,8 +45,8 @@ impl Model for SearchBuilder {
 }
 
 impl SearchBuilder {
-    /// Builds searches of specs that come from `source` and are given, under these defaults, in the directory `prefix` of
-    /// a repository that lies at `root`. It copies the three texts.
+    /// Makes a builder for specs from `source` that are given, under `defaults`, in the directory `prefix` of the repository
+    /// at `root`. It copies the three texts.
     pub(crate) fn new(
         alloc: Global,
         source: &[u8],
@@ -77,7 +77,7 @@ impl SearchBuilder {
         self.source.as_bstr()
     }
 
-    /// The search of the specs on the lines of a text.
+    /// Builds the search of the specs on the lines of a text.
     ///
     /// # Errors
     /// [`Refusal::Spec`] as [`Search::from_lines`] says; [`Refusal::Memory`].
@@ -95,7 +95,7 @@ impl SearchBuilder {
     }
 }
 
-/// The search of specs that are given in a prefix of a repository with this root.
+/// Makes the search of specs that are given in the directory `prefix` of the repository at `root`.
 pub(crate) fn search(
     alloc: Global,
     patterns: Vec<Pattern>,

@@ -3,7 +3,8 @@ ghost use Rattle.std.specs.Prelude.{◌≡◌, ◌↔◌, ℕ, [], length, IsTru
 ghost use Rattle.std.specs.Option.{option_map};
 ghost use Rattle.bstr.specs.BStr.{bstr_bytes};
 ghost use Rattle.pathspec_parts.specs.Cursors.{new_cursor};
-ghost use Rattle.pathspec_select.specs.Listing.{records, listing_of, mark_at, RecordsAreEntries};
+ghost use Rattle.pathspec_parts.specs.Records.{records};
+ghost use Rattle.pathspec_select.specs.Listing.{listing_of, mark_at, RecordsAreEntries};
 ghost use Rattle.pathspec_select.specs.ListingAnswers.{AnswersRecords, refusal_of};
 ghost use Rattle.pathspec_select.specs.Outlines.{listing_of_outline};
 
@@ -16,7 +17,7 @@ use std::fmt;
 use std::marker::Model;
 use thiserror::Error;
 
-/// Why a listing can't be read.
+/// The reason why a listing can't be read.
 #[derive(Clone, Copy, Debug, PartialEq, Eq, Error)]
 pub enum ListingError {
     /// The record with this number, from 1, is the first that is empty, begins with `/` or holds `//`.
@@ -29,8 +30,9 @@ pub enum ListingError {
 
 /// A listing that was read: an entry for each record, in their order, and one for each directory that is only implied.
 ///
-/// It is walked where it lies: no name is copied. Of a block of 256 entries the first takes 44 bytes. A further file takes four
-/// where its path is shorter than 2^8 bytes and begins less than 2^16 bytes behind the first one's, and any other entry 28.
+/// A walk reads the listing where it lies: no name is copied. Of a block of 256 entries the first takes 44 bytes. A further
+/// file takes four if its path is shorter than 2^8 bytes and begins less than 2^16 bytes behind the first one's. Any other
+/// entry takes 28.
 #[derive(Drop)]
 pub struct Listing<'a> {
     outline: Outline<'a>,
@@ -52,22 +54,22 @@ impl<'a> Model for Listing<'a> {
 }
 
 impl<'a> Listing<'a> {
-    /// How many entries it has.
+    /// The count of entries.
     pub fn len(&self) -> usize
         ensures { result ≡ length self.now.entries }
     {
         self.outline.len()
     }
 
-    /// Whether it has none.
+    /// Whether there are no entries.
     pub fn is_empty(&self) -> bool
         ensures { IsTrue result ↔ (self.now.entries ≡ []) }
     {
         self.outline.len() == 0
     }
 
-    /// A walk over the entries ([`pathspec_parts::tree::Walk`]), before the first, whose places are their numbers. It reserves a
-    /// number for each directory: no later call of the walk takes memory.
+    /// Makes a walk over the entries ([`pathspec_parts::tree::Walk`]), before the first, whose places are their numbers. It
+    /// reserves a number for each directory: no later call of the walk takes memory.
     ///
     /// # Errors
     /// Memory runs out.
@@ -77,10 +79,8 @@ impl<'a> Listing<'a> {
         Steps::new(alloc, &self.outline)
     }
 
-    /// The entries as a tree, with their names, kinds and order: a copy that needs the listing's bytes no longer. The
-    /// directories that the last entry lies in, or is, are open in it.
-    ///
-    /// A walk over the listing itself, [`Listing::cursor`], needs no copy.
+    /// Copies the entries into a tree, with their names, kinds and order. The tree doesn't borrow the listing. The directories
+    /// that the last entry lies in, or is, are open in it. A walk over the listing, [`Listing::cursor`], needs no copy.
     ///
     /// # Errors
     /// Memory runs out.
@@ -90,10 +90,9 @@ impl<'a> Listing<'a> {
         self.outline.tree(alloc)
     }
 
-    /// The record that an entry is made from, without its separator. A directory that is only implied has none, nor
-    /// has a number past the last entry.
-    ///
-    /// A file's record is its path. Of a directory it looks at the byte behind its path and a slash.
+    /// The record that an entry is made from, without its separator. A directory that is only implied has none, nor has a
+    /// number past the last entry. A file's record is its path. For a directory the call looks at the byte behind its path and
+    /// a slash.
     pub fn record(&self, entry: usize) -> Option<BStr<'_>>
         ensures { option_map bstr_bytes result ≡ mark_at self.now.marks entry }
     {
@@ -111,10 +110,8 @@ impl<'a> Listing<'a> {
 /// Reads a listing, whose records end with the separator; the last one may lack it. A record that ends with `/` is a
 /// directory, any other a file.
 ///
-/// Directories that the next record doesn't lie in are closed, and missing ones are opened: those have no record. A
-/// directory that comes again is a further entry.
-///
-/// It looks at each byte of the listing a fixed number of times.
+/// A record closes the directories that it doesn't lie in, and opens missing ones, which have no record: `a/b` opens `a`. A
+/// directory that comes again is a further entry. The call looks at each byte of the listing a fixed number of times.
 ///
 /// # Errors
 /// [`ListingError`].
@@ -142,7 +139,7 @@ pub fn read(alloc: Global, bytes: &[u8], separator: u8) -> Result<Listing<'_>, L
     Ok(Listing { outline })
 }
 
-/// What is told of a record that is refused.
+/// The error for a record that is refused.
 fn refusal(error: RecordError, number: usize) -> ListingError
     ensures { result ≡ refusal_of error number }
 {

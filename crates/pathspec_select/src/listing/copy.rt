@@ -1,16 +1,16 @@
-//! A listing as a tree of its own.
+//! Copies of listings as trees.
 ghost use Rattle.std.specs.Prelude.{◌≡◌, ◌<◌, ◌+◌, ◌-◌, length, slice_get, IfOk, OnOk};
 ghost use Rattle.std.specs.Option.{ForSome};
 ghost use Rattle.pathspec_parts.specs.Entries.{own_call};
 ghost use Rattle.pathspec_parts.specs.Trees.{tree_after};
-ghost use Rattle.pathspec_select.specs.Outlines.{IsMade};
+ghost use Rattle.pathspec_parts.specs.Nesting.{IsMade};
 ghost use Rattle.pathspec_select.specs.TreeCopies.{IsCopy, TakesNext, IsLengthAbove};
 
 use crate::listing::outline::Outline;
 use pathspec_parts::tree::{Entries, EntryPaths, Tree};
 use std::alloc::{AllocError, Global};
 
-/// The entries of a listing as a tree, whose names are copied.
+/// Copies the entries of a listing, with their names, into a tree.
 ///
 /// # Errors
 /// Memory runs out.
@@ -27,7 +27,7 @@ pub(super) fn tree_of(alloc: Global, outline: &Outline<'_>) -> Result<Tree, Allo
     Ok(tree)
 }
 
-/// Closes the open directories in which the entry with this number, the next one, doesn't lie.
+/// Closes the open directories in which the next entry, the one with this number, doesn't lie.
 fn close_ended(outline: &Outline<'_>, number: usize, tree: &mut Tree, opened: &mut Vec<usize>)
     requires within { number < length outline.now.tree.entries }
     requires number { number ≡ length tree.old.entries }
@@ -44,7 +44,7 @@ fn close_ended(outline: &Outline<'_>, number: usize, tree: &mut Tree, opened: &m
     }
 }
 
-/// Adds the entry with this number in the open directory.
+/// Adds the entry with a number in the open directory.
 ///
 /// # Errors
 /// Memory runs out.
@@ -69,7 +69,7 @@ fn add_entry(
     Ok(())
 }
 
-/// How many bytes of a path stand before a name in the last of these directories.
+/// The count of bytes before a name in the last of the open directories, in the name's path.
 fn length_above(outline: &Outline<'_>, opened: &[usize]) -> usize
     requires { ForSome (slice_get opened.now (length opened.now - 1))
         (λ last. last < length outline.now.tree.entries) }

@@ -3,20 +3,21 @@ ghost use Rattle.std.specs.Prelude.{◌≡◌, ◌≢◌, ◌≤◌, ◌<◌, �
 ghost use Rattle.pathspec_parts.specs.Entries.Call.{Open, Close};
 ghost use Rattle.pathspec_parts.specs.Trees.{tree_after};
 ghost use Rattle.pathspec_parts.specs.Paths.{ends_with_slash, without_last_slash};
-ghost use Rattle.pathspec_select.specs.Listing.{record_names, parent_names, open_after, implied_names, directory_calls, record_calls, marks_of_record};
-ghost use Rattle.pathspec_select.specs.ListingAnswers.{directory_names, has_empty_name, first_record, behind_record, IsFreeOf, AnswersNames};
+ghost use Rattle.pathspec_parts.specs.Records.{record_names, parent_names, open_after, implied_names, directory_calls, record_calls, directory_names, has_empty_name};
+ghost use Rattle.pathspec_select.specs.Listing.{marks_of_record};
+ghost use Rattle.pathspec_select.specs.ListingAnswers.{first_record, behind_record, IsFreeOf, AnswersNames};
 ghost use Rattle.pathspec_select.specs.Outlines.{record_from, HasOpen, KeepsListing, IsRecordAt, BeginsRecord};
 
-use crate::listing::names::{after_shared, file_length, split_name};
+use crate::listing::names::{after_shared, direct_file_len, split_name};
 use crate::listing::outline::Outline;
 use pathspec_parts::path::strip_last_slash;
 use pathspec_parts::split;
 use std::alloc::AllocError;
 
-/// Why a record isn't added.
+/// The reason why a record isn't added.
 #[derive(Clone, Copy)]
 pub(super) enum RecordError {
-    /// A name in it is empty.
+    /// A name in the record is empty.
     EmptyName,
     /// Memory ran out.
     Memory,
@@ -32,11 +33,11 @@ impl From<AllocError> for RecordError {
     }
 }
 
-/// Adds the entries of the record that what is left of the listing begins with, as [`add_record`] does. It gives the path of
-/// the directory that is open then, and what stands behind the record.
+/// Adds the entries of the first record in the rest of the listing. Gives the path of the directory that is open afterwards,
+/// and the listing behind the record.
 ///
 /// # Errors
-/// Those of [`add_record`].
+/// [`RecordError::EmptyName`] where a name of the record is empty, and [`RecordError::Memory`].
 pub(super) fn add_first<'a>(
     outline: &mut Outline<'_>,
     directory: &'a [u8],
@@ -60,21 +61,21 @@ pub(super) fn add_first<'a>(
     ensures after { IfOk result (λ pair. pair.1.now ≡ behind_record separator rest.now) }
     ensures answers { AnswersNames (record_names (first_record separator rest.now)) result }
 {
-    if let Some(length) = file_length(directory, rest, separator) {
+    if let Some(length) = direct_file_len(directory, rest, separator) {
         outline.add(start, length, false)?;
         return Ok((directory, &rest[length + 1..]));
     }
     let (text, after) = split::at_first(rest, separator);
-    let open = add_record(outline, directory, text, start)?;
+    let open = add_entries(outline, directory, text, start)?;
     Ok((open, after))
 }
 
-/// Adds the entries of the record that begins at an offset of the listing, where a directory is open. It gives the path of
-/// the directory that is open then.
+/// Adds the entries of the record that begins at an offset of the listing, where a directory is open. Gives the path of the
+/// directory that is open afterwards.
 ///
 /// # Errors
 /// [`RecordError::EmptyName`] where a name of the record is empty, and [`RecordError::Memory`].
-fn add_record<'a>(
+fn add_entries<'a>(
     outline: &mut Outline<'_>,
     directory: &'a [u8],
     text: &'a [u8],
@@ -150,8 +151,8 @@ fn close_all(outline: &mut Outline<'_>, path: &[u8])
     }
 }
 
-/// Opens the directories that a path names after so many bytes; it begins the record at an offset of the listing. They have
-/// no records.
+/// Opens the directories that a path names behind its first `opened` bytes, and that have no records. The path begins the
+/// record at an offset of the listing.
 ///
 /// # Errors
 /// [`RecordError::EmptyName`] and [`RecordError::Memory`].

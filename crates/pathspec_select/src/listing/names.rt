@@ -1,17 +1,15 @@
 //! The names in a record, and the directories that two paths share.
 ghost use Rattle.std.specs.Prelude.{◌≡◌, ◌≢◌, [], ◌∷◌, ◌++◌, drop, IsTrue, IfSome};
 ghost use Rattle.pathspec_parts.specs.Paths.{ends_with_slash, without_last_slash};
-ghost use Rattle.pathspec_select.specs.Listing.{record_is_dir, parent_names, own_names, shared_depth, implied_names};
-ghost use Rattle.pathspec_select.specs.ListingAnswers.{directory_names, HasCommonFront, SharesNames, IsClosed, IsRestOf, IsFreeOf, BeginsWithFile};
+ghost use Rattle.pathspec_parts.specs.Records.{record_is_dir, parent_names, own_names, shared_depth, implied_names, directory_names};
+ghost use Rattle.pathspec_select.specs.ListingAnswers.{HasCommonFront, SharesNames, IsClosed, IsRestOf, IsFreeOf, BeginsWithFile};
 
 use bstr::ByteSlice;
 use memchr::memchr2_iter;
 use pathspec_parts::split;
 
-/// A record, cut after the last slash that isn't at its end: the path of the directory that it lies in, and its own
-/// name, which has a slash at its end if it is a directory's.
-///
-/// It looks at each byte of the name.
+/// Cuts a record after the last slash that isn't at its end: `a/` and `b/` for `a/b/`. Gives the path of its directory, and
+/// its own name, with a slash if it is a directory's. The call looks at each byte of the name.
 pub(super) fn split_name(text: &[u8]) -> (&[u8], &[u8])
     requires { text.now ≢ [] }
     ensures parents { directory_names result.0.now ≡ parent_names text.now }
@@ -29,10 +27,8 @@ pub(super) fn split_name(text: &[u8]) -> (&[u8], &[u8])
     text.split_at(length)
 }
 
-/// How many bytes the record has that a text begins with, where it is a name right in the directory and has its separator.
-///
-/// It searches once.
-pub(super) fn file_length(directory: &[u8], rest: &[u8], separator: u8) -> Option<usize>
+/// The length of a text's first record, if it is a name right in the directory and has its separator. The call searches once.
+pub(super) fn direct_file_len(directory: &[u8], rest: &[u8], separator: u8) -> Option<usize>
     requires { IsFreeOf separator directory.now }
     ensures { IfSome result (BeginsWithFile separator directory.now rest.now) }
 {
@@ -45,9 +41,8 @@ pub(super) fn file_length(directory: &[u8], rest: &[u8], separator: u8) -> Optio
     }
 }
 
-/// What stands in the paths of two directories after the names that both begin with.
-///
-/// It looks at each byte of those names, and of one more.
+/// The paths of two directories behind the names that both begin with: `b/` and `c/` for `a/b/` and `a/c/`. The call looks at
+/// each byte of those names, and of one more.
 pub(super) fn after_shared<'a>(directory: &'a [u8], wanted: &'a [u8]) -> (&'a [u8], &'a [u8])
     requires { IsClosed wanted.now }
     ensures left { let names = directory_names directory.now in directory_names result.0.now
@@ -71,7 +66,7 @@ pub(super) fn after_shared<'a>(directory: &'a [u8], wanted: &'a [u8]) -> (&'a [u
     (left, missing)
 }
 
-/// How many bytes of two directories' paths are the same whole names, or some of these.
+/// The length of some whole names with which the paths of both directories begin.
 fn shared_front(directory: &[u8], wanted: &[u8]) -> usize
     ensures { SharesNames directory.now wanted.now result }
 {
@@ -82,7 +77,7 @@ fn shared_front(directory: &[u8], wanted: &[u8]) -> usize
     }
 }
 
-/// How many first bytes of two texts are the same, in whole eights.
+/// The count of first bytes that two texts share, in whole eights.
 fn common_front(left: &[u8], right: &[u8]) -> usize
     ensures { HasCommonFront left.now right.now result }
 {

@@ -1,15 +1,15 @@
 //! A tree that lies over the bytes of a listing: no name is copied.
-ghost use Rattle.std.specs.Prelude.{◌≡◌, ◌≤◌, ◌<◌, ◌+◌, ◌&&◌, ◌==◌, ◌∷◌, ◌++◌, [], length, is_ok, nat_lt, if◌then◌else◌, Some, None, IfSome, IfOk, OnOk, OnErr};
+ghost use Rattle.std.specs.Prelude.{◌≡◌, ◌≤◌, ◌+◌, ◌==◌, length, Some, None, IfSome, IfOk, OnOk, OnErr};
 ghost use Rattle.std.specs.List.{before_first};
 ghost use Rattle.std.specs.Option.{option_map};
 ghost use Rattle.bstr.specs.BStr.{bstr_bytes};
-ghost use Rattle.pathspec_parts.specs.TreeLayout.{open_end};
 ghost use Rattle.pathspec_select.specs.Listing.{mark_at};
 ghost use Rattle.pathspec_select.specs.Outlines.{part, empty_outline, outline_after, outline_closed, is_dir_span, mark_of_span, LiesInRecord, LiesOpen, IsPiece, IsRecordPiece, bytes_of};
 
 use crate::listing::copy;
 use crate::listing::spans::{Span, Spans};
 use bstr::BStr;
+use pathspec_parts::tree::nested::{self, NestedEntries};
 use pathspec_parts::tree::{Entries, EntryPaths, Tree};
 use std::alloc::{AllocError, Global};
 use std::marker::Model;
@@ -21,18 +21,15 @@ pub(crate) struct Piece {
     pub(crate) end: usize,
 }
 
-/// The entries of a listing, whose paths are parts of it: what a walk over a [`super::Listing`] is over.
-///
-/// A file mostly takes four bytes, and a directory 28.
+/// The entries of a [`super::Listing`], over which a walk goes. Their paths are parts of the listing. A file mostly takes four
+/// bytes, and a directory 28.
 #[derive(Drop)]
 pub struct Outline<'a> {
     bytes: &'a [u8],
     separator: u8,
     spans: Spans,
-    /// The numbers of the open directories, the outermost first.
-    stack: Vec<usize>,
-    /// How many directories there are.
-    directories: usize,
+    /// The open directories, and the count of all directories.
+    nested: NestedEntries,
 }
 
 impl<'a> Model for Outline<'a> {
@@ -42,11 +39,11 @@ impl<'a> Model for Outline<'a> {
 
     ghost view = { λ o. outline_of_spans o.bytes.now o.separator o.spans };
 
-    ghost invariant = { λ o. IsOutline o.bytes.now o.separator o.spans o.stack.items o.directories };
+    ghost invariant = { λ o. IsOutline o.bytes.now o.separator o.spans o.nested };
 }
 
 impl<'a> Outline<'a> {
-    /// No entries over a listing whose records end with the separator. It takes no memory.
+    /// Makes an outline without entries, over a listing whose records end with the separator. It takes no memory.
     pub(super) fn new(alloc: Global, bytes: &'a [u8], separator: u8) -> Outline<'a>
         ensures { result ≡ empty_outline bytes.now separator }
     {
@@ -54,12 +51,12 @@ impl<'a> Outline<'a> {
             bytes,
             separator,
             spans: Spans::new(alloc),
-            stack: Vec::new(alloc),
-            directories: 0,
+            nested: NestedEntries::new(alloc),
         }
     }
 
-    /// Adds an entry in the open directory, whose path is so many bytes of the listing. A directory is open then.
+    /// Adds an entry in the open directory, with `count` bytes of the listing from `start` on as its path. A directory is then
+    /// open.
     ///
     /// # Errors
     /// Memory runs out. The outline is then as it was.
@@ -70,14 +67,15 @@ impl<'a> Outline<'a> {
         ensures ok { OnOk result (self.new ≡ outline_after self.old start count is_dir) }
         ensures err { OnErr result (self.new ≡ self.old) }
     {
-        let end = first_end(is_dir);
         let span = Span {
             start,
             length: count,
-            end,
+            end: nested::first_end(is_dir),
         };
-        append(&mut self.spans, &mut self.stack, span)?;
-        self.directories += one_if(is_dir);
+        let number = self.spans.len();
+        self.nested.reserve(is_dir)?;
+        self.spans.push(span)?;
+        self.nested.add(number, is_dir);
         Ok(())
     }
 
@@ -85,14 +83,14 @@ impl<'a> Outline<'a> {
     pub(super) fn close(&mut self)
         ensures { self.new ≡ outline_closed self.old }
     {
-        let Some(number) = self.stack.pop() else {
+        let Some(number) = self.nested.close() else {
             return;
         };
         let end = self.spans.len();
         self.spans.set_end(number, end);
     }
 
-    /// The record of an entry, if it has one: a directory has none where its record goes on behind its path and a slash.
+    /// The record of an entry, if it has one. A directory has none where the record goes on behind its path and a slash.
     pub(crate) fn record(&self, number: usize) -> Option<BStr<'_>>
         ensures { option_map bstr_bytes result ≡ mark_at self.now.marks number }
     {
@@ -101,7 +99,7 @@ impl<'a> Outline<'a> {
         Some(BStr::new(record))
     }
 
-    /// Where the record of an entry stands in the listing, with this separator after it; None where the entry has no record, or
+    /// The piece of the listing that an entry's record and the separator behind it are. None where the entry has no record, or
     /// the separator doesn't stand there.
     pub(crate) fn record_piece(&self, number: usize, separator: u8) -> Option<Piece>
         ensures { IfSome result (IsRecordPiece self.now separator number) }
@@ -121,7 +119,7 @@ impl<'a> Outline<'a> {
         }
     }
 
-    /// The entries as a tree, whose names are copied.
+    /// Copies the entries, with their names, into a tree.
     ///
     /// # Errors
     /// Memory runs out.
@@ -150,7 +148,7 @@ impl<'a> Entries for Outline<'a> {
     }
 
     fn directories(&self) -> usize {
-        self.directories
+        self.nested.directories()
     }
 
     fn is_dir(&self, number: usize) -> bool {
@@ -158,8 +156,7 @@ impl<'a> Entries for Outline<'a> {
     }
 
     fn end_of(&self, number: usize) -> usize {
-        let end = self.spans.at(number).end;
-        if end == 0 { number + 1 } else { end }
+        nested::end_from(number, self.spans.at(number).end)
     }
 }
 
@@ -170,7 +167,7 @@ impl<'a> EntryPaths for Outline<'a> {
     }
 }
 
-/// So many bytes from a place on.
+/// The `count` bytes from `start` on.
 fn part(bytes: &[u8], start: usize, count: usize) -> &[u8]
     requires { start + count ≤ length bytes.now }
     ensures { result.now ≡ part bytes.now start count }
@@ -179,7 +176,7 @@ fn part(bytes: &[u8], start: usize, count: usize) -> &[u8]
     &rest[..count]
 }
 
-/// The record of an entry, if it has one. A file's is its path: no byte of it is looked at.
+/// The record of an entry, if it has one. A file's record is its path, of which no byte is looked at.
 fn record_of(bytes: &[u8], separator: u8, span: Span) -> Option<&[u8]>
     requires fits { span.start + span.length ≤ length bytes.now }
     requires record { LiesInRecord separator bytes.now span.start span.length (is_dir_span span) }
@@ -195,7 +192,7 @@ fn record_of(bytes: &[u8], separator: u8, span: Span) -> Option<&[u8]>
     }
 }
 
-/// Whether the first record ends after so many bytes of it.
+/// Whether the first record ends after `count` bytes.
 fn ends_after(bytes: &[u8], separator: u8, count: usize) -> bool
     requires { count ≤ length (before_first (λ b. b == separator) bytes.now) }
     ensures { result ≡ (length (before_first (λ b. b == separator) bytes.now) == count) }
@@ -204,40 +201,4 @@ fn ends_after(bytes: &[u8], separator: u8, count: usize) -> bool
         Some(byte) => *byte == separator,
         None => true,
     }
-}
-
-/// The end of a new entry.
-fn first_end(is_dir: bool) -> usize
-    ensures { result ≡ (if is_dir then open_end else 0) }
-{
-    if is_dir { usize::MAX } else { 0 }
-}
-
-/// 1 for a directory, 0 for a file.
-fn one_if(is_dir: bool) -> usize
-    ensures { result ≡ (if is_dir then 1 else 0) }
-{
-    usize::from(is_dir)
-}
-
-/// Puts a span after the others, and its number on the stack if it is a directory's.
-///
-/// # Errors
-/// Memory runs out. All is then as it was.
-#[inline(always)]
-fn append(spans: &mut Spans, stack: &mut Vec<usize>, span: Span) -> Result<(), AllocError>
-    ensures spans { spans.new ≡ (if is_ok result then spans.old ++ span ∷ [] else spans.old) }
-    ensures stack { stack.new.items ≡ (if is_ok result && nat_lt 0 span.end
-        then stack.old.items ++ length spans.old ∷ [] else stack.old.items) }
-    ensures room { OnOk result (length spans.new + 1 < open_end) }
-{
-    let number = spans.len();
-    if span.end > 0 {
-        stack.reserve(1)?;
-    }
-    spans.push(span)?;
-    if span.end > 0 {
-        stack.push(number)?;
-    }
-    Ok(())
 }

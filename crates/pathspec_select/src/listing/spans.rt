@@ -1,42 +1,41 @@
-//! The entries of a listing in numbers, of a file mostly in four bytes.
+//! The entries of a listing in numbers: a file mostly takes four bytes.
 ghost use Rattle.std.specs.Prelude.{◌≡◌, ◌≢◌, ◌+◌, ◌<◌, ◌≤◌, ◌∷◌, ◌++◌, [], length, set, slice_get, get_or, None, IfSome, OnOk, OnErr};
-ghost use Rattle.pathspec_parts.specs.TreeLayout.{open_end};
+ghost use Rattle.pathspec_parts.specs.Nesting.{open_end};
 ghost use Rattle.pathspec_select.specs.PackedSpans.{no_span, IsFile, IsSmallFile, anchors_with};
 
 use std::alloc::{AllocError, Global};
 use std::marker::Model;
 
-/// How many entries are counted from one anchor. Where their paths are shorter than 2^8 bytes and their records follow one
+/// The count of entries that one anchor serves. Where their paths are shorter than 2^8 bytes and their records follow one
 /// another, each begins less than 2^16 bytes behind the first.
 const BLOCK: usize = 256;
 
 /// An entry in numbers.
 #[derive(Clone, Copy)]
 pub(super) struct Span {
-    /// Where its path begins in the listing.
+    /// The start of the entry's path in the listing.
     pub(super) start: usize,
-    /// How many bytes its path has.
+    /// The length of the path, in bytes.
     pub(super) length: usize,
-    /// The number of the first entry after a directory that doesn't lie in it, as great as can be while it is open;
-    /// of a file 0.
+    /// The number of the first later entry that doesn't lie in a directory, or `usize::MAX` while it is open; 0 for a file.
     pub(super) end: usize,
 }
 
-/// What the numbers of a block of entries are counted from.
+/// The anchor of a block of entries, from which their numbers are counted.
 #[derive(Clone, Copy)]
 struct Anchor {
-    /// Where the path of its first entry begins.
+    /// The start of the path of the block's first entry.
     start: usize,
-    /// How many of the entries before it have a span elsewhere.
+    /// The count of entries before the block that have a span elsewhere.
     others: usize,
 }
 
 /// An entry in four bytes.
 #[derive(Clone, Copy)]
 enum Packed {
-    /// A file with a short path, which begins so many bytes behind its anchor's.
+    /// A file with a short path, which begins `start` bytes behind its anchor's.
     File { length: u8, start: u16 },
-    /// Any other, by the number of its span, counted from the first of its block.
+    /// Any other entry, by the number of its span, counted from the first of its block.
     Other { number: u8 },
 }
 
@@ -48,7 +47,7 @@ pub(super) struct Spans {
     packed: Vec<Packed>,
     anchors: Vec<Anchor>,
     others: Vec<Span>,
-    /// Where the path of the first entry of the last block begins, at hand for each file that is added.
+    /// The start of the path of the last block's first entry, at hand for each file that is added.
     block_start: usize,
 }
 
@@ -66,7 +65,7 @@ impl Model for Spans {
 }
 
 impl Spans {
-    /// None. It takes no memory.
+    /// Makes a list of no entries. It takes no memory.
     pub(super) fn new(alloc: Global) -> Spans
         ensures { result ≡ [] }
     {
@@ -78,14 +77,14 @@ impl Spans {
         }
     }
 
-    /// How many there are.
+    /// The count of entries.
     pub(super) fn len(&self) -> usize
         ensures { result ≡ length self.now }
     {
         self.packed.len()
     }
 
-    /// The one with a number, if there is one.
+    /// The span of the entry with a number, if there is one.
     pub(super) fn get(&self, number: usize) -> Option<Span>
         ensures { result ≡ slice_get self.now number }
     {
@@ -96,7 +95,7 @@ impl Spans {
         }
     }
 
-    /// The one with a number.
+    /// The span of the entry with a number.
     pub(super) fn at(&self, number: usize) -> Span
         requires { number < length self.now }
         ensures { result ≡ get_or self.now number no_span }
@@ -112,7 +111,7 @@ impl Spans {
         }
     }
 
-    /// Adds one after the others.
+    /// Adds a span after the others.
     ///
     /// # Errors
     /// Memory runs out. All is then as it was.
@@ -132,7 +131,7 @@ impl Spans {
     }
 
     // In line, though few entries come here: as a call it takes each record of a listing seven instructions more.
-    /// Adds one that four bytes can't hold, such as a directory or the first of a block.
+    /// Adds a span that four bytes can't hold, such as that of a directory or of the first entry of a block.
     ///
     /// # Errors
     /// Memory runs out. All is then as it was.
@@ -175,7 +174,7 @@ impl Spans {
     }
 }
 
-/// A file behind so many entries in four bytes, if it isn't the first of its block and its numbers are small.
+/// The four bytes of a file behind `count` entries, if it isn't the first of its block and its numbers are small.
 fn pack_file(count: usize, block_start: usize, span: Span) -> Option<Packed>
     ensures file { IfSome result (IsFile count block_start span) }
     ensures small { IsSmallFile count block_start span → result ≢ None }

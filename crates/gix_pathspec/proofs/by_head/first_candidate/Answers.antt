@@ -71,8 +71,8 @@ loop-from-preserved g c =
       within = omega (arith, n.1);
       rest = match-later _ c.args.specs.now _ _ c.in-Some.place n.1 (sym n.3 ∙ i.rest)
           (sym (same-table _ _ c.args.specs.now _ _ c.in-Some.place i.same_table) ∙ (sym c.in_ok-kind.ensures.answer ∙ c.in_default.is));
-      same_table = c.matches.ensures.table_stays ∙ i.same_table;
-      same_count = c.in_ok-kind.ensures.ok_leaves_count ∙ i.same_count;
+      same_table = c.matches.ensures.look_up.0 ∙ i.same_table;
+      same_count = c.in_ok-kind.ensures.look_up.1 ∙ i.same_count;
       counted = counts-more c.args.scratch.now.tested c.loop-from.tested c.loop-from.scratch.tested c.matches.new.scratch.tested i.counted c.matches.ensures.counted;
       few = few-more (λ n. head n.spec) (bstr_bytes c.args.path) c.args.specs.now c.loop-from.from c.in-Some.place c.loop-from.tested n.0 n.1 n.2 i.few;
       steps = omega (arith, n.0, i.steps);

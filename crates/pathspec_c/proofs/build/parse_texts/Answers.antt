@@ -7,7 +7,7 @@ use Rattle.gix_pathspec.specs.Search.{at_number}
 use Rattle.gix_pathspec.specs.Lines.{readings_from}
 use Rattle.gix_pathspec.proofs.BuildingProofs.{onto, tells-on}
 use Rattle.gix_pathspec.proofs.LineProofs.{readings-fail, readings-more, pushed}
-use Rattle.pathspec_select.proofs.ListingProofs.{records-first}
+use Rattle.pathspec_parts.proofs.RecordProofs.{records-first}
 use Rattle.pathspec_c.specs.Calls.{texts_in}
 use Rattle.pathspec_c.proofs.build.parse_texts.Goals as goal
 

@@ -7,18 +7,18 @@ use Rattle.pathspec_heads.proofs.CandidateProofs.{candidates-next, no-candidates
 use Rattle.pathspec_callers.proofs.heads.first_place.Goals as goal
 
 pub next_place-requires : goal.next_place-requires
-next_place-requires c = omega (arith, (c.deepest.ensures.found.begins c.in-Some.head c.in-Some.is).0)
+next_place-requires c = omega (arith, (c.longest_head_of.ensures.found.begins c.in-Some.head c.in-Some.is).0)
 
 pub returns-in-Some : goal.returns-in-Some
 returns-in-Some c =
     let v = c.args.places.now in
-    let chain : IsChainOf v.heads c.args.path.now c.in-Some.head = subst (λ o. IfSome o (IsChainOf v.heads c.args.path.now)) c.in-Some.is c.deepest.ensures.chain in
+    let chain : IsChainOf v.heads c.args.path.now c.in-Some.head = subst (λ o. IfSome o (IsChainOf v.heads c.args.path.now)) c.in-Some.is c.longest_head_of.ensures.chain in
     λ heads grouped. candidates-next heads v.heads v.starts v.order grouped c.args.path.now c.in-Some.head 0 c.next_place.result chain c.next_place.ensures
 
 pub returns-in-None : goal.returns-in-None
 returns-in-None c =
     let v = c.args.places.now in
-    let last : IsLastFront v.heads (length v.heads) c.args.path.now None = subst (IsLastFront v.heads (length v.heads) c.args.path.now) c.in-None.is c.deepest.ensures.found in
+    let last : IsLastFront v.heads (length v.heads) c.args.path.now None = subst (IsLastFront v.heads (length v.heads) c.args.path.now) c.in-None.is c.longest_head_of.ensures.found in
     λ heads grouped. record {
       found = tt;
       first = λ p _ has.

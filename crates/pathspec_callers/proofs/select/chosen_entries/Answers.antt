@@ -4,7 +4,7 @@ use Rattle.std.proofs.lemmas.List.{map-id}
 use Rattle.std.proofs.lemmas.Result.{IfOk-weaker}
 use Rattle.pathspec_parts.specs.Cursors.{CursorContents}
 use Rattle.gix_pathspec.specs.Search.{specs_of}
-use Rattle.pathspec_select.specs.Walks.{IsWalk, chosen_entries}
+use Rattle.pathspec_walk.specs.Walks.{IsWalk, chosen_entries}
 use Rattle.pathspec_callers.proofs.select.chosen_entries.Goals as goal
 
 pub returns : goal.returns

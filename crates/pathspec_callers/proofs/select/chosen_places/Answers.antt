@@ -3,9 +3,9 @@ use Rattle.std.proofs.Common.{◌≡◌, ◌∙◌, ap, map, sym, subst}
 use Rattle.std.proofs.lemmas.Result.{IfOk-weaker}
 use Rattle.pathspec_parts.specs.Cursors.{CursorContents}
 use Rattle.gix_pathspec.specs.Search.{specs_of}
-use Rattle.pathspec_select.specs.Listing.{listing_entries}
-use Rattle.pathspec_select.specs.Walks.{IsWalk, chosen_entries}
-use Rattle.pathspec_select.specs.Index.{number_of}
+use Rattle.pathspec_parts.specs.Records.{listing_entries}
+use Rattle.pathspec_walk.specs.Walks.{IsWalk, chosen_entries}
+use Rattle.pathspec_index.specs.Index.{number_of}
 use Rattle.pathspec_callers.proofs.select.chosen_places.Goals as goal
 
 pub returns : goal.returns

@@ -1,9 +1,7 @@
 -- The items so far stand in front of those that the rest gives.
 use Rattle.std.proofs.Common.{◌≡◌, ◌==◌, None, true, length}
 use Rattle.std.specs.List.{position}
-use Rattle.pathspec_glob.specs.Bytes.{close_bracket, is_empty}
-use Rattle.pathspec_glob.specs.Tokens.{items_from}
-use Rattle.pathspec_glob.specs.GlobForms.{items_view}
+use Rattle.pathspec_glob.proofs.Words.{close_bracket, is_empty, items_from, items_view}
 use Rattle.pathspec_glob.proofs.BracketProofs.{items_before}
 use Rattle.pathspec_glob.proofs.brackets.read_items.Given as goal
 

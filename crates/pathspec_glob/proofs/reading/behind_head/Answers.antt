@@ -1,7 +1,5 @@
 use Rattle.std.proofs.Common.{◌≡◌, ◌∙◌, ap, subst, map, IfOk}
-use Rattle.pathspec_glob.specs.Tokens.{tokens_from}
-use Rattle.pathspec_glob.specs.ByteSets.{listed}
-use Rattle.pathspec_glob.specs.GlobForms.{tokens_view}
+use Rattle.pathspec_glob.proofs.Words.{tokens_from, listed, tokens_view}
 use Rattle.pathspec_glob.proofs.HeadProofs.{slash_before_rest-ends, rest-is-behind}
 use Rattle.pathspec_glob.proofs.reading.behind_head.Goals as goal
 

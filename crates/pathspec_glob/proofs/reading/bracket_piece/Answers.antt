@@ -2,8 +2,7 @@
 use Rattle.std.proofs.Common.{◌≡◌, if◌then◌else◌, drop, ◌<◌, length, sym, refl, ap, ◌∙◌, true, None, arith, length-drop}
 use Rattle.std.proofs.lemmas.List.{take_rest}
 use Rattle.std.specs.Option.{option_map}
-use Rattle.pathspec_glob.specs.GlobForms.{bracket_view, items_view}
-use Rattle.pathspec_glob.specs.GlobRelation.{items_hold}
+use Rattle.pathspec_glob.proofs.Words.{bracket_view, items_view, items_hold}
 use Rattle.pathspec_glob.specs.BitVecs.{words_hold}
 use Rattle.pathspec_glob.proofs.TokenProofs.{items-shorter, bracket-listed}
 use Rattle.pathspec_glob.proofs.reading.bracket_piece.Goals.{then-negated, else-negated}

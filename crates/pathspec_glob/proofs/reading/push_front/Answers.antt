@@ -2,11 +2,7 @@ use Rattle.std.proofs.Common.{◌≡◌, ◌+◌, ◌++◌, ◌∷◌, [], refl,
 use Rattle.std.proofs.lemmas.List.{map-append, take_rest}
 use Rattle.pathspec_glob.specs.declared.tokens.OneByte.TheVariants.{Byte as Own}
 use Rattle.pathspec_glob.specs.declared.tokens.Token.TheVariants.{One as Alone}
-use Rattle.pathspec_glob.specs.ByteSets.{listed_piece}
-use Rattle.pathspec_glob.specs.GlobForms.{token_view, tokens_view}
-use Rattle.pathspec_glob.specs.Tokens.{Piece, StandsBefore, piece_of}
-use Rattle.pathspec_glob.specs.Tokens.OneByte.{Byte}
-use Rattle.pathspec_glob.specs.Tokens.Token.{One}
+use Rattle.pathspec_glob.proofs.Words.{listed_piece, token_view, tokens_view, Piece, StandsBefore, piece_of, Byte, One}
 use Rattle.pathspec_glob.proofs.TailProofs.{plain_piece}
 use Rattle.pathspec_glob.proofs.TokenProofs.{reads-on, run-read, run-listed, run-stands}
 use Rattle.pathspec_glob.proofs.reading.push_front.Goals as goal

@@ -1,9 +1,6 @@
 use Rattle.std.proofs.Common.{◌≡◌, ◌++◌, ◌∷◌, [], Bool, List, ℕ, refl}
 use Rattle.std.proofs.lemmas.List.{map-append}
-use Rattle.pathspec_glob.specs.declared.Mode.{Mode}
-use Rattle.pathspec_glob.specs.ByteSets.{listed_piece, ReadsOn}
-use Rattle.pathspec_glob.specs.GlobForms.{piece_view, token_view, tokens_view}
-use Rattle.pathspec_glob.specs.Tokens.{Token, piece_of}
+use Rattle.pathspec_glob.proofs.Words.{Mode, listed_piece, ReadsOn, piece_view, token_view, tokens_view, Token, piece_of}
 use Rattle.pathspec_glob.proofs.TokenProofs.{reads-all, reads-on}
 use Rattle.pathspec_glob.proofs.reading.push_single.Goals.{In_ok-push}
 use Rattle.pathspec_glob.proofs.reading.push_single.Goals as goal

@@ -1,8 +1,7 @@
 -- Each token that is read goes after those before it.
 use Rattle.std.proofs.Common.{◌≡◌, ◌≤◌, ◌∙◌, ◌∷◌, List, [], ℕ, refl, arith, length, drop, get_or, subst}
 use Rattle.std.proofs.lemmas.List.{take_rest}
-use Rattle.pathspec_glob.specs.ByteSets.{ReadsOn}
-use Rattle.pathspec_glob.specs.GlobForms.{tokens_view}
+use Rattle.pathspec_glob.proofs.Words.{ReadsOn, tokens_view}
 use Rattle.pathspec_glob.proofs.TokenProofs.{tokens-all}
 use Rattle.pathspec_glob.proofs.reading.tokens_from.Goals.{In_ok-size}
 use Rattle.pathspec_glob.proofs.reading.tokens_from.Goals as goal

@@ -1,7 +1,5 @@
 use Rattle.std.proofs.Common.{◌≡◌, ◌++◌, length, map}
-use Rattle.pathspec_glob.specs.Tokens.{tokens_from}
-use Rattle.pathspec_glob.specs.ByteSets.{listed}
-use Rattle.pathspec_glob.specs.GlobForms.{tokens_view}
+use Rattle.pathspec_glob.proofs.Words.{tokens_from, listed, tokens_view}
 use Rattle.pathspec_glob.proofs.reading.tokens_from.Given as goal
 
 abbrev pub invariant-loop-rest : goal.invariant-loop-rest

@@ -13,4 +13,4 @@ returns c =
     ∙ (ap (map (fold_case true)) c.in_ok-texts.ensures ∙ folded-texts c.args.ignore_case c.args.kind c.args.stems.now c.if-not-ignore_case.false)) in
     let slices : map (λ slice. slice.now) c.deref-4.result.now ≡ texts_of c.args.ignore_case c.args.kind c.args.stems.now =
     ap (map (λ slice. slice.now)) c.deref-4.ensures.value ∙ (c.in_ok-slices.ensures ∙ (ap (map (λ text. text.items)) c.deref-3.ensures.value ∙ lower)) in
-    subst (λ texts. IfOk c.new-2.result (HasSameTexts texts)) slices c.new-2.ensures
+    subst (λ texts. IfOk c.of_stems-2.result (HasSameTexts texts)) slices c.of_stems-2.ensures

@@ -14,35 +14,35 @@ pub loop-index-preserved : goal.loop-index-preserved
 loop-index-preserved g c =
     let old = g.W.Write.contents c.args.writer.now in
     let between = g.W.Write.contents c.loop-index.writer in
-    let new = g.W.Write.contents c.add_record.new.writer in
+    let new = g.W.Write.contents c.append_record.new.writer in
     let marks = c.args.listing.now.marks in
     let entries = c.args.entries.now in
     let n = c.loop-index.index in
     let held = with_piece c.loop-index.buffer.items c.outline-outline.result.now.bytes c.loop-index.piece in
-    let left = with_piece c.add_record.new.buffer.items c.outline-outline.result.now.bytes c.add_record.new.piece in
+    let left = with_piece c.append_record.new.buffer.items c.outline-outline.result.now.bytes c.append_record.new.piece in
     let mark = mark_at marks (get_or entries n 0) in
-    let more = subst (λ ms. AppendsUpTo between new (held ++ written_of c.args.separator (mark_at ms (get_or entries n 0))) left) (ap (λ o. o.marks) c.outline-outline.ensures) c.in_ok-add_record.ensures.written in
+    let more = subst (λ ms. AppendsUpTo between new (held ++ written_of c.args.separator (mark_at ms (get_or entries n 0))) left) (ap (λ o. o.marks) c.outline-outline.ensures) c.in_ok-append_record.ensures.written in
     record {
       few = omega (arith, c.loop-index-test.true);
-      piece = c.add_record.ensures.piece;
+      piece = c.append_record.ensures.piece;
       written =
           subst (λ bs. AppendsUpTo old new bs left) (written-more c.args.separator marks entries n mark (omega (arith, c.loop-index-test.true)) refl)
           (upto-more old between new (written_entries c.args.separator marks (take n entries)) held (written_of c.args.separator mark) left c.loop-index.invariant.written more);
     }
 
-pub returns-in_err-add_record : goal.returns-in_err-add_record
-returns-in_err-add_record g c =
+pub returns-in_err-append_record : goal.returns-in_err-append_record
+returns-in_err-append_record g c =
     let old = g.W.Write.contents c.args.writer.now in
     let between = g.W.Write.contents c.loop-index.writer in
-    let new = g.W.Write.contents c.add_record.new.writer in
+    let new = g.W.Write.contents c.append_record.new.writer in
     let marks = c.args.listing.now.marks in
     let entries = c.args.entries.now in
     let n = c.loop-index.index in
     let text = written_entries c.args.separator marks (take n entries) in
     let held = with_piece c.loop-index.buffer.items c.outline-outline.result.now.bytes c.loop-index.piece in
     let mark = mark_at marks (get_or entries n 0) in
-    let p = err_from_is_err_and c.from_residual-in_err-add_record.result c.from_residual-in_err-add_record.ensures.1 in
-    let more = subst (λ ms. AppendsFront between new (held ++ written_of c.args.separator (mark_at ms (get_or entries n 0)))) (ap (λ o. o.marks) c.outline-outline.ensures) c.in_err-add_record.ensures.front in
+    let p = err_from_is_err_and c.from_residual-in_err-append_record.result c.from_residual-in_err-append_record.ensures.1 in
+    let more = subst (λ ms. AppendsFront between new (held ++ written_of c.args.separator (mark_at ms (get_or entries n 0)))) (ap (λ o. o.marks) c.outline-outline.ensures) c.in_err-append_record.ensures.front in
     let front = front-more old between new text held (written_of c.args.separator mark) c.loop-index.invariant.written more in
     rw (p.1, p.2) (front-count old new (text ++ written_of c.args.separator mark) c.args.separator marks entries (n + 1) (written-more c.args.separator marks entries n mark (omega (arith, c.loop-index-test.true)) refl) front)
 

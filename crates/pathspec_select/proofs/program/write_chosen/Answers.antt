@@ -4,7 +4,7 @@ use Rattle.std.proofs.lemmas.List.{map-id}
 use Rattle.pathspec_parts.specs.Cursors.{CursorContents}
 use Rattle.pathspec_select.specs.declared.refusal.Refusal.{Refusal}
 use Rattle.pathspec_select.specs.Listing.{written_entries, ListingContents}
-use Rattle.pathspec_select.specs.Walks.{IsWalk}
+use Rattle.pathspec_walk.specs.Walks.{IsWalk}
 use Rattle.gix_pathspec.specs.Search.{specs_of}
 use Rattle.pathspec_select.proofs.ProgramProofs.{mapped_ok, output-is, ends-output, refuses-listing}
 use Rattle.pathspec_select.proofs.program.write_chosen.Goals as goal

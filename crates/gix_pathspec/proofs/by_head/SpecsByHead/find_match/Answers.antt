@@ -1,24 +1,24 @@
 -- A path that needs no look at the specs, and the first spec that matches.
-use Rattle.std.proofs.Common.{◌≡◌, ℕ, Bool, List, subst}
+use Rattle.std.proofs.Common.{◌≡◌, ℕ, Bool, List, length, subst}
 use Rattle.std.proofs.lemmas.Bool.{both_ways}
 use Rattle.std.proofs.lemmas.Result.{IfOk-weaker}
 use Rattle.bstr.specs.BStr.{bstr_bytes}
 use Rattle.gix_pathspec.specs.Search.{Numbered}
-use Rattle.gix_pathspec.specs.Effort.{IsFewCompared, is_unasked}
+use Rattle.gix_pathspec.specs.Effort.{AreFewCompared, is_settled_early}
 use Rattle.gix_pathspec.proofs.FoundProofs.{answer-unasked, asked-parts, answer-found, found-within}
 use Rattle.gix_pathspec.proofs.EffortProofs.{little-from}
 use Rattle.gix_pathspec.proofs.by_head.SpecsByHead.find_match.Goals as goal
 
 -- the test, said of the path itself
-test_of : (ns : List Numbered) (path : List ℕ) {bytes : List ℕ} {told is : Bool} → told ≡ is_unasked ns bytes → bytes ≡ path → told ≡ is → is_unasked ns path ≡ is
+test_of : (ns : List Numbered) (path : List ℕ) {bytes : List ℕ} {told is : Bool} → told ≡ is_settled_early ns bytes → bytes ≡ path → told ≡ is → is_settled_early ns path ≡ is
 test_of ns path test same is = cc
 
-pub returns-then-is_unasked-clause-answer : goal.returns-then-is_unasked-clause-answer
-returns-then-is_unasked-clause-answer g c = answer-unasked _ c.args.self.now _ _ (test_of _ (bstr_bytes c.args.path) c.is_unasked.ensures c.as_bytes.ensures c.if-is_unasked.true)
+pub returns-then-is_settled_early-clause-answer : goal.returns-then-is_settled_early-clause-answer
+returns-then-is_settled_early-clause-answer g c = answer-unasked _ c.args.self.now _ _ (test_of _ (bstr_bytes c.args.path) c.is_settled_early.ensures c.as_bytes.ensures c.if-is_settled_early.true)
 
 pub returns-clause-answer : goal.returns-clause-answer
 returns-clause-answer g c =
-    let asked = test_of _ (bstr_bytes c.args.path) c.is_unasked.ensures c.as_bytes.ensures c.if-is_unasked.false in
+    let asked = test_of _ (bstr_bytes c.args.path) c.is_settled_early.ensures c.as_bytes.ensures c.if-is_settled_early.false in
     IfOk-weaker c.first_match.result _ _ (answer-found _ c.args.self.now _ _ asked _ _ c.self.view_is c.unwrap_or-is_dir.ensures) c.first_match.ensures.first
 
 pub returns-clause-within : goal.returns-clause-within
@@ -28,8 +28,8 @@ returns-clause-within g c = IfOk-weaker c.first_match.result _ _ (found-within _
 
 pub returns-clause-little_compared : goal.returns-clause-little_compared
 returns-clause-little_compared g c =
-    let asked = test_of _ (bstr_bytes c.args.path) c.is_unasked.ensures c.as_bytes.ensures c.if-is_unasked.false in
-    little-from _ _ _ (asked-parts c.args.self.now (bstr_bytes c.args.path) asked).0 (subst (λ (ns : List Numbered). IsFewCompared ns c.first_match.new.scratch.counts.last_compared) c.self.view_is c.first_match.ensures.counted.few_compared)
+    let asked = test_of _ (bstr_bytes c.args.path) c.is_settled_early.ensures c.as_bytes.ensures c.if-is_settled_early.false in
+    little-from _ _ _ (asked-parts c.args.self.now (bstr_bytes c.args.path) asked).0 (subst (λ (ns : List Numbered). AreFewCompared (length ns) c.first_match.new.scratch.counts.last_compared) c.self.view_is c.first_match.ensures.counted.few_compared)
 
 pub returns-clause-unasked : goal.returns-clause-unasked
-returns-clause-unasked g c = λ unasked. absurd (both_ways (is_unasked c.args.self.now (bstr_bytes c.args.path)) (test_of _ (bstr_bytes c.args.path) c.is_unasked.ensures c.as_bytes.ensures c.if-is_unasked.false) unasked)
+returns-clause-unasked g c = λ unasked. absurd (both_ways (is_settled_early c.args.self.now (bstr_bytes c.args.path)) (test_of _ (bstr_bytes c.args.path) c.is_settled_early.ensures c.as_bytes.ensures c.if-is_settled_early.false) unasked)

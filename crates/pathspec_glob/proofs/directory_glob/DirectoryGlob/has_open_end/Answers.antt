@@ -1,10 +1,5 @@
 use Rattle.std.proofs.Common.{◌≡◌, refl, ◌∙◌, ap, List, [], ◌∷◌, map}
-use Rattle.pathspec_glob.specs.Globs.{glob_tokens}
-use Rattle.pathspec_glob.specs.GlobSteps.{TokenList}
-use Rattle.pathspec_glob.specs.Tokens.{Token, tokens}
-use Rattle.pathspec_glob.specs.Tokens.Token.{One, Star, Deep}
-use Rattle.pathspec_glob.specs.ByteSets.{listed}
-use Rattle.pathspec_glob.specs.OpenEnds.{is_open}
+use Rattle.pathspec_glob.proofs.Words.{glob_tokens, TokenList, Token, tokens, One, Star, Deep, listed, is_open}
 use Rattle.pathspec_glob.proofs.directory_glob.DirectoryGlob.has_open_end.Goals as goal
 
 -- brackets that list each byte leave the end as it is

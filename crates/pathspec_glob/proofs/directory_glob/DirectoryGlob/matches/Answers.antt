@@ -1,9 +1,6 @@
 use Rattle.std.proofs.Common.{◌≡◌, ℕ, zero, suc, ◌+◌, ◌<◌, List, [], ◌∷◌, ◌++◌, ◌∙◌, ap, arith, length, get_or, length-append}
 use Rattle.std.proofs.Math.Nat.{mul-le-mul}
-use Rattle.pathspec_glob.specs.Bytes.{slash}
-use Rattle.pathspec_glob.specs.Tokens.{tokens}
-use Rattle.pathspec_glob.specs.GlobRelation.{matches}
-use Rattle.pathspec_glob.specs.GlobSteps.{TokenList}
+use Rattle.pathspec_glob.proofs.Words.{slash, tokens, matches, TokenList}
 use Rattle.pathspec_glob.proofs.AnswerProofs.{glob-answers}
 use Rattle.pathspec_glob.proofs.ByteSetProofs.{matches-listed}
 use Rattle.pathspec_glob.proofs.GlobProofs.{glob_is_relation}

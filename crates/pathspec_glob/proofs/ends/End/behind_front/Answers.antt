@@ -1,6 +1,6 @@
 use Rattle.std.proofs.Common.{sym, arith}
-use Rattle.pathspec_glob.proofs.EndProofs.{front-short}
+use Rattle.pathspec_glob.proofs.EndProofs.{front_short}
 use Rattle.pathspec_glob.proofs.ends.End.behind_front.Goals as goal
 
 pub returns-then-text-len-clause-taken : goal.returns-then-text-len-clause-taken
-returns-then-text-len-clause-taken c = sym (front-short c.args.self.now.mode c.args.case c.args.self.now.tokens c.args.text.now (omega (arith, c.if-text-len.true, c.len.ensures)))
+returns-then-text-len-clause-taken c = sym (front_short c.args.self.now.mode c.args.case c.args.self.now.tokens c.args.text.now (omega (arith, c.if-text-len.true, c.len.ensures)))

@@ -1,6 +1,5 @@
 use Rattle.std.proofs.Common.{◌≡◌, ◌≤◌, ◌+◌, false, arith, length}
-use Rattle.pathspec_glob.specs.Tokens.{tokens}
-use Rattle.pathspec_glob.specs.GlobRelation.{matches}
+use Rattle.pathspec_glob.proofs.Words.{tokens, matches}
 use Rattle.pathspec_glob.proofs.AnswerProofs.{glob-answers, glob-answers-tail, no-front, no-end, between-decides, few-steps, all-steps, steps-fit, tail-steps}
 use Rattle.pathspec_glob.proofs.GlobProofs.{glob_is_relation}
 use Rattle.pathspec_glob.proofs.matcher.Glob.matches.Goals.{In_default, In_default-behind_front, After-matches, In-Some-behind_front}

@@ -1,9 +1,7 @@
 -- Each round puts in the next byte, where the class has it.
 use Rattle.std.proofs.Common.{◌≡◌, ◌+◌, ◌==◌, ◌||◌, ◌&&◌, ℕ, Bool, true, false, nat_lt, ◌∙◌, inl, inr, refl, arith}
 use Rattle.std.proofs.lemmas.Bool.{cases_eq, cases_lt, eq-eqb, ne_eqb, lt-ltb, le-ltb}
-use Rattle.pathspec_glob.specs.GlobForms.{class_name}
-use Rattle.pathspec_glob.specs.GlobRelation.{passes}
-use Rattle.pathspec_glob.specs.Tokens.{class_of}
+use Rattle.pathspec_glob.proofs.Words.{class_name, passes, class_of}
 use Rattle.pathspec_glob.proofs.sets.ByteSet.insert_class.Goals.{then-holds, else-holds}
 use Rattle.pathspec_glob.proofs.sets.ByteSet.insert_class.Goals as goal
 

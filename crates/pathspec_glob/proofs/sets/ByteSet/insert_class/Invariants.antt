@@ -1,8 +1,6 @@
 use Rattle.std.proofs.Common.{◌≡◌, ℕ, ◌&&◌, ◌||◌, nat_lt}
-use Rattle.pathspec_glob.specs.GlobForms.{class_name}
-use Rattle.pathspec_glob.specs.GlobRelation.{passes}
+use Rattle.pathspec_glob.proofs.Words.{class_name, passes, class_of}
 use Rattle.pathspec_glob.specs.BitVecs.{words_hold}
-use Rattle.pathspec_glob.specs.Tokens.{class_of}
 use Rattle.pathspec_glob.proofs.sets.ByteSet.insert_class.Given as goal
 
 abbrev pub invariant-loop-byte : goal.invariant-loop-byte

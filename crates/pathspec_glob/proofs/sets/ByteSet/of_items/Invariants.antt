@@ -1,6 +1,5 @@
 use Rattle.std.proofs.Common.{◌≡◌, ℕ, ◌<◌, ◌||◌, drop}
-use Rattle.pathspec_glob.specs.GlobForms.{items_view}
-use Rattle.pathspec_glob.specs.GlobRelation.{items_hold}
+use Rattle.pathspec_glob.proofs.Words.{items_view, items_hold}
 use Rattle.pathspec_glob.specs.BitVecs.{words_hold}
 use Rattle.pathspec_glob.proofs.sets.ByteSet.of_items.Given as goal
 

@@ -1,9 +1,7 @@
 use Rattle.std.proofs.Common.{◌≡◌, ◌-◌, ◌≤◌, List, [], ◌∷◌, refl, ◌∙◌, ap, arith, length, get_or}
 use Rattle.std.proofs.Math.Numerals.{sub-one}
 use Rattle.pathspec_glob.specs.declared.tokens.Token.{Token as Part}
-use Rattle.pathspec_glob.specs.GlobForms.{token_view, tokens_view}
-use Rattle.pathspec_glob.specs.GlobSteps.{TokenList}
-use Rattle.pathspec_glob.specs.OpenEnds.{is_any_run, is_open}
+use Rattle.pathspec_glob.proofs.Words.{token_view, tokens_view, TokenList, is_any_run, is_open}
 use Rattle.pathspec_glob.proofs.tokens.Tokens.has_open_end.Goals as goal
 
 -- tokens are open where the last takes any bytes

@@ -1,6 +1,5 @@
 use Rattle.std.proofs.Common.{◌≡◌, ◌+◌, ◌<◌, ◌∙◌, ◌∷◌, ap, sym, arith, add-one, length, drop, get_or, if◌then◌else◌}
-use Rattle.pathspec_glob.specs.Tokens.Token.{Star}
-use Rattle.pathspec_glob.specs.GlobSteps.{is_wide_at, may_pass_over_at}
+use Rattle.pathspec_glob.proofs.Words.{Star, is_wide_at, may_pass_over_at}
 use Rattle.pathspec_glob.specs.GlobParts.{wide_size}
 use Rattle.pathspec_glob.proofs.AcceptProofs.{from-place}
 use Rattle.pathspec_glob.proofs.PartProofs.{so_far, size-step}

@@ -5,5 +5,5 @@ use Rattle.pathspec_parts.proofs.tree.Tree.len.Goals as goal
 pub returns : goal.returns
 returns c =
     let s = c.self.inside in
-    let count = entries_count s.names.items s.nodes.items s.stack.items s.longest s.directories c.self.invariant c.args.self.now c.self.view_is in
+    let count = entries_count s.names.items s.nodes.items s.nested s.longest c.self.invariant c.args.self.now c.self.view_is in
     omega (arith, c.len.ensures, s.nodes.ok.0, count)

@@ -1,30 +1,31 @@
-use Rattle.std.proofs.Common.{length, arith}
+use Rattle.std.proofs.Common.{length, ◌∙◌, sym, ap, subst, arith, Option}
+use Rattle.std.specs.Prelude.{unwrap_or, option_map}
 use Rattle.std.proofs.lemmas.Option.{slice_get_read}
-use Rattle.pathspec_parts.proofs.NodeProofs.{entries_count, end_of_file, end_of_directory}
+use Rattle.pathspec_parts.specs.Cursors.{IsEndOf}
+use Rattle.pathspec_parts.specs.Nesting.{end_from}
+use Rattle.pathspec_parts.specs.TreeLayout.{name_at, end_at}
+use Rattle.pathspec_parts.specs.declared.tree.Node.{Node}
+use Rattle.pathspec_parts.proofs.NodeProofs.{entries_count}
+use Rattle.pathspec_parts.proofs.NestingProofs.{end_is}
 use Rattle.pathspec_parts.proofs.tree.TreeEntries.end_of.Goals as goal
 
 pub index-requires : goal.index-requires
 index-requires c =
     let s = c.self.inside in
-    let count = entries_count s.names.items s.nodes.items s.stack.items s.longest s.directories c.self.invariant c.args.self.now c.self.view_is in
+    let count = entries_count s.names.items s.nodes.items s.nested s.longest c.self.invariant c.args.self.now c.self.view_is in
     omega (arith, count, c.requires, s.nodes.ok.0)
 
-pub overflow_add-result : goal.overflow_add-result
-overflow_add-result c =
+pub end_from-requires : goal.end_from-requires
+end_from-requires c =
     let s = c.self.inside in
-    let count = entries_count s.names.items s.nodes.items s.stack.items s.longest s.directories c.self.invariant c.args.self.now c.self.view_is in
+    let count = entries_count s.names.items s.nodes.items s.nested s.longest c.self.invariant c.args.self.now c.self.view_is in
     omega (arith, count, c.requires, s.nodes.ok.0)
 
-pub returns-then-end-eq0 : goal.returns-then-end-eq0
-returns-then-end-eq0 c =
+pub returns : goal.returns
+returns c =
     let s = c.self.inside in
-    let count = entries_count s.names.items s.nodes.items s.stack.items s.longest s.directories c.self.invariant c.args.self.now c.self.view_is in
+    let count = entries_count s.names.items s.nodes.items s.nested s.longest c.self.invariant c.args.self.now c.self.view_is in
     let at = slice_get_read s.nodes.items (length s.nodes.items) c.args.number c.index.result.now (omega arith) (omega (arith, count, c.requires)) c.index.ensures in
-    end_of_file s.names.items s.nodes.items s.stack.items s.longest s.directories c.self.invariant c.args.self.now c.self.view_is c.args.number c.index.result.now at c.if-end-eq0.true
-
-pub returns-else-end-eq0 : goal.returns-else-end-eq0
-returns-else-end-eq0 c =
-    let s = c.self.inside in
-    let count = entries_count s.names.items s.nodes.items s.stack.items s.longest s.directories c.self.invariant c.args.self.now c.self.view_is in
-    let at = slice_get_read s.nodes.items (length s.nodes.items) c.args.number c.index.result.now (omega arith) (omega (arith, count, c.requires)) c.index.ensures in
-    end_of_directory s.names.items s.nodes.items s.stack.items s.longest s.directories c.self.invariant c.args.self.now c.self.view_is c.args.number c.index.result.now at c.if-end-eq0.false (omega (arith, s.nodes.ok.0))
+    let is = ap (λ (o : Option Node). end_from c.args.number (unwrap_or (option_map (λ x. x.end) o) 0)) at ∙ sym c.end_from.ensures in
+    subst (IsEndOf c.args.self.now.entries c.args.number) is
+    (end_is (name_at s.names.items s.nodes.items) (end_at s.nodes.items) (length s.nodes.items) s.nested.stack s.nested.directories c.self.invariant.nesting c.args.self.now c.self.view_is c.args.number (omega (arith, count, c.requires)) (omega (arith, s.nodes.ok.0)))

@@ -1,6 +1,6 @@
 use Rattle.std.proofs.Common.{◌<◌, ◌+◌, ◌-◌, length, sym, ◌∙◌, subst, arith, refl}
 use Rattle.std.proofs.lemmas.Bool.Decides.{nat_tests}
-use Rattle.pathspec_select.specs.Listing.{records}
+use Rattle.pathspec_parts.specs.Records.{records}
 use Rattle.pathspec_select.specs.ListingAnswers.{first_record, behind_record, RefusesRecords}
 use Rattle.pathspec_select.proofs.ReadProofs.{read_none, record_at, read_one, read_refused, read_all}
 use Rattle.pathspec_select.proofs.RecordProofs.{records_are_entries}

@@ -1,7 +1,7 @@
 use Rattle.std.proofs.Common.{◌≡◌, length, fold, replicate}
 use Rattle.pathspec_parts.specs.Entries.Call.{Close}
 use Rattle.pathspec_parts.specs.Trees.{tree_after}
-use Rattle.pathspec_select.specs.ListingAnswers.{directory_names}
+use Rattle.pathspec_parts.specs.Records.{directory_names}
 use Rattle.pathspec_select.specs.Outlines.{KeepsListing}
 use Rattle.pathspec_select.proofs.listing.entries.close_all.Given as goal
 

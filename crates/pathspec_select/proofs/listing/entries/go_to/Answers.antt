@@ -1,7 +1,8 @@
 use Rattle.std.proofs.Common.{ℕ, sym, ◌∙◌, ap, subst, List, ◌++◌, length, fold, replicate, None}
 use Rattle.std.proofs.lemmas.List.{append-nil}
 use Rattle.pathspec_parts.specs.Trees.{tree_after}
-use Rattle.pathspec_select.specs.ListingAnswers.{directory_names, AnswersNames}
+use Rattle.pathspec_parts.specs.Records.{directory_names}
+use Rattle.pathspec_select.specs.ListingAnswers.{AnswersNames}
 use Rattle.pathspec_select.proofs.AddingProofs.{implied_none, no_calls, answers_all}
 use Rattle.pathspec_select.proofs.OpenProofs.{has_open-closed, rest_is}
 use Rattle.pathspec_select.proofs.listing.entries.go_to.Goals as goal

@@ -1,7 +1,7 @@
 use Rattle.std.proofs.Common.{◌≡◌, ◌≤◌, ◌++◌, ◌-◌, length, take, drop, map, fold, replicate, None}
 use Rattle.pathspec_parts.specs.Entries.Call.{Open}
 use Rattle.pathspec_parts.specs.Trees.{tree_after}
-use Rattle.pathspec_select.specs.ListingAnswers.{directory_names, has_empty_name}
+use Rattle.pathspec_parts.specs.Records.{directory_names, has_empty_name}
 use Rattle.pathspec_select.specs.Outlines.{HasOpen, KeepsListing}
 use Rattle.pathspec_select.proofs.listing.entries.open_all.Given as goal
 

@@ -1,5 +1,5 @@
 use Rattle.std.proofs.Common.{◌≡◌, ℕ, sym, ◌∙◌, ap, List}
-use Rattle.pathspec_select.specs.ListingAnswers.{directory_names}
+use Rattle.pathspec_parts.specs.Records.{directory_names}
 use Rattle.pathspec_select.proofs.SharedProofs.{unshared, unshared-is, unshared-after}
 use Rattle.pathspec_select.proofs.AddingProofs.{shared_one, unshared-no_left, unshared-no_missing, unshared-other}
 use Rattle.pathspec_select.proofs.OpenProofs.{rest_at, rest_after}

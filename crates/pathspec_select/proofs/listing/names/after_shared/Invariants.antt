@@ -1,5 +1,6 @@
 use Rattle.std.proofs.Common.{◌≡◌, length}
-use Rattle.pathspec_select.specs.ListingAnswers.{directory_names, IsRestOf}
+use Rattle.pathspec_parts.specs.Records.{directory_names}
+use Rattle.pathspec_select.specs.ListingAnswers.{IsRestOf}
 use Rattle.pathspec_select.proofs.SharedProofs.{unshared}
 use Rattle.pathspec_select.proofs.listing.names.after_shared.Given as goal
 

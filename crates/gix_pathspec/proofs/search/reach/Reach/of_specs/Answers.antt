@@ -4,7 +4,7 @@ use Rattle.std.proofs.lemmas.Iterator.{YieldsList-from_slice}
 use Rattle.std.specs.List.{list_any}
 use Rattle.std.proofs.lemmas.Iterator.Search.{any_from_yields_List}
 use Rattle.gix_pathspec.specs.Tables.{IsTableOf}
-use Rattle.gix_pathspec.specs.PathTables.{IsPathTableOf}
+use Rattle.gix_pathspec.specs.Tables.{IsTableOf}
 use Rattle.gix_pathspec.specs.Reach.{stems_of, taken_paths}
 use Rattle.gix_pathspec.specs.Search.{Numbered, specs_of}
 use Rattle.gix_pathspec.specs.Specs.{Spec, is_include, always_matches}
@@ -24,7 +24,7 @@ returns c = record {
       (any_from_yields_List (λ n. is_include n.spec) _ _ c.any-has_include.result c.any-has_include.ensures.ran (YieldsList-from_slice c.args.specs.now c.iter-2.ensures.rest) (λ x b q k. search (rules, tests)));
   includes_all = some-spec (λ s. is_include s && always_matches s) c.args.specs.now
       (any_from_yields_List (λ n. is_include n.spec && always_matches n.spec) _ _ c.any-includes_all.result c.any-includes_all.ensures.ran (YieldsList-from_slice c.args.specs.now c.iter-3.ensures.rest) (λ x b q k. search (rules, tests)));
-  live = subst (IsTableOf (stems_of false (specs_of c.args.specs.now) (specs_of c.args.specs.now))) (sym c.in_ok-live.ensures.ok) c.in_ok-stem_table.ensures;
-  buried = subst (IsTableOf (stems_of true (specs_of c.args.specs.now) (specs_of c.args.specs.now))) (sym c.in_ok-buried.ensures.ok) c.in_ok-stem_table-2.ensures;
-  taken = subst (IsPathTableOf (taken_paths (specs_of c.args.specs.now))) (sym c.in_ok-taken.ensures.ok) c.in_ok-path_table.ensures;
+  reachable = subst (IsTableOf (stems_of false (specs_of c.args.specs.now) (specs_of c.args.specs.now))) (sym c.in_ok-reachable.ensures.ok) c.in_ok-stem_table.ensures;
+  shadowed = subst (IsTableOf (stems_of true (specs_of c.args.specs.now) (specs_of c.args.specs.now))) (sym c.in_ok-shadowed.ensures.ok) c.in_ok-stem_table-2.ensures;
+  taken = subst (IsTableOf (taken_paths (specs_of c.args.specs.now))) (sym c.in_ok-taken.ensures.ok) c.in_ok-path_table.ensures;
 }

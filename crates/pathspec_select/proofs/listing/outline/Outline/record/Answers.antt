@@ -4,8 +4,11 @@ use Rattle.bstr.specs.BStr.{bstr_bytes}
 use Rattle.pathspec_select.proofs.OutlineProofs.{mark-is}
 use Rattle.pathspec_select.proofs.listing.outline.Outline.record.Goals as goal
 
+pub record_of-requires-clause-fits : goal.record_of-requires-clause-fits
+record_of-requires-clause-fits c = (c.self.invariant.spans_are c.args.number c.in_ok-span.span (sym c.in_ok-span.ensures)).fits
+
 pub record_of-requires-clause-record : goal.record_of-requires-clause-record
-record_of-requires-clause-record c = c.self.invariant.records c.args.number c.in_ok-span.span (sym c.in_ok-span.ensures)
+record_of-requires-clause-record c = (c.self.invariant.spans_are c.args.number c.in_ok-span.span (sym c.in_ok-span.ensures)).in_record
 
 pub returns-in_err-record : goal.returns-in_err-record
 returns-in_err-record c =

@@ -1,31 +1,29 @@
-use Rattle.std.proofs.Common.{arith}
+use Rattle.std.proofs.Common.{length, ap, sym, ◌∙◌, subst, arith, Option}
+use Rattle.std.specs.Prelude.{unwrap_or, option_map}
+use Rattle.pathspec_parts.specs.Cursors.{IsEndOf}
+use Rattle.pathspec_parts.specs.Nesting.{end_from}
+use Rattle.pathspec_parts.proofs.NestingProofs.{entries_count, end_is}
+use Rattle.pathspec_select.specs.Outlines.{OutlineContents, name_of_span, end_of_span}
+use Rattle.pathspec_select.specs.declared.listing.spans.Span.{Span}
 use Rattle.pathspec_select.proofs.PackedProofs.{read_at}
-use Rattle.pathspec_select.proofs.SpanProofs.{entries_count, end_of_file, end_of_directory}
-use Rattle.pathspec_select.proofs.OutlineProofs.{laid, view_laid}
 use Rattle.pathspec_select.proofs.listing.outline.OutlineEntries.end_of.Goals as goal
 
-pub at-end-requires : goal.at-end-requires
-at-end-requires c =
+pub at-requires : goal.at-requires
+at-requires c =
     let s = c.self.inside in
-    let count = entries_count s.bytes.now s.spans s.stack.items s.directories c.self.invariant.spans_are (laid s.bytes.now s.separator s.spans s.stack.items s.directories c.self.invariant c.args.self.now c.self.view_is) (view_laid s.bytes.now s.separator s.spans s.stack.items s.directories c.self.invariant c.args.self.now c.self.view_is) in
+    let count = entries_count (name_of_span s.bytes.now s.spans) (end_of_span s.spans) (length s.spans) s.nested.stack s.nested.directories c.self.invariant.nesting c.args.self.now.tree (ap (λ (o : OutlineContents). o.tree) c.self.view_is) in
+    omega (arith, count, c.requires)
+
+pub end_from-requires : goal.end_from-requires
+end_from-requires c =
+    let s = c.self.inside in
+    let count = entries_count (name_of_span s.bytes.now s.spans) (end_of_span s.spans) (length s.spans) s.nested.stack s.nested.directories c.self.invariant.nesting c.args.self.now.tree (ap (λ (o : OutlineContents). o.tree) c.self.view_is) in
     omega (arith, count, c.requires, c.self.invariant.room)
 
-pub overflow_add-result : goal.overflow_add-result
-overflow_add-result c =
+pub returns : goal.returns
+returns c =
     let s = c.self.inside in
-    let count = entries_count s.bytes.now s.spans s.stack.items s.directories c.self.invariant.spans_are (laid s.bytes.now s.separator s.spans s.stack.items s.directories c.self.invariant c.args.self.now c.self.view_is) (view_laid s.bytes.now s.separator s.spans s.stack.items s.directories c.self.invariant c.args.self.now c.self.view_is) in
-    omega (arith, count, c.requires, c.self.invariant.room)
-
-pub returns-then-end-eq0 : goal.returns-then-end-eq0
-returns-then-end-eq0 c =
-    let s = c.self.inside in
-    let count = entries_count s.bytes.now s.spans s.stack.items s.directories c.self.invariant.spans_are (laid s.bytes.now s.separator s.spans s.stack.items s.directories c.self.invariant c.args.self.now c.self.view_is) (view_laid s.bytes.now s.separator s.spans s.stack.items s.directories c.self.invariant c.args.self.now c.self.view_is) in
-    let at = read_at s.spans c.args.number c.at-end.result (omega (arith, count, c.requires)) c.at-end.ensures in
-    end_of_file s.bytes.now s.spans s.stack.items s.directories c.self.invariant.spans_are (laid s.bytes.now s.separator s.spans s.stack.items s.directories c.self.invariant c.args.self.now c.self.view_is) (view_laid s.bytes.now s.separator s.spans s.stack.items s.directories c.self.invariant c.args.self.now c.self.view_is) c.args.number c.at-end.result at c.if-end-eq0.true
-
-pub returns-else-end-eq0 : goal.returns-else-end-eq0
-returns-else-end-eq0 c =
-    let s = c.self.inside in
-    let count = entries_count s.bytes.now s.spans s.stack.items s.directories c.self.invariant.spans_are (laid s.bytes.now s.separator s.spans s.stack.items s.directories c.self.invariant c.args.self.now c.self.view_is) (view_laid s.bytes.now s.separator s.spans s.stack.items s.directories c.self.invariant c.args.self.now c.self.view_is) in
-    let at = read_at s.spans c.args.number c.at-end.result (omega (arith, count, c.requires)) c.at-end.ensures in
-    end_of_directory s.bytes.now s.spans s.stack.items s.directories c.self.invariant.spans_are (laid s.bytes.now s.separator s.spans s.stack.items s.directories c.self.invariant c.args.self.now c.self.view_is) (view_laid s.bytes.now s.separator s.spans s.stack.items s.directories c.self.invariant c.args.self.now c.self.view_is) c.args.number c.at-end.result at c.if-end-eq0.false (omega (arith, c.self.invariant.room))
+    let count = entries_count (name_of_span s.bytes.now s.spans) (end_of_span s.spans) (length s.spans) s.nested.stack s.nested.directories c.self.invariant.nesting c.args.self.now.tree (ap (λ (o : OutlineContents). o.tree) c.self.view_is) in
+    let at = read_at s.spans c.args.number c.at.result (omega (arith, count, c.requires)) c.at.ensures in
+    let is = ap (λ (o : Option Span). end_from c.args.number (unwrap_or (option_map (λ x. x.end) o) 0)) at ∙ sym c.end_from.ensures in
+    subst (IsEndOf c.args.self.now.tree.entries c.args.number) is (end_is (name_of_span s.bytes.now s.spans) (end_of_span s.spans) (length s.spans) s.nested.stack s.nested.directories c.self.invariant.nesting c.args.self.now.tree (ap (λ (o : OutlineContents). o.tree) c.self.view_is) c.args.number (omega (arith, count, c.requires)) (omega (arith, c.self.invariant.room)))

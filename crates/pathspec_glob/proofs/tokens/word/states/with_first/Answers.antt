@@ -1,5 +1,0 @@
-use Rattle.pathspec_glob.proofs.BitProofs.{has-first}
-use Rattle.pathspec_glob.proofs.tokens.word.states.with_first.Goals as goal
-
-pub returns-then-more : goal.returns-then-more
-returns-then-more c i = rw c.if-more.true (has-first c.args.word i)

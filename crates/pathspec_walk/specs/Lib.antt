@@ -1,0 +1,7 @@
+pub use Rattle.gix_pathspec.specs.Paths
+pub use Rattle.gix_pathspec.specs.Attributes
+pub use Rattle.gix_pathspec.specs.Specs
+pub use Rattle.gix_pathspec.specs.Matching
+pub use Rattle.gix_pathspec.specs.Search
+pub mod Walks
+pub mod SelectAnswers
