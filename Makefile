@@ -5,6 +5,8 @@
 #   make install   the program and its manual page below PREFIX (and DESTDIR), and the library where it is built
 #   make library   prove and build the library for C, and compare its calls with the header's
 #   make examples  build and run the callers of the library, and compare the walkers with git
+#   make dist      pack the program and the library: a tarball, Debian packages and their SHA-256 in out/dist
+#   make reproduce pack them in two clones of the last commit, and compare each file
 PREFIX ?= /usr/local
 BINDIR ?= $(PREFIX)/bin
 MANDIR ?= $(PREFIX)/share/man
@@ -16,8 +18,10 @@ program := $(folder)/out/pathspec_select_cli
 library := target/library
 # The number of the declarations, which names the shared library and stands in pathspec.pc.
 version = $(shell sed -n 's/^.define PS_VERSION //p' include/pathspec.h)
+# A folder as pathspec.pc names it: by its prefix, where it lies below it.
+below = $(1:$(PREFIX)/%=$${prefix}/%)
 
-.PHONY: all quick check install library examples
+.PHONY: all quick check install library examples dist reproduce
 
 all:
 	cd $(folder) && rt run -- ':(glob)src/*.c' < stdin
@@ -39,9 +43,10 @@ install:
 install-library:
 	install -d $(DESTDIR)$(LIBDIR)/pkgconfig $(DESTDIR)$(INCLUDEDIR)
 	install -m 644 $(library)/libpathspec.a $(DESTDIR)$(LIBDIR)/libpathspec.a
-	install $(library)/libpathspec.so $(DESTDIR)$(LIBDIR)/libpathspec.so.$(version)
+	install -m 644 $(library)/libpathspec.so $(DESTDIR)$(LIBDIR)/libpathspec.so.$(version)
 	ln -sf libpathspec.so.$(version) $(DESTDIR)$(LIBDIR)/libpathspec.so
-	sed 's|@LIBDIR@|$(LIBDIR)|; s|@INCLUDEDIR@|$(INCLUDEDIR)|; s|@VERSION@|$(version)|' include/pathspec.pc.in > $(DESTDIR)$(LIBDIR)/pkgconfig/pathspec.pc
+	sed 's|@PREFIX@|$(PREFIX)|; s|@LIBDIR@|$(call below,$(LIBDIR))|; s|@INCLUDEDIR@|$(call below,$(INCLUDEDIR))|; s|@VERSION@|$(version)|' \
+	    include/pathspec.pc.in > $(DESTDIR)$(LIBDIR)/pkgconfig/pathspec.pc
 	install -m 644 include/pathspec.h $(DESTDIR)$(INCLUDEDIR)/pathspec.h
 
 library:
@@ -49,3 +54,11 @@ library:
 
 examples:
 	bash examples/run
+
+dist:
+	@test -z "$$(git status --porcelain)" || { echo "dist: commit first, since the packages are named for the last commit" >&2; exit 1; }
+	$(MAKE) --no-print-directory all library
+	bash dist/build $(version)
+
+reproduce:
+	bash dist/reproduce
