@@ -70,11 +70,13 @@ pub(super) fn add_first<'a>(
     Ok((open, after))
 }
 
+// Out of line: most records are files right in the open directory, and the loop over them has the registers to itself.
 /// Adds the entries of the record that begins at an offset of the listing, where a directory is open. Gives the path of the
 /// directory that is open afterwards.
 ///
 /// # Errors
 /// [`RecordError::EmptyName`] where a name of the record is empty, and [`RecordError::Memory`].
+#[inline(never)]
 fn add_entries<'a>(
     outline: &mut Outline<'_>,
     directory: &'a [u8],
