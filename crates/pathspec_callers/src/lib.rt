@@ -2,6 +2,7 @@
 #![tactic(auto)]
 
 pub mod attributes;
+pub mod filter;
 pub mod glob;
 pub mod heads;
 pub mod lines;

@@ -4,9 +4,9 @@ ghost use Rattle.std.specs.Ordering.{nat_cmp, is_lt};
 ghost use Rattle.std.specs.Cmp.Lexicographic.{slice_cmp};
 ghost use Rattle.std.specs.List.{common_prefix_len, position_or_len};
 ghost use Rattle.pathspec_parts.specs.Paths.{IsBytes, is_slash};
-ghost use Rattle.pathspec_parts.specs.Records.{holds_two_slashes};
 ghost use Rattle.pathspec_index.specs.Index.{is_file_path, slashes_in};
 
+use pathspec_parts::records::holds_two_slashes;
 use pathspec_parts::split;
 
 /// Whether a path is one of a file: it isn't empty, and has no slash at either end and no two in a row.
@@ -26,21 +26,6 @@ pub(super) fn is_before(left: &[u8], right: &[u8]) -> bool
     ensures { result ≡ is_lt (slice_cmp nat_cmp left.now right.now) }
 {
     left.cmp(right).is_lt()
-}
-
-/// Whether a slash stands right after a slash.
-fn holds_two_slashes(path: &[u8]) -> bool
-    ensures { result ≡ holds_two_slashes path.now }
-{
-    let mut after_slash = false;
-    for byte in path {
-        let is_slash = *byte == b'/';
-        if is_slash && after_slash {
-            return true;
-        }
-        after_slash = is_slash;
-    }
-    false
 }
 
 /// The length of the front that two texts share.

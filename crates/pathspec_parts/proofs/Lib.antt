@@ -5,6 +5,11 @@ pub mod TruthProofs
 mod PathRows
 pub mod EntryProofs
 pub mod RecordProofs
+pub mod RecordPartProofs
+pub mod TextProofs
+pub mod NameProofs
+pub mod WritingProofs
+mod OutputRows
 pub mod TreeProofs
 mod TreeRows
 pub mod SeenProofs

@@ -1,5 +1,5 @@
 -- Rows on paths.
-use Rattle.std.proofs.Common.{◌≡◌, true, false, refl, [], ◌∷◌}
+use Rattle.std.proofs.Common.{◌≡◌, true, false, refl, [], ◌∷◌, map}
 use Rattle.std.specs.Prelude.{codes}
 use Rattle.pathspec_parts.specs.Paths.{components, is_at_or_below, is_clean_prefix}
 
@@ -12,26 +12,8 @@ below = refl
 not_below : is_at_or_below (codes "dirt") (codes "dir") ≡ false
 not_below = refl
 
-clean_prefix_0 : is_clean_prefix [] ≡ true
-clean_prefix_0 = refl
+clean_prefixes : map is_clean_prefix ([] ∷ codes "a/b" ∷ []) ≡ (true ∷ true ∷ [])
+clean_prefixes = refl
 
-clean_prefix_1 : is_clean_prefix (codes "a/b") ≡ true
-clean_prefix_1 = refl
-
-clean_prefix_2 : is_clean_prefix (codes "../a") ≡ false
-clean_prefix_2 = refl
-
-clean_prefix_3 : is_clean_prefix (codes "a//") ≡ false
-clean_prefix_3 = refl
-
-clean_prefix_4 : is_clean_prefix (codes "a/") ≡ false
-clean_prefix_4 = refl
-
-clean_prefix_5 : is_clean_prefix (codes "..") ≡ false
-clean_prefix_5 = refl
-
-clean_prefix_6 : is_clean_prefix (codes "/a") ≡ false
-clean_prefix_6 = refl
-
-clean_prefix_7 : is_clean_prefix (codes ".") ≡ false
-clean_prefix_7 = refl
+other_prefixes : map is_clean_prefix (codes "../a" ∷ codes "a//" ∷ codes "a/" ∷ codes ".." ∷ codes "/a" ∷ codes "." ∷ []) ≡ (false ∷ false ∷ false ∷ false ∷ false ∷ false ∷ [])
+other_prefixes = refl

@@ -131,7 +131,7 @@ has_empty_name-later (b ∷ bs) = elim (cases_Bool (is_slash b)) [
 has_empty_name-pieces : (text : List ℕ) → has_empty_name (pieces text) ≡ (first_is is_slash (text ++ slash ∷ []) || holds_two_slashes (text ++ slash ∷ []))
 has_empty_name-pieces text = has_empty_name-first text ∙ ap (λ t. first_is is_slash (text ++ slash ∷ []) || t) (has_empty_name-later text)
 
-begins_with-slash : (text : List ℕ) → begins_with text (slash ∷ []) ≡ first_is is_slash text
+pub begins_with-slash : (text : List ℕ) → begins_with text (slash ∷ []) ≡ first_is is_slash text
 begins_with-slash [] = refl
 begins_with-slash (b ∷ bs) = grind (arith, nat_tests)
 

@@ -12,6 +12,9 @@ pub mod RowNumbers
 pub mod Stacks
 pub mod Entries
 pub mod Records
+pub mod RecordParts
+pub mod Outputs
+pub mod Writing
 pub mod Trees
 pub mod Cursors
 pub mod Nesting

@@ -2,9 +2,8 @@
 use Rattle.std.proofs.Common.{◌≡◌, ℕ, ◌<◌, Bool, true, false, not, ◌&&◌, ◌⊎◌, inl, inr, refl, sym, ◌∙◌, ap, subst, List, [], ◌∷◌, map, length, take, drop, ◌-◌, ltb, Some, None, Result, Ok, Err, ◌==◌, cond, arith}
 use Rattle.std.proofs.lemmas.Bool.{and_parts, and_from, cases_Bool, both_ways, not-true, not_from_false, eq-eqb, ltb-true, cond-false}
 use Rattle.std.proofs.lemmas.Nat.{or_lt, and_or_self}
-use Rattle.std.specs.Prelude.{codes, bytes_eq, bit_and, bit_or, unwrap_or}
+use Rattle.std.specs.Prelude.{codes, bit_and, bit_or, unwrap_or}
 use Rattle.std.specs.List.{list_any, list_all, filter, slice_split, before_first, after_first}
-use Rattle.pathspec_pattern.specs.declared.SearchMode.TheVariants.{Literal, PathAwareGlob}
 use Rattle.pathspec_pattern.specs.declared.defaults.Defaults.{Defaults}
 use Rattle.pathspec_parts.specs.Bytes.{space, bang, dash, slash, equals_sign, is_one_of, is_empty, first_is, begins_with}
 use Rattle.pathspec_pattern.specs.Results.{all_ok, ◌>>=◌}
@@ -15,7 +14,7 @@ use Rattle.pathspec_pattern.specs.AttributeLists.{WrittenByte, name_of, assignme
 use Rattle.pathspec_parts.specs.Attributes.State.{Set, Unset, Value, Unspecified}
 use Rattle.pathspec_pattern.specs.AttributeLists.WrittenByte.{Plain, Escaped, LoneBackslash}
 use Rattle.pathspec_pattern.specs.Signatures.{signature_bits}
-use Rattle.pathspec_pattern.specs.Specs.{Spec, top, icase, exclude, must_be_dir, has, has_boundary}
+use Rattle.pathspec_pattern.specs.Specs.{Spec, top, exclude, must_be_dir, has, has_boundary}
 use Rattle.pathspec_parts.specs.Paths.{ends_with_slash, without_last_slash}
 use Rattle.pathspec_pattern.specs.Reading.{Keyword, keyword_of, Magic, with_piece, with_pieces, same_mode, long_pieces, Cut, short_bits, magic_of, spec_of, body_spec, prefix_length_of, is_number, no_magic, nil_spec, Reads, no_defaults}
 use Rattle.pathspec_pattern.specs.Reading.Keyword.{Flag, Mode, Ignored, Attributes, PrefixLength, Unknown}

@@ -1,7 +1,7 @@
 -- The entries that a record adds to a tree, by one name after the other.
 use Rattle.std.proofs.Common.{◌≡◌, ℕ, ◌+◌, ◌-◌, suc, Bool, true, false, not, ◌||◌, cond, refl, sym, ◌∙◌, ap, subst, inl, inr, List, [], ◌∷◌, ◌++◌, length, drop, map, fold, replicate, ◌==◌, arith, append_assoc, Option, None, Result, Ok, Err}
-use Rattle.std.proofs.lemmas.Bool.{cases_Bool, both_ways, eqb-true, eq-eqb, or_right}
-use Rattle.std.proofs.lemmas.List.{take-append-drop, drop_all}
+use Rattle.std.proofs.lemmas.Bool.{cases_Bool, both_ways, eqb-true, eq-eqb, or_right, or_parts, not-true, not-false}
+use Rattle.std.proofs.lemmas.List.{take-append-drop, drop_all, nil_from_length}
 use Rattle.std.proofs.lemmas.List.Folds.{list_any-append}
 use Rattle.std.proofs.lemmas.Slice.Eq.{bytes_eq-Decides}
 use Rattle.std.specs.Prelude.{◌≢◌, bytes_eq}
@@ -34,8 +34,7 @@ pub some_name : (name : List ℕ) → (length name == 0) ≡ false → name ≢ 
 some_name name f e = let t : length name ≡ 0 = ap length e in both_ways (length name == 0) f (eq-eqb (length name) 0 t)
 
 pub no_name : (name : List ℕ) → (length name == 0) ≡ true → name ≡ []
-no_name [] h = refl
-no_name (b ∷ bs) h = let e : length (b ∷ bs) ≡ 0 = eqb-true (length (b ∷ bs)) 0 h in absurd (omega (arith, e))
+no_name name h = nil_from_length name (eqb-true (length name) 0 h)
 
 -- ---- opening the first of some names
 
@@ -55,14 +54,6 @@ module _ (names : List (List ℕ)) (name : List ℕ) (more : List (List ℕ)) (f
 
 -- ---- names that are shared
 
-true_from_not : (b : Bool) → not b ≡ false → b ≡ true
-true_from_not true h = refl
-true_from_not false h = cc
-
-false_from_not : (b : Bool) → not b ≡ true → b ≡ false
-false_from_not true h = cc
-false_from_not false h = refl
-
 pub shared_one : (left missing name left_after wanted_name missing_after : List ℕ) (all : List (List ℕ) × List (List ℕ)) → (length left == 0) ≡ false → (length missing == 0) ≡ false
     → name ≡ before_first (λ b. b == slash) left → left_after ≡ after_first (λ b. b == slash) left → wanted_name ≡ before_first (λ b. b == slash) missing → missing_after ≡ after_first (λ b. b == slash) missing
     → not (bytes_eq name wanted_name) ≡ false → unshared (directory_names left) (directory_names missing) ≡ all → unshared (directory_names left_after) (directory_names missing_after) ≡ all
@@ -71,7 +62,7 @@ shared_one left missing name left_after wanted_name missing_after all some more 
     let wanted = records-first slash missing wanted_name missing_after more g b in
     let xs = directory_names left_after in
     let ys = directory_names missing_after in
-    sym (ap (λ (ns : List (List ℕ)). unshared ns (directory_names missing)) names ∙ (ap (unshared (name ∷ xs)) wanted ∙ ap (λ t. cond t (unshared xs ys) (name ∷ xs, wanted_name ∷ ys)) (true_from_not (bytes_eq name wanted_name) same))) ∙ h
+    sym (ap (λ (ns : List (List ℕ)). unshared ns (directory_names missing)) names ∙ (ap (unshared (name ∷ xs)) wanted ∙ ap (λ t. cond t (unshared xs ys) (name ∷ xs, wanted_name ∷ ys)) (not-false (bytes_eq name wanted_name) same))) ∙ h
 
 unshared-none : (names : List (List ℕ)) → unshared names [] ≡ (names, [])
 unshared-none [] = refl
@@ -93,7 +84,7 @@ unshared-other left missing name left_after wanted_name missing_after some more 
     let ys = directory_names missing_after in
     let P : List (List ℕ) → List (List ℕ) → Type 0 = λ ns ws. unshared ns ws ≡ (ns, ws) in
     subst (λ (ns : List (List ℕ)). P ns (directory_names missing)) (sym names) (subst (P (name ∷ xs)) (sym wanted)
-    (ap (λ t. cond t (unshared xs ys) (name ∷ xs, wanted_name ∷ ys)) (false_from_not (bytes_eq name wanted_name) other)))
+    (ap (λ t. cond t (unshared xs ys) (name ∷ xs, wanted_name ∷ ys)) (not-true (bytes_eq name wanted_name) other)))
 
 -- ---- another directory
 
@@ -123,16 +114,11 @@ has_empty_name-implied (x ∷ xs) [] h = refl
 has_empty_name-implied (x ∷ xs) (y ∷ ys) h = elim (cases_Bool (bytes_eq x y)) [
   | inl t ↦
       let same : x ≡ y = (bytes_eq-Decides x y).0 t in
-      let p = neither (is_empty x) (has_empty_name xs) h in
+      let p = or_parts (is_empty x) (has_empty_name xs) h in
       let e : 1 + shared_depth xs ys ≡ suc (shared_depth xs ys) = omega arith in
       rw (t, e) (has_empty_name-implied xs ys p.1 ∙ sym (ap (λ b. b || has_empty_name ys) (ap is_empty (sym same) ∙ p.0)))
   | inr f ↦ rw f refl
 ]
-  where
-    neither : (a b : Bool) → (a || b) ≡ false → (a ≡ false) × (b ≡ false)
-    neither false false q = (refl, refl)
-    neither false true q = cc
-    neither true b q = cc
 
 -- names are refused as the missing ones are
 pub answers_all : (names wanted : List (List ℕ)) (missing : List ℕ) (r : Result (Unit {0}) RecordError) → has_empty_name names ≡ false → directory_names missing ≡ implied_names names wanted → AnswersNames (directory_names missing) r → AnswersNames wanted r

@@ -1,5 +1,5 @@
 -- Rows on inputs that have specs before their listing.
-use Rattle.std.proofs.Common.{◌≡◌, ℕ, refl, true, false, List, [], ◌∷◌, ◌++◌, Ok, Err}
+use Rattle.std.proofs.Common.{◌≡◌, ℕ, refl, true, false, List, [], ◌∷◌, ◌++◌, map, Ok, Err}
 use Rattle.std.specs.Prelude.{codes}
 use Rattle.bstr.specs.Text.{line_len, lines_from}
 use Rattle.gix_pathspec.specs.Faults.Fault.{Empty}
@@ -23,38 +23,25 @@ lines_before_the_mark_are_specs : spec_text short_input ≡ 97 ∷ 10 ∷ []
 unfolding line_len lines_from
 lines_before_the_mark_are_specs = refl
 
-what_follows_it_is_the_listing : listing_text short_input ≡ 98 ∷ 10 ∷ []
-unfolding line_len lines_from
-what_follows_it_is_the_listing = refl
+-- inputs, and their listings
+abbrev inputs : List (List ℕ × List ℕ)
+inputs =
+    (short_input, 98 ∷ 10 ∷ [])
+    -- the mark may end with a carriage return and a line feed, and lack its line feed at the end
+    ∷ (codes "--" ++ 13 ∷ 10 ∷ 98 ∷ [], 98 ∷ [])
+    ∷ (codes "a" ++ 10 ∷ codes "--", [])
+    -- a second mark is a record
+    ∷ (codes "--" ++ 10 ∷ codes "--" ++ 10 ∷ [], codes "--" ++ 10 ∷ [])
+    ∷ []
 
--- `--`, carriage return, line feed, and `b`
-mark_may_end_with_a_carriage_return : listing_text (codes "--" ++ 13 ∷ 10 ∷ 98 ∷ []) ≡ 98 ∷ []
+listings_follow_the_mark : map (λ r. listing_text r.0) inputs ≡ map (λ r. r.1) inputs
 unfolding line_len lines_from
-mark_may_end_with_a_carriage_return = refl
+listings_follow_the_mark = refl
 
--- `a`, line feed, `--`
-last_mark_may_lack_its_line_feed : has_end_line (codes "a" ++ 10 ∷ codes "--") ≡ true
+-- a mark without its line feed, one that ends with a carriage return alone, and longer lines
+marks : map has_end_line ((codes "a" ++ 10 ∷ codes "--") ∷ (codes "--" ++ 13 ∷ []) ∷ (codes "--a" ++ 10 ∷ codes " --" ++ 10 ∷ []) ∷ []) ≡ (true ∷ false ∷ false ∷ [])
 unfolding line_len lines_from
-last_mark_may_lack_its_line_feed = refl
-
-nothing_follows_it : listing_text (codes "a" ++ 10 ∷ codes "--") ≡ []
-unfolding line_len lines_from
-nothing_follows_it = refl
-
--- `--`, carriage return
-last_mark_with_a_carriage_return_alone_is_none : has_end_line (codes "--" ++ 13 ∷ []) ≡ false
-unfolding line_len lines_from
-last_mark_with_a_carriage_return_alone_is_none = refl
-
--- `--a`, ` --`
-longer_lines_are_none : has_end_line (codes "--a" ++ 10 ∷ codes " --" ++ 10 ∷ []) ≡ false
-unfolding line_len lines_from
-longer_lines_are_none = refl
-
--- `--`, `--`
-second_mark_is_a_record : listing_text (codes "--" ++ 10 ∷ codes "--" ++ 10 ∷ []) ≡ codes "--" ++ 10 ∷ []
-unfolding line_len lines_from
-second_mark_is_a_record = refl
+marks = refl
 
 empty_input_has_no_mark : parts_of (FromInput of_f) [] ≡ Err NoEnd
 unfolding line_len lines_from

@@ -9,7 +9,6 @@ pub mod RowProofs
 pub mod EnvironmentProofs
 pub mod VariableProofs
 pub mod RequestProofs
-pub mod DeviceProofs
 pub mod OutputProofs
 pub mod ChosenProofs
 pub mod ProgramProofs
@@ -21,7 +20,6 @@ pub mod OutlineProofs
 pub mod TreeCopyProofs
 pub mod OpenProofs
 pub mod AddingProofs
-pub mod FileProofs
 pub mod OwnProofs
 pub mod ReadProofs
 mod ListingRows

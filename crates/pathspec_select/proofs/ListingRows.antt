@@ -14,17 +14,9 @@ last_lacks_its_separator = refl
 no_record : records 10 [] ≡ []
 no_record = refl
 
-empty_record : first_bad (records 10 (codes "\n")) ≡ Some 1
-empty_record = refl
-
-empty_record_later : first_bad (records 10 (codes "a\n\nb")) ≡ Some 2
-empty_record_later = refl
-
-lone_slash : first_bad (records 10 (codes "a/\n/\n")) ≡ Some 2
-lone_slash = refl
-
-two_slashes : first_bad (records 10 (codes "a/b/\na//b\n")) ≡ Some 2
-two_slashes = refl
+-- listings with an empty record, a lone slash and two slashes
+bad_records : map (λ text. first_bad (records 10 text)) (codes "\n" ∷ codes "a\n\nb" ∷ codes "a/\n/\n" ∷ codes "a/b/\na//b\n" ∷ []) ≡ (Some 1 ∷ Some 2 ∷ Some 2 ∷ Some 2 ∷ [])
+bad_records = refl
 
 -- the parts of an entry as a tuple
 abbrev parts : Entry → List ℕ × Bool × List ℕ

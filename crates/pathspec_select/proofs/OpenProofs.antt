@@ -16,11 +16,13 @@ use Rattle.pathspec_parts.specs.Entries.Call.{Open, Close}
 use Rattle.pathspec_parts.specs.Trees.{TreeContents, tree_after}
 use Rattle.pathspec_parts.specs.TreeLayout.{path_above}
 use Rattle.pathspec_parts.specs.Records.{record_path, record_names, parent_names, own_names, record_is_dir, shared_depth, implied_names, directory_calls, record_calls, directory_names}
-use Rattle.pathspec_select.specs.ListingAnswers.{IsClosed, IsRestOf}
+use Rattle.pathspec_parts.specs.RecordParts.{IsClosed}
+use Rattle.pathspec_select.specs.ListingAnswers.{IsRestOf}
 use Rattle.pathspec_select.specs.Outlines.{OutlineContents, part, record_from, mark_of, record_length, IsRecordAt, last_of, last_name, HasOpen, LiesOpen, KeepsListing, BeginsRecord}
 use Rattle.pathspec_parts.proofs.RecordProofs.{records-first, ends_with_slash-push, without_last_slash-push, take-less, take-common_prefix_len, last_cases}
 use Rattle.pathspec_select.proofs.ListingProofs.{length-before_first}
-use Rattle.pathspec_select.proofs.NameProofs.{ClosedForm, empty, after_slash, to_form, names-closed, pieces-closed, directory_names-append, directory_names-record}
+use Rattle.pathspec_parts.proofs.NameProofs.{ClosedForm, empty, after_slash, to_form, names-closed, pieces-closed, directory_names-append}
+use Rattle.pathspec_select.proofs.NameProofs.{directory_names-record}
 
 -- ---- the rest of a path
 

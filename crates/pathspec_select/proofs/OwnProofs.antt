@@ -9,10 +9,10 @@ use Rattle.pathspec_parts.specs.Entries.{own_call}
 use Rattle.pathspec_parts.specs.Trees.{tree_after}
 use Rattle.pathspec_parts.specs.Records.{record_names, parent_names, own_names, open_after, record_is_dir, implied_names, directory_calls, record_calls, directory_names, has_empty_name}
 use Rattle.pathspec_select.specs.Listing.{marks_of_record}
-use Rattle.pathspec_select.specs.ListingAnswers.{first_record, BeginsWithFile}
+use Rattle.pathspec_parts.specs.RecordParts.{first_record, BeginsWithFile}
 use Rattle.pathspec_select.specs.Outlines.{OutlineContents, part, last_name, mark_of, record_from, record_length, outline_after, LiesOpen, HasOpen, KeepsListing, IsRecordAt}
 use Rattle.pathspec_parts.proofs.RecordProofs.{last_cases, ends_with_slash-push}
-use Rattle.pathspec_select.proofs.NameProofs.{ClosedForm, NamesAre, names_are}
+use Rattle.pathspec_parts.proofs.NameProofs.{ClosedForm, NamesAre, names_are}
 use Rattle.pathspec_select.proofs.AddingProofs.{implied_none, no_calls, good_names}
 use Rattle.pathspec_select.proofs.OpenProofs.{closed-path_above, some_bytes, part_of_record, record-kept, own_mark, path_front, record_is, last_own, lies_own, tree_own}
 

@@ -21,7 +21,8 @@ use Rattle.pathspec_select.specs.ListingAnswers.{RefusesRecords}
 use Rattle.pathspec_select.specs.Input.{has_end_line, spec_text, listing_text}
 use Rattle.pathspec_select.specs.Requests.{BuilderContents, JobSpecs, InputParts, built_specs, parts_of}
 use Rattle.pathspec_select.specs.Requests.JobSpecs.{FromWords, FromInput}
-use Rattle.pathspec_select.specs.Program.{IsAllOf, EndsOutput, OnParts, RefusesJob, EndsJob, HasFault, Refuses, HasGoodRecords, HasBadRecord, AppendsFront, output_of}
+use Rattle.pathspec_parts.specs.Writing.{AppendsFront}
+use Rattle.pathspec_select.specs.Program.{IsAllOf, EndsOutput, OnParts, RefusesJob, EndsJob, HasFault, Refuses, HasGoodRecords, HasBadRecord, output_of}
 
 -- the value of a result whose error was made into another
 pub mapped_ok : {T E : Type 0} (D : Type 0) (r : Result T E) (y : T) → MatchResult r (λ x. ◌≡◌ {A = Result T D} (Ok y) (Ok x)) (λ e. ⊥) → r ≡ Ok y

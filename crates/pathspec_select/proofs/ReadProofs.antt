@@ -1,5 +1,6 @@
 -- A listing that is read record by record.
-use Rattle.std.proofs.Common.{◌≡◌, ℕ, ◌+◌, ◌-◌, ◌<◌, ◌≤◌, Bool, true, false, ◌||◌, cond, refl, sym, ◌∙◌, ap, subst, List, [], ◌∷◌, ◌++◌, length, take, drop, fold, ◌==◌, arith, append_assoc, Some, None}
+use Rattle.std.proofs.Common.{◌≡◌, ℕ, ◌+◌, ◌-◌, ◌<◌, ◌≤◌, Bool, true, false, cond, refl, sym, ◌∙◌, ap, subst, List, [], ◌∷◌, ◌++◌, length, take, drop, fold, ◌==◌, arith, append_assoc, Some, None}
+use Rattle.std.proofs.lemmas.Bool.{or_parts}
 use Rattle.std.proofs.lemmas.Bool.Decides.{nat_tests}
 use Rattle.std.proofs.lemmas.List.{append-nil, take-append-drop, length-append, length-drop}
 use Rattle.std.proofs.lemmas.List.Elements.{All-nil}
@@ -14,9 +15,11 @@ use Rattle.pathspec_parts.specs.Trees.{TreeContents, tree_after, tree_of_calls}
 use Rattle.pathspec_parts.proofs.TreeProofs.{tree_has_entries}
 use Rattle.pathspec_parts.specs.Records.{records, first_bad, is_bad, record_is_dir, record_names, parent_names, open_after, record_calls, calls_from, directory_names, has_empty_name}
 use Rattle.pathspec_select.specs.Listing.{marks_of_record, marks_from, ListingContents, listing_of}
-use Rattle.pathspec_select.specs.ListingAnswers.{IsFreeOf, RefusesNames, RefusesRecords, refusal_of}
+use Rattle.pathspec_parts.specs.RecordParts.{IsFreeOf}
+use Rattle.pathspec_select.specs.ListingAnswers.{RefusesNames, RefusesRecords, refusal_of}
 use Rattle.pathspec_select.specs.Outlines.{OutlineContents, empty_outline, record_from, listing_of_outline, HasOpen, KeepsListing, IsRecordAt}
 use Rattle.pathspec_parts.proofs.RecordProofs.{records-first, has_empty_name-record}
+use Rattle.pathspec_select.proofs.AddingProofs.{no_name}
 
 -- what has been read before the rest
 pub record IsReadUpTo (bytes : List ℕ) (separator : ℕ) (rest directory : List ℕ) (outline : OutlineContents) (number : ℕ) : Type 0 where
@@ -52,12 +55,8 @@ read_none bytes separator directory outline d o =
 
 -- ---- one more record
 
-false_left : (a b : Bool) → (a || b) ≡ false → a ≡ false
-false_left false b h = refl
-false_left true b h = cc
-
 has_empty_name-take : (n : ℕ) (names : List (List ℕ)) → has_empty_name names ≡ false → has_empty_name (take n names) ≡ false
-has_empty_name-take n names h = false_left (has_empty_name (take n names)) (has_empty_name (drop n names)) (sym (list_any-append is_empty (take n names) (drop n names)) ∙ (ap has_empty_name (take-append-drop n names) ∙ h))
+has_empty_name-take n names h = (or_parts (has_empty_name (take n names)) (has_empty_name (drop n names)) (sym (list_any-append is_empty (take n names) (drop n names)) ∙ (ap has_empty_name (take-append-drop n names) ∙ h))).0
 
 named-after : (text : List ℕ) → has_empty_name (record_names text) ≡ false → has_empty_name (open_after text) ≡ false
 named-after text h = by_kind (record_is_dir text)
@@ -126,15 +125,11 @@ module _ (bytes : List ℕ) (separator : ℕ) (rest directory : List ℕ) (outli
 
 -- ---- all records
 
-none_left : (text : List ℕ) → (length text == 0) ≡ true → text ≡ []
-none_left [] h = refl
-none_left (b ∷ bs) h = let e : length (b ∷ bs) ≡ 0 = grind (arith, nat_tests) in absurd (omega (arith, e))
-
 -- what is read in the end
 pub read_all : (bytes : List ℕ) (separator : ℕ) (rest directory : List ℕ) (outline : OutlineContents) (number : ℕ) → IsReadUpTo bytes separator rest directory outline number → (length rest == 0) ≡ true
     → (listing_of_outline outline ≡ listing_of (records separator bytes)) × (first_bad (records separator bytes) ≡ None)
 read_all bytes separator rest directory outline number read end =
-    let none = none_left rest end in
+    let none = no_name rest end in
     let rs = records separator bytes in
     let es : outline.tree.entries ≡ (listing_of rs).entries =
     ap (λ (t : TreeContents). t.entries) (ap (λ x. fold tree_after outline.tree (calls_from (directory_names directory) (records separator x))) (sym none) ∙ read.calls_are) ∙ tree_has_entries (calls_from [] rs) in

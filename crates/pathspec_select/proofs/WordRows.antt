@@ -1,5 +1,5 @@
 -- Rows on what words and the environment ask for, and on the first fault.
-use Rattle.std.proofs.Common.{◌≡◌, refl, true, [], ◌∷◌, Some, None, Ok, Err}
+use Rattle.std.proofs.Common.{◌≡◌, ℕ, refl, true, List, [], ◌∷◌, map, Some, None, Ok, Err}
 use Rattle.std.specs.Prelude.{codes}
 use Rattle.pathspec_parts.specs.Attributes.State.{Set, Unset}
 use Rattle.pathspec_parts.specs.Truth.{truth_of}
@@ -10,6 +10,7 @@ use Rattle.gix_pathspec.specs.Faults.Fault.{UnimplementedShort, LeavesRepository
 use Rattle.gix_pathspec.specs.Reading.{literal_spec, no_defaults, is_unimplemented, cut_of, spec_of, reading}
 use Rattle.gix_pathspec.specs.NormalForm.{climb, normal_form}
 use Rattle.gix_pathspec.specs.Search.{search_of}
+use Rattle.pathspec_select.specs.RequestFaults.{RequestFault}
 use Rattle.pathspec_select.specs.RequestFaults.RequestFault.{Usage, BadEnvironment, BadSpec}
 use Rattle.pathspec_select.specs.Options.{options_of}
 use Rattle.pathspec_select.specs.Rows.{rows_of_words}
@@ -35,34 +36,24 @@ rows_in_their_order :
 unfolding assignments_of assignment_of
 rows_in_their_order = refl
 
--- `--attr x a=. :#x`, and a variable that is no word of truth
-list_before_the_environment : request_of (codes "--attr" ∷ codes "x" ∷ codes "a=." ∷ codes ":#x" ∷ []) bad_case ≡ Err Usage
-unfolding request_of options_of assignments_of assignment_of
-list_before_the_environment = refl
+-- words and variables, and the first fault
+abbrev faulty : List (List (List ℕ) × Words × RequestFault)
+faulty =
+    -- lists of attributes are read before the environment
+    (codes "--attr" ∷ codes "x" ∷ codes "a=." ∷ codes ":#x" ∷ [], bad_case, Usage)
+    ∷ (codes "--attr" ∷ codes "x" ∷ [] ∷ [], unset, Usage)
+    -- the environment is read before the specs and the input
+    ∷ (codes ":#x" ∷ [], bad_case, BadEnvironment (NotTruth (codes "maybe")))
+    ∷ (codes "--specs-first" ∷ codes "f" ∷ [], bad_case, BadEnvironment (NotTruth (codes "maybe")))
+    ∷ (codes "x" ∷ [], glob_and_noglob, BadEnvironment GlobAndNoGlob)
+    -- all specs are read before the first is normalised
+    ∷ (codes "../x" ∷ codes ":#y" ∷ [], unset, BadSpec 1 (UnimplementedShort 35))
+    ∷ (codes "a" ∷ codes "../x" ∷ [], unset, BadSpec 1 (LeavesRepository (codes "../x")))
+    ∷ []
 
--- `--attr x` and the empty list
-empty_list : request_of (codes "--attr" ∷ codes "x" ∷ [] ∷ []) unset ≡ Err Usage
-unfolding request_of options_of assignments_of
-empty_list = refl
-
--- `:#x`, and a variable that is no word of truth
-environment_before_the_specs : request_of (codes ":#x" ∷ []) bad_case ≡ Err (BadEnvironment (NotTruth (codes "maybe")))
-unfolding request_of options_of truth_of
-environment_before_the_specs = refl
-
-globs_and_no_globs : request_of (codes "x" ∷ []) glob_and_noglob ≡ Err (BadEnvironment GlobAndNoGlob)
-unfolding request_of options_of truth_of
-globs_and_no_globs = refl
-
--- `../x :#y`
-reading_before_normalising : request_of (codes "../x" ∷ codes ":#y" ∷ []) unset ≡ Err (BadSpec 1 (UnimplementedShort 35))
-unfolding request_of options_of reading cut_of is_unimplemented spec_of
-reading_before_normalising = refl
-
--- `a ../x`
-spec_without_a_normal_form : request_of (codes "a" ∷ codes "../x" ∷ []) unset ≡ Err (BadSpec 1 (LeavesRepository (codes "../x")))
-unfolding request_of options_of reading spec_of search_of normal_form climb
-spec_without_a_normal_form = refl
+first_faults : map (λ r. request_of r.0 r.1) faulty ≡ map (λ r. Err r.2) faulty
+unfolding request_of options_of assignments_of assignment_of truth_of reading cut_of is_unimplemented spec_of search_of normal_form climb
+first_faults = refl
 
 -- `-z --attr x gen *`, where literal specs are asked for, so that the variable for globs doesn't count
 separator_rows_and_specs :
@@ -77,8 +68,3 @@ builder_is_asked_for :
     ≡ Ok (record { separator = 10; rows = []; specs = FromInput (record { source = codes "f"; defaults = record no_defaults { search_mode = Literal; literal = true }; prefix = codes "a"; root = [] }) })
 unfolding request_of options_of truth_of
 builder_is_asked_for = refl
-
--- `--specs-first f`, and a variable that is no word of truth
-environment_before_the_input : request_of (codes "--specs-first" ∷ codes "f" ∷ []) bad_case ≡ Err (BadEnvironment (NotTruth (codes "maybe")))
-unfolding request_of options_of truth_of
-environment_before_the_input = refl

@@ -7,6 +7,7 @@ use Rattle.gix_pathspec.specs.Specs.{Spec}
 use Rattle.gix_pathspec.specs.Search.{Numbered}
 use Rattle.gix_pathspec.specs.Matching.{IsChosen}
 use Rattle.pathspec_parts.specs.Records.{records, record_path, record_is_dir}
+use Rattle.pathspec_parts.specs.Outputs.{text_of}
 use Rattle.pathspec_parts.specs.AttributeRows.{table_of}
 use Rattle.pathspec_select.specs.Requests.{JobSpecs}
 use Rattle.pathspec_select.specs.Program.{OnParts, AsksFor}
@@ -23,10 +24,6 @@ pub data IsSelection (P : List ℕ → Type 0) : List (List ℕ) → List (List 
 -- the specs choose the path of this record
 abbrev pub IsChosenRecord : Table → List Spec → List ℕ → Type 0
 IsChosenRecord table specs r = IsChosen table specs (record_path r) (record_is_dir r)
-
--- the records, each with the separator after it
-abbrev pub text_of : ℕ → List (List ℕ) → List ℕ
-text_of separator rs = flat_map (λ r. r ++ separator ∷ []) rs
 
 -- Just the records of the listing that a job's specs choose were written, in their order, each with the separator after it.
 abbrev pub WritesRecords : Table → JobSpecs (List Numbered) → ℕ → Option (List ℕ) → Option (List ℕ) → Option (List ℕ) → Type 0

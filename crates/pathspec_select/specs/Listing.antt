@@ -4,6 +4,7 @@ use Rattle.std.specs.List.{AllZip}
 use Rattle.pathspec_parts.specs.Attributes.{Table}
 use Rattle.pathspec_parts.specs.Entries.{Entry}
 use Rattle.pathspec_parts.specs.Records.{record_is_dir, record_path, parent_names, open_after, implied_names, listing_entries}
+use Rattle.pathspec_parts.specs.Outputs.{output_where}
 use Rattle.gix_pathspec.specs.Specs.{Spec}
 use Rattle.gix_pathspec.specs.Matching.{is_chosen}
 use Rattle.pathspec_walk.specs.Walks.{IsWalk}
@@ -12,7 +13,7 @@ use Rattle.pathspec_walk.specs.Walks.{IsWalk}
 
 -- What is written for a listing: each chosen record with one separator after it.
 unfoldable pub output : Table → List Spec → ℕ → List (List ℕ) → List ℕ
-output table specs separator rs = flat_map (λ r. r ++ separator ∷ []) (filter (λ r. is_chosen table specs (record_path r) (record_is_dir r)) rs)
+output table specs separator rs = output_where (is_chosen table specs) separator rs
 
 -- ---- the tree of a listing
 

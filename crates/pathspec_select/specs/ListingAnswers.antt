@@ -8,38 +8,13 @@ use Rattle.pathspec_parts.specs.Paths.{ends_with_slash}
 use Rattle.pathspec_select.specs.declared.listing.contents.ListingError.{ListingError}
 use Rattle.pathspec_select.specs.declared.listing.contents.ListingError.TheVariants as listing_error
 use Rattle.pathspec_parts.specs.Records.{records, first_bad, directory_names, has_empty_name}
-
--- a path that is empty or has a slash at its end
-abbrev pub IsClosed : List ℕ → Type 0
-IsClosed path = (path ≡ []) ⊎ (ends_with_slash path ≡ true)
+use Rattle.pathspec_parts.specs.RecordParts.{IsClosed}
 
 -- the rest of a path after whole names
 pub record IsRestOf (path rest : List ℕ) : Type 0 where
   pub front : List ℕ
   pub whole : path ≡ front ++ rest
   pub closed : IsClosed front
-
--- the first record of what is left of a listing
-abbrev pub first_record : ℕ → List ℕ → List ℕ
-first_record separator rest = before_first (λ b. b == separator) rest
-
--- what stands behind it
-abbrev pub behind_record : ℕ → List ℕ → List ℕ
-behind_record separator rest = after_first (λ b. b == separator) rest
-
--- no byte of it is the separator
-abbrev pub IsFreeOf : ℕ → List ℕ → Type 0
-IsFreeOf separator text = All (λ b. (b == separator) ≡ false) text
-
--- The first record of what is left has so many bytes and a separator behind it: it is a file right in the directory.
-pub record BeginsWithFile (separator : ℕ) (directory rest : List ℕ) (count : ℕ) : Type 0 where
-  pub fits : count < length rest
-  pub record_is : take count rest ≡ first_record separator rest
-  pub behind_is : drop (count + 1) rest ≡ behind_record separator rest
-  pub name : List ℕ
-  pub whole : take count rest ≡ directory ++ name
-  pub some : name ≢ []
-  pub no_slash : IsFreeOf slash name
 
 -- so many first bytes of both are the same
 pub record HasCommonFront (left right : List ℕ) (n : ℕ) : Type 0 where

@@ -9,7 +9,7 @@ use Rattle.pathspec_parts.specs.Nesting.{Nesting, open_end, nested_tree, AreNest
 use Rattle.pathspec_parts.specs.TreeLayout.{path_above}
 use Rattle.pathspec_select.specs.Listing.{ListingContents, mark_at, written_of}
 use Rattle.pathspec_parts.specs.Records.{directory_names}
-use Rattle.pathspec_select.specs.ListingAnswers.{IsClosed}
+use Rattle.pathspec_parts.specs.RecordParts.{IsClosed}
 use Rattle.pathspec_select.specs.declared.listing.outline.Piece.{Piece}
 use Rattle.pathspec_select.specs.declared.listing.spans.Span.{Span}
 

@@ -10,6 +10,7 @@ use Rattle.gix_pathspec.specs.Search.{Numbered, specs_of}
 use Rattle.pathspec_select.specs.declared.refusal.Refusal.{Refusal}
 use Rattle.pathspec_select.specs.declared.refusal.Refusal.TheVariants as refusal
 use Rattle.pathspec_parts.specs.Records.{records, first_bad}
+use Rattle.pathspec_parts.specs.Writing.{AppendsFront}
 use Rattle.pathspec_parts.specs.AttributeRows.{table_of}
 use Rattle.pathspec_select.specs.Listing.{output}
 use Rattle.pathspec_select.specs.RequestFaults.{RequestFault}
@@ -22,14 +23,6 @@ use Rattle.pathspec_select.specs.Requests.{JobSpecs, Request, InputParts, reques
 -- the bytes are all that is known to be left
 abbrev pub IsAllOf : Option (List ℕ) → List ℕ → Type 0
 IsAllOf known bytes = IfSome known (λ all. bytes ≡ all)
-
--- known bytes grew by what stands before the rest of bs
-abbrev pub AppendsUpTo : Option (List ℕ) → Option (List ℕ) → List ℕ → List ℕ → Type 0
-AppendsUpTo old new bs rest = (front : List ℕ) × (bs ≡ front ++ rest) × Appends old new front
-
--- known bytes grew by a front of bs, and no more
-abbrev pub AppendsFront : Option (List ℕ) → Option (List ℕ) → List ℕ → Type 0
-AppendsFront old new bs = (rest : List ℕ) × AppendsUpTo old new bs rest
 
 -- Known bytes grew by all of these; or by a front of them, where a write failed; or by none, where memory ran out.
 abbrev pub EndsOutput : {A : Type 0} → Option (List ℕ) → Option (List ℕ) → List ℕ → Result A Refusal → Type 0

@@ -1,18 +1,14 @@
-//! Reading to the end and writing to the end. A call that is interrupted has failed, and isn't made again.
-ghost use Rattle.std.specs.Prelude.{◌≡◌, IfOk, IfErr, OnOk, OnErr};
-ghost use Rattle.std.specs.Io.KnownBytes.{Appends};
+//! Reading to the end. A call that is interrupted has failed, and isn't made again.
+ghost use Rattle.std.specs.Prelude.{◌≡◌, IfOk, IfErr};
 ghost use Rattle.pathspec_select.specs.Refusals.{IsReadOrMemory};
-ghost use Rattle.pathspec_select.specs.Program.{IsAllOf, AppendsFront};
+ghost use Rattle.pathspec_select.specs.Program.{IsAllOf};
 
 use crate::Refusal;
+use pathspec_parts::writing::WriteError;
 use std::alloc::Global;
-use std::io::{Read, Write};
+use std::io::Read;
 
 const CHUNK: usize = 65536;
-
-/// The error of a write that failed, or took no byte.
-#[derive(Clone, Copy)]
-pub(crate) struct WriteError;
 
 impl From<WriteError> for Refusal {
     ghost use Rattle.pathspec_select.specs.declared.refusal.Refusal.TheVariants.{Write};
@@ -44,25 +40,4 @@ pub(crate) fn read_to_end<R: Read>(alloc: Global, reader: &mut R) -> Result<Vec<
         }
         bytes.extend_from_slice(&chunk[..n])?;
     }
-}
-
-/// Writes all bytes.
-///
-/// # Errors
-/// [`WriteError`], and a beginning of the bytes is written.
-pub(crate) fn write_whole<W: Write>(writer: &mut W, bytes: &[u8]) -> Result<(), WriteError>
-    ensures whole { OnOk result
-        (Appends (W.contents writer.old) (W.contents writer.new) bytes.now) }
-    ensures front { OnErr result
-        (AppendsFront (W.contents writer.old) (W.contents writer.new) bytes.now) }
-{
-    let mut rest = bytes;
-    while !rest.is_empty() {
-        match writer.write(rest) {
-            Ok(0) => return Err(WriteError),
-            Ok(n) => rest = &rest[n..],
-            Err(_) => return Err(WriteError),
-        }
-    }
-    Ok(())
 }

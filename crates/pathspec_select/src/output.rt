@@ -1,16 +1,16 @@
 //! The output for a listing, through a buffer.
 ghost use Rattle.std.specs.Prelude.{◌++◌, OnOk, OnErr};
-ghost use Rattle.std.specs.Io.KnownBytes.{Appends};
 ghost use Rattle.std.specs.Option.{option_map};
 ghost use Rattle.bstr.specs.BStr.{bstr_bytes};
 ghost use Rattle.pathspec_select.specs.Listing.{mark_at, written_entries, written_of};
 ghost use Rattle.pathspec_select.specs.Outlines.{IsPiece, with_piece};
-ghost use Rattle.pathspec_select.specs.Program.{AppendsFront, AppendsUpTo, EndsOutput};
+ghost use Rattle.pathspec_parts.specs.Writing.{AppendsFront, AppendsUpTo};
+ghost use Rattle.pathspec_select.specs.Program.{EndsOutput};
 
 use crate::Refusal;
-use crate::devices::{self, WriteError};
 use crate::listing::{Listing, Outline, Piece};
 use bstr::BStr;
+use pathspec_parts::writing::{WriteError, write_buffered, write_whole};
 use std::alloc::Global;
 use std::io::Write;
 
@@ -51,7 +51,7 @@ pub(crate) fn write_records<W: Write>(
         )?;
     }
     write_buffered(writer, &mut buffer, outline.bytes_of(piece))?;
-    devices::write_whole(writer, buffer.as_slice())?;
+    write_whole(writer, buffer.as_slice())?;
     Ok(())
 }
 
@@ -117,27 +117,4 @@ fn write_record<W: Write>(
     };
     write_buffered(writer, buffer, text.as_bytes())?;
     write_buffered(writer, buffer, &[separator])
-}
-
-/// Appends bytes to a buffer, or writes both where they leave no room.
-///
-/// # Errors
-/// [`WriteError`]: a beginning of all these bytes is written.
-fn write_buffered<W: Write>(
-    writer: &mut W,
-    buffer: &mut Vec<u8>,
-    bytes: &[u8],
-) -> Result<(), WriteError>
-    ensures written { OnOk result (AppendsUpTo (W.contents writer.old) (W.contents writer.new)
-        (buffer.old.items ++ bytes.now) buffer.new.items) }
-    ensures front { OnErr result (AppendsFront (W.contents writer.old) (W.contents writer.new)
-        (buffer.old.items ++ bytes.now)) }
-{
-    if bytes.len() <= buffer.capacity() - buffer.len() {
-        let _ = buffer.extend_from_slice(bytes);
-        return Ok(());
-    }
-    devices::write_whole(writer, buffer.as_slice())?;
-    buffer.clear();
-    devices::write_whole(writer, bytes)
 }

@@ -3,151 +3,83 @@ use crate::asked::{UNSET, environment_of, job_of, words_of};
 use crate::program::{add_end, writes_for};
 use pathspec_parts::attributes::LookUp;
 use pathspec_select::{Job, run, run_with};
+use pathspec_test_devices::{ALL, Answer, Script, ScriptedReader, ScriptedWriter};
 use pathspec_test_support::look_ups::Marks;
 use std::alloc::{AllocError, Global};
-use std::io::{self, ErrorKind, Read, Write};
+use std::io::{ErrorKind, Write};
 use std::test::Fail;
-
-/// The answer of a reader to a call: bytes, none, or a fault.
-type Given<'a> = Result<&'a [u8], ErrorKind>;
-
-/// Answers its calls one after another, with bytes, with none or with a fault, and counts them. All calls after these it
-/// answers with its fault, or with none where it has no fault.
-#[derive(Drop)]
-struct ScriptedReader<'a> {
-    answers: &'a [Given<'a>],
-    fault: Option<ErrorKind>,
-    calls: usize,
-}
-
-impl Read for ScriptedReader<'_> {
-    fn read(&mut self, buf: &mut [u8]) -> io::Result<usize> {
-        let answer = self.answers.get(self.calls);
-        self.calls = self.calls.saturating_add(1);
-        match (answer, self.fault) {
-            (Some(Ok(bytes)), _) => {
-                let given = bytes.len().min(buf.len());
-                buf[..given].copy_from_slice(&bytes[..given]);
-                Ok(given)
-            }
-            (Some(Err(fault)), _) => Err(io::Error::from(*fault)),
-            (None, Some(fault)) => Err(io::Error::from(fault)),
-            (None, None) => Ok(0),
-        }
-    }
-}
 
 /// The words of a run whose input has the specs in front.
 const FIRST: &str = "--specs-first f";
 
-/// Whether a run with the words of a line reads so often from a reader with these answers, and writes this or is told it.
+/// Whether a run with the words of a line reads its input so often by a script, and writes this or is told it.
 fn reads(
     alloc: Global,
-    line: &str,
-    (answers, fault): (&[Given<'_>], Option<ErrorKind>),
+    (line, input): (&str, &[u8]),
+    script: Script<'_>,
     calls: usize,
     want: &[u8],
 ) -> Result<bool, Fail> {
     let words = words_of(alloc, line)?;
-    let mut reader = ScriptedReader {
-        answers,
-        fault,
-        calls: 0,
-    };
+    let mut reader = ScriptedReader::new(input, script);
     let is_written = writes_for(alloc, &words, UNSET, &mut reader, want)?;
-    Ok(is_written && reader.calls == calls)
+    Ok(is_written && reader.script.calls == calls)
 }
 
 #[test]
 #[rattlefmt::skip]
 fn no_read_is_made_again_nor_after_the_end(rt: HostRuntime) -> Result<(), Fail> {
     const READ: &[u8] = b"status 5: read";
-    // What a reader answers, how often it is read, and what is written or told.
-    const ROWS: &[(&[Given<'_>], usize, &[u8])] = &[
-        (&[Err(ErrorKind::BrokenPipe), Ok(b"a\n"), Ok(b"")], 1, READ),
-        (&[Ok(b"a\n"), Err(ErrorKind::BrokenPipe), Ok(b"b\n")], 2, READ),
-        (&[Ok(b"a\n"), Err(ErrorKind::Interrupted), Ok(b"")], 2, READ),
-        (&[Ok(b"a\n"), Err(ErrorKind::TimedOut), Ok(b"b\n")], 2, READ),
-        (&[Ok(b"a\n"), Ok(b""), Ok(b"b\n")], 2, b"a\n"),
-        (&[Ok(b"a\n"), Ok(b""), Err(ErrorKind::BrokenPipe)], 2, b"a\n"),
-        (&[Ok(b""), Err(ErrorKind::Interrupted)], 1, b""),
+    const INPUT: (&str, &[u8]) = ("", b"a\nb\n");
+    const BROKEN: Answer = Err(ErrorKind::BrokenPipe);
+    const INTERRUPTED: Answer = Err(ErrorKind::Interrupted);
+    const TIMED_OUT: Answer = Err(ErrorKind::TimedOut);
+    // How many bytes a reader gives a call, how often it is read, and what is written or told.
+    const ROWS: &[(&[Answer], usize, &[u8])] = &[
+        (&[BROKEN], 1, READ),
+        (&[Ok(2), BROKEN], 2, READ),
+        (&[Ok(2), INTERRUPTED], 2, READ),
+        (&[Ok(2), TIMED_OUT], 2, READ),
+        (&[Ok(2), Ok(0)], 2, b"a\n"),
+        (&[Ok(2), Ok(0), BROKEN], 2, b"a\n"),
+        (&[Ok(0), INTERRUPTED], 1, b""),
     ];
     for (number, (answers, calls, want)) in ROWS.iter().enumerate() {
-        assert!(rt; reads(rt.alloc(), "", (answers, None), *calls, want)?, "{number}");
+        let script = Script::new(answers, ALL);
+        assert!(rt; reads(rt.alloc(), INPUT, script, *calls, want)?, "{number}");
     }
     Ok(())
 }
 
-/// Whether a run is refused by a reader that fails before its first answer, its second, and so on, and after its last.
-fn is_unread(
-    alloc: Global,
-    line: &str,
-    answers: &[Given<'_>],
-    fault: ErrorKind,
-) -> Result<bool, Fail> {
-    for count in 0..=answers.len() {
-        let script = (&answers[..count], Some(fault));
-        if !reads(
-            alloc,
-            line,
-            script,
-            count.saturating_add(1),
-            b"status 5: read",
-        )? {
+/// A script of one byte a call.
+const ONES: &[Answer] = &[Ok(1); 9];
+
+/// Whether a run is refused by a reader that gives one byte a call and fails at its first call, its second, and so on, up to
+/// the one behind its last byte.
+fn is_unread(alloc: Global, run: (&str, &[u8]), fault: ErrorKind) -> Result<bool, Fail> {
+    for count in 0..=run.1.len().min(ONES.len()) {
+        let script = Script::new(&ONES[..count], Err(fault));
+        let calls = count.saturating_add(1);
+        if !reads(alloc, run, script, calls, b"status 5: read")? {
             return Ok(false);
         }
     }
     Ok(true)
 }
 
-// One byte a call: a read fails before, at and after the line `--`, and where a spec or a record is at fault.
+// A read fails before, at and after the line `--`, and where a spec or a record is at fault.
 #[test]
-#[rattlefmt::skip]
 fn a_failed_read_is_refused(rt: HostRuntime) -> Result<(), Fail> {
-    const LISTING: &[Given<'_>] = &[Ok(b"a"), Ok(b"\n"), Ok(b"/"), Ok(b"\n"), Ok(b"b"), Ok(b"\n")];
-    const GOOD: &[Given<'_>] = &[Ok(b"a"), Ok(b"\n"), Ok(b"-"), Ok(b"-"), Ok(b"\n"), Ok(b"a"), Ok(b"\n")];
-    const BAD: &[Given<'_>] = &[Ok(b":"), Ok(b"#"), Ok(b"\n"), Ok(b"-"), Ok(b"-"), Ok(b"\n"), Ok(b"/"), Ok(b"\n")];
-    for fault in [ErrorKind::BrokenPipe, ErrorKind::Interrupted, ErrorKind::TimedOut] {
-        assert!(rt; is_unread(rt.alloc(), "", LISTING, fault)?);
+    for fault in [
+        ErrorKind::BrokenPipe,
+        ErrorKind::Interrupted,
+        ErrorKind::TimedOut,
+    ] {
+        assert!(rt; is_unread(rt.alloc(), ("", b"a\n/\nb\n"), fault)?);
     }
-    assert!(rt; is_unread(rt.alloc(), FIRST, GOOD, ErrorKind::BrokenPipe)?);
-    assert!(rt; is_unread(rt.alloc(), FIRST, BAD, ErrorKind::BrokenPipe)?);
+    assert!(rt; is_unread(rt.alloc(), (FIRST, b"a\n--\na\n"), ErrorKind::BrokenPipe)?);
+    assert!(rt; is_unread(rt.alloc(), (FIRST, b":#\n--\n/\n"), ErrorKind::BrokenPipe)?);
     Ok(())
-}
-
-/// How many bytes a writer takes at a call, or how it fails.
-type Took = Result<usize, ErrorKind>;
-
-/// A writer whose calls are answered one after another: by how many bytes it takes at most, or by a fault. It counts the
-/// calls, and answers all later ones alike.
-#[derive(Drop)]
-struct ScriptedWriter<'a> {
-    answers: &'a [Took],
-    last: Took,
-    calls: usize,
-    taken: Vec<u8>,
-    flushes: usize,
-}
-
-impl Write for ScriptedWriter<'_> {
-    fn write(&mut self, buf: &[u8]) -> io::Result<usize> {
-        let answer = match self.answers.get(self.calls) {
-            Some(answer) => *answer,
-            None => self.last,
-        };
-        self.calls = self.calls.saturating_add(1);
-        let most = match answer {
-            Ok(most) => buf.len().min(most),
-            Err(fault) => return Err(io::Error::from(fault)),
-        };
-        self.taken.extend_from_slice(&buf[..most])?;
-        Ok(most)
-    }
-
-    fn flush(&mut self) -> io::Result<()> {
-        self.flushes = self.flushes.saturating_add(1);
-        Ok(())
-    }
 }
 
 /// Whether a run with the words of a line is told just this, or, for "", isn't refused.
@@ -166,9 +98,9 @@ fn ends<W: Write>(
     Ok(text.as_slice() == want.as_bytes())
 }
 
-/// A writer's answers, that to later calls, and the end of a run over it: the count of calls, the bytes taken, and the
-/// refusal, "" for none. The writer is never flushed.
-type Accepted<'a> = (&'a [Took], Took, usize, &'a [u8], &'a str);
+/// A writer's script, as its answers and the last one, and the end of a run over it: the count of calls, the bytes taken, and
+/// the refusal, "" for none. The writer is never flushed.
+type Accepted<'a> = (&'a [Answer], Answer, usize, &'a [u8], &'a str);
 
 /// Whether a run over a writer has a given end.
 fn is_accepted(
@@ -176,15 +108,9 @@ fn is_accepted(
     run: (&str, &[u8]),
     (answers, last, calls, taken, want): Accepted<'_>,
 ) -> Result<bool, Fail> {
-    let mut writer = ScriptedWriter {
-        answers,
-        last,
-        calls: 0,
-        taken: Vec::new(alloc),
-        flushes: 0,
-    };
+    let mut writer = ScriptedWriter::new(alloc, Script::new(answers, last));
     let is_told = ends(alloc, run, &mut writer, want)?;
-    let is_called = writer.calls == calls && writer.flushes == 0;
+    let is_called = writer.script.calls == calls && writer.flushes == 0;
     Ok(is_told && is_called && writer.taken.as_slice() == taken)
 }
 
@@ -193,10 +119,9 @@ const WRITE: &str = "status 5: write";
 #[test]
 #[rattlefmt::skip]
 fn no_write_is_made_again_and_none_flushed(rt: HostRuntime) -> Result<(), Fail> {
-    const ALL: Took = Ok(usize::MAX);
-    const BROKEN: Took = Err(ErrorKind::BrokenPipe);
-    const INTERRUPTED: Took = Err(ErrorKind::Interrupted);
-    const TIMED_OUT: Took = Err(ErrorKind::TimedOut);
+    const BROKEN: Answer = Err(ErrorKind::BrokenPipe);
+    const INTERRUPTED: Answer = Err(ErrorKind::Interrupted);
+    const TIMED_OUT: Answer = Err(ErrorKind::TimedOut);
     const LISTING: (&str, &[u8]) = ("", b"a\nb\n");
     const ROWS: &[((&str, &[u8]), Accepted<'_>)] = &[
         (LISTING, (&[], ALL, 1, b"a\nb\n", "")),
@@ -222,9 +147,8 @@ fn no_write_is_made_again_and_none_flushed(rt: HostRuntime) -> Result<(), Fail> 
 
 /// Whether a writer that takes one byte a call has taken a front of the output, where it fails at its first call, at its
 /// second, and so on, up to none.
-fn is_front(alloc: Global, last: Took) -> Result<bool, Fail> {
+fn is_front(alloc: Global, last: Answer) -> Result<bool, Fail> {
     const LISTING: &[u8] = b"a\nb/\nb/c\n";
-    const ONES: &[Took] = &[Ok(1); 9];
     for count in 0..=LISTING.len() {
         let (ones, taken) = (&ONES[..count], &LISTING[..count]);
         let (calls, refusal) = if count < LISTING.len() {

@@ -5,12 +5,14 @@ ghost use Rattle.pathspec_parts.specs.Trees.{tree_after};
 ghost use Rattle.pathspec_parts.specs.Paths.{ends_with_slash, without_last_slash};
 ghost use Rattle.pathspec_parts.specs.Records.{record_names, parent_names, open_after, implied_names, directory_calls, record_calls, directory_names, has_empty_name};
 ghost use Rattle.pathspec_select.specs.Listing.{marks_of_record};
-ghost use Rattle.pathspec_select.specs.ListingAnswers.{first_record, behind_record, IsFreeOf, AnswersNames};
+ghost use Rattle.pathspec_parts.specs.RecordParts.{first_record, behind_record, IsFreeOf};
+ghost use Rattle.pathspec_select.specs.ListingAnswers.{AnswersNames};
 ghost use Rattle.pathspec_select.specs.Outlines.{record_from, HasOpen, KeepsListing, IsRecordAt, BeginsRecord};
 
-use crate::listing::names::{after_shared, direct_file_len, split_name};
+use crate::listing::names::after_shared;
 use crate::listing::outline::Outline;
 use pathspec_parts::path::strip_last_slash;
+use pathspec_parts::records::{direct_file_len, split_name};
 use pathspec_parts::split;
 use std::alloc::AllocError;
 

@@ -1,45 +1,11 @@
-//! The names in a record, and the directories that two paths share.
-ghost use Rattle.std.specs.Prelude.{◌≡◌, ◌≢◌, [], ◌∷◌, ◌++◌, drop, IsTrue, IfSome};
-ghost use Rattle.pathspec_parts.specs.Paths.{ends_with_slash, without_last_slash};
-ghost use Rattle.pathspec_parts.specs.Records.{record_is_dir, parent_names, own_names, shared_depth, implied_names, directory_names};
-ghost use Rattle.pathspec_select.specs.ListingAnswers.{HasCommonFront, SharesNames, IsClosed, IsRestOf, IsFreeOf, BeginsWithFile};
+//! The directories that two paths share.
+ghost use Rattle.std.specs.Prelude.{◌≡◌, drop, IsTrue};
+ghost use Rattle.pathspec_parts.specs.Records.{shared_depth, implied_names, directory_names};
+ghost use Rattle.pathspec_parts.specs.RecordParts.{IsClosed};
+ghost use Rattle.pathspec_select.specs.ListingAnswers.{HasCommonFront, SharesNames, IsRestOf};
 
 use bstr::ByteSlice;
-use memchr::memchr2_iter;
 use pathspec_parts::split;
-
-/// Cuts a record after the last slash that isn't at its end: `a/` and `b/` for `a/b/`. Gives the path of its directory, and
-/// its own name, with a slash if it is a directory's. The call looks at each byte of the name.
-pub(super) fn split_name(text: &[u8]) -> (&[u8], &[u8])
-    requires { text.now ≢ [] }
-    ensures parents { directory_names result.0.now ≡ parent_names text.now }
-    ensures name { own_names text.now ≡ without_last_slash result.1.now ∷ [] }
-    ensures kind { ends_with_slash result.1.now ≡ record_is_dir text.now }
-    ensures whole { text.now ≡ result.0.now ++ result.1.now }
-    ensures some { result.1.now ≢ [] }
-    ensures closed { IsClosed result.0.now }
-{
-    let before_last = &text[..text.len() - 1];
-    let length = match before_last.rfind_byte(b'/') {
-        Some(slash) => slash + 1,
-        None => 0,
-    };
-    text.split_at(length)
-}
-
-/// The length of a text's first record, if it is a name right in the directory and has its separator. The call searches once.
-pub(super) fn direct_file_len(directory: &[u8], rest: &[u8], separator: u8) -> Option<usize>
-    requires { IsFreeOf separator directory.now }
-    ensures { IfSome result (BeginsWithFile separator directory.now rest.now) }
-{
-    let behind = rest.strip_prefix(directory)?;
-    let length = memchr2_iter(b'/', separator, behind).next()?;
-    if length != 0 && behind[length] == separator {
-        Some(directory.len() + length)
-    } else {
-        None
-    }
-}
 
 /// The paths of two directories behind the names that both begin with: `b/` and `c/` for `a/b/` and `a/c/`. The call looks at
 /// each byte of those names, and of one more.

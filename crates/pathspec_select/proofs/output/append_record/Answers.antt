@@ -5,9 +5,9 @@ use Rattle.std.proofs.lemmas.Result.{err_from_is_err_and}
 use Rattle.std.specs.Prelude.{OnOk, OnErr}
 use Rattle.pathspec_select.specs.Listing.{mark_at, written_of}
 use Rattle.pathspec_select.specs.Outlines.{with_piece, bytes_of}
-use Rattle.pathspec_select.specs.Program.{AppendsUpTo, AppendsFront}
+use Rattle.pathspec_parts.specs.Writing.{AppendsUpTo, AppendsFront}
 use Rattle.pathspec_select.proofs.OutlineProofs.{piece-more}
-use Rattle.pathspec_select.proofs.OutputProofs.{appends-none, front-longer, longer-put, longer-front, then-put, then-front}
+use Rattle.pathspec_parts.proofs.WritingProofs.{appends-none, front-longer, longer-put, longer-front, then-put, then-front}
 use Rattle.pathspec_select.proofs.output.append_record.Given.{Over}
 use Rattle.pathspec_select.proofs.output.append_record.Goals.{After-write_record}
 use Rattle.pathspec_select.proofs.output.append_record.Goals as goal

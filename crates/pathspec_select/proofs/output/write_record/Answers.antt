@@ -2,8 +2,9 @@
 use Rattle.std.proofs.Common.{◌++◌, ◌∷◌, [], subst, ℕ, List}
 use Rattle.std.proofs.lemmas.Result.{err_from_is_err_and}
 use Rattle.std.specs.Prelude.{OnOk, OnErr}
-use Rattle.pathspec_select.specs.Program.{AppendsUpTo, AppendsFront}
-use Rattle.pathspec_select.proofs.OutputProofs.{front-longer, then-put, then-front, written-some}
+use Rattle.pathspec_parts.specs.Writing.{AppendsUpTo, AppendsFront}
+use Rattle.pathspec_parts.proofs.WritingProofs.{front-longer, then-put, then-front}
+use Rattle.pathspec_select.proofs.OutputProofs.{written-some}
 use Rattle.pathspec_select.proofs.output.write_record.Goals as goal
 
 pub returns-in_err-write_buffered-clause-front : goal.returns-in_err-write_buffered-clause-front

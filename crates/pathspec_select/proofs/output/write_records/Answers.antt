@@ -4,8 +4,9 @@ use Rattle.std.specs.Prelude.{get_or}
 use Rattle.std.proofs.lemmas.Result.{err_from_is_err_and}
 use Rattle.pathspec_select.specs.Listing.{mark_at, written_of, written_entries}
 use Rattle.pathspec_select.specs.Outlines.{with_piece}
-use Rattle.pathspec_select.specs.Program.{AppendsUpTo, AppendsFront}
-use Rattle.pathspec_select.proofs.OutputProofs.{upto-more, upto-on, front-more, front-count, written-more, upto-end, written-buffered, front-buffered}
+use Rattle.pathspec_parts.specs.Writing.{AppendsUpTo, AppendsFront}
+use Rattle.pathspec_parts.proofs.WritingProofs.{upto-more, upto-on, front-more, written-buffered, front-buffered}
+use Rattle.pathspec_select.proofs.OutputProofs.{front-count, written-more, upto-end}
 use Rattle.pathspec_select.proofs.output.write_records.Goals as goal
 use Rattle.pathspec_select.proofs.output.write_records.Given.{Over}
 use Rattle.pathspec_select.proofs.output.write_records.Goals.{After-bytes_of, After-as_slice}

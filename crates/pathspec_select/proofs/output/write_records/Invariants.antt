@@ -1,7 +1,7 @@
 use Rattle.std.proofs.Common.{◌≤◌, length, take}
 use Rattle.pathspec_select.specs.Listing.{written_entries}
 use Rattle.pathspec_select.specs.Outlines.{IsPiece, with_piece}
-use Rattle.pathspec_select.specs.Program.{AppendsUpTo}
+use Rattle.pathspec_parts.specs.Writing.{AppendsUpTo}
 use Rattle.pathspec_select.proofs.output.write_records.Given as goal
 
 abbrev pub invariant-loop-index : goal.invariant-loop-index

@@ -1,7 +1,8 @@
 use Rattle.std.proofs.Common.{◌<◌, ◌+◌, ◌-◌, length, sym, ◌∙◌, subst, arith, refl}
 use Rattle.std.proofs.lemmas.Bool.Decides.{nat_tests}
 use Rattle.pathspec_parts.specs.Records.{records}
-use Rattle.pathspec_select.specs.ListingAnswers.{first_record, behind_record, RefusesRecords}
+use Rattle.pathspec_parts.specs.RecordParts.{first_record, behind_record}
+use Rattle.pathspec_select.specs.ListingAnswers.{RefusesRecords}
 use Rattle.pathspec_select.proofs.ReadProofs.{read_none, record_at, read_one, read_refused, read_all}
 use Rattle.pathspec_select.proofs.RecordProofs.{records_are_entries}
 use Rattle.pathspec_select.proofs.listing.contents.read.Goals as goal

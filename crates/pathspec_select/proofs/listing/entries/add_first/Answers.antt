@@ -1,8 +1,8 @@
 use Rattle.std.proofs.Common.{◌≡◌, ◌==◌, false, sym, ◌∙◌, ap, subst, take, length}
 use Rattle.std.proofs.lemmas.List.Elements.{All-take}
-use Rattle.pathspec_select.specs.ListingAnswers.{first_record, IsFreeOf}
+use Rattle.pathspec_parts.specs.RecordParts.{first_record, IsFreeOf}
 use Rattle.pathspec_select.specs.Outlines.{OutlineContents}
-use Rattle.pathspec_select.proofs.FileProofs.{free_before}
+use Rattle.pathspec_parts.proofs.RecordPartProofs.{free_before}
 use Rattle.pathspec_select.proofs.OwnProofs.{lies, tree_is, marks_are, names_are_open, good}
 use Rattle.pathspec_select.proofs.listing.entries.add_first.Goals as goal
 

@@ -20,8 +20,8 @@ loop-name-preserved c = record {
   rest = rest_after c.args.wanted.now c.loop-name.missing.now _ c.requires c.loop-name.invariant.rest c.at_first-in-loop-name.ensures.after;
 }
 
-pub returns-clause-left : goal.returns-clause-left
-returns-clause-left c =
+pub returns : goal.returns
+returns c =
     let xs = directory_names c.loop-name.left.now in
     let ys = directory_names c.loop-name.missing.now in
     let e : unshared xs ys ≡ (xs, ys) = elim c.loop-name-test.branch [
@@ -30,16 +30,9 @@ returns-clause-left c =
       | then-loop-name-test+then-not-is_empty+then-ne w ↦ unshared-other c.loop-name.left.now c.loop-name.missing.now _ _ _ _ (sym c.is_empty.ensures ∙ w.loop-name-test.true) (sym w.is_empty-in-loop-name.ensures ∙ w.if-not-is_empty.true)
           w.at_first.ensures.before w.at_first.ensures.after w.at_first-in-loop-name.ensures.before w.at_first-in-loop-name.ensures.after (sym w.ne.ensures ∙ w.if-ne.true)
     ] in
-    ap (λ (p : List (List ℕ) × List (List ℕ)). p.0) (sym e ∙ (c.loop-name.invariant.unshared_is ∙ unshared-is (directory_names c.args.directory.now) (directory_names c.args.wanted.now)))
-
-pub returns-clause-missing : goal.returns-clause-missing
-returns-clause-missing c =
-    let xs = directory_names c.loop-name.left.now in
-    let ys = directory_names c.loop-name.missing.now in
-    let e : unshared xs ys ≡ (xs, ys) = elim c.loop-name-test.branch [
-      | then-loop-name-test+else-not-is_empty w ↦ unshared-no_missing c.loop-name.left.now c.loop-name.missing.now (sym w.is_empty-in-loop-name.ensures ∙ w.if-not-is_empty.false)
-      | else-loop-name-test w ↦ unshared-no_left c.loop-name.left.now c.loop-name.missing.now (sym c.is_empty.ensures ∙ w.loop-name-test.false)
-      | then-loop-name-test+then-not-is_empty+then-ne w ↦ unshared-other c.loop-name.left.now c.loop-name.missing.now _ _ _ _ (sym c.is_empty.ensures ∙ w.loop-name-test.true) (sym w.is_empty-in-loop-name.ensures ∙ w.if-not-is_empty.true)
-          w.at_first.ensures.before w.at_first.ensures.after w.at_first-in-loop-name.ensures.before w.at_first-in-loop-name.ensures.after (sym w.ne.ensures ∙ w.if-ne.true)
-    ] in
-    ap (λ (p : List (List ℕ) × List (List ℕ)). p.1) (sym e ∙ (c.loop-name.invariant.unshared_is ∙ unshared-is (directory_names c.args.directory.now) (directory_names c.args.wanted.now)))
+    let parts = sym e ∙ (c.loop-name.invariant.unshared_is ∙ unshared-is (directory_names c.args.directory.now) (directory_names c.args.wanted.now)) in
+    record {
+      left = ap (λ (p : List (List ℕ) × List (List ℕ)). p.0) parts;
+      missing = ap (λ (p : List (List ℕ) × List (List ℕ)). p.1) parts;
+      rest = c.loop-name.invariant.rest;
+    }

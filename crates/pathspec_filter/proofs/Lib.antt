@@ -1,0 +1,4 @@
+pub mod ChunkProofs
+pub mod PlaceProofs
+pub mod PassProofs
+pub mod EndProofs

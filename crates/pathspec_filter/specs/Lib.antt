@@ -1,0 +1,12 @@
+pub use Rattle.gix_pathspec.specs.Bytes
+pub use Rattle.gix_pathspec.specs.Paths
+pub use Rattle.gix_pathspec.specs.Attributes
+pub use Rattle.gix_pathspec.specs.Specs
+pub use Rattle.gix_pathspec.specs.Matching
+pub use Rattle.gix_pathspec.specs.Search
+pub mod LeadingDots
+pub mod FilterAnswers
+pub mod Places
+pub mod Chunks
+pub mod Passes
+pub mod FoundRecords

@@ -1,0 +1,15 @@
+//! A filter of records in constant memory: the records that pathspecs select are written as they are read.
+#![tactic(auto)]
+
+mod answers;
+mod choice;
+mod chunk;
+mod filtering;
+mod leading_dot;
+mod pass;
+mod place;
+mod questions;
+
+pub use answers::{Counts, FilterError};
+pub use filtering::filter;
+pub use leading_dot::LeadingDot;
