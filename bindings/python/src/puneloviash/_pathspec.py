@@ -1,0 +1,398 @@
+"""A search: specs that match together."""
+
+from __future__ import annotations
+
+import ctypes
+import enum
+import os
+import threading
+import weakref
+from typing import (
+    Any,
+    Callable,
+    Iterable,
+    Iterator,
+    NamedTuple,
+    NoReturn,
+    Optional,
+    Tuple,
+    TypeVar,
+    Union,
+    overload,
+)
+
+from . import _library
+from ._defaults import Defaults
+from ._errors import FaultKind, PathspecError
+from ._walk import Walk
+
+#: What may be handed in as a spec or as a path. Its bytes are those of os.fsencode, which keeps
+#: surrogate escapes.
+Text = Union[str, bytes, "os.PathLike[str]", "os.PathLike[bytes]"]
+
+_Path = TypeVar("_Path", bound=Text)
+_NO_DEFAULTS = Defaults(0)
+
+
+class MatchKind(enum.Enum):
+    """How a spec came to match."""
+
+    #: The path of the spec is empty, or the path is; or there are only excludes, and none matches.
+    ALWAYS = 1
+    #: The path lies below the path of the spec.
+    BELOW = 2
+    #: The path of the spec is a glob, and it matches the path.
+    WILDCARD = 3
+    #: The path is the path of the spec.
+    VERBATIM = 4
+
+
+class Match(NamedTuple):
+    """The spec that settles a path."""
+
+    #: Its place in the list, from 0.
+    number: int
+    #: How it came to match.
+    kind: MatchKind
+    #: Whether it takes the path out.
+    is_excluded: bool
+
+
+class Pathspec:
+    """A search of specs, that is asked about paths.
+
+    A path is relative to the top of the repository, and has names between single slashes:
+    ``src/lib.rs``, not ``./src/lib.rs``. The empty path is the top, which any search selects. A
+    slash at the end of a path isn't handed on; the path is then a directory's.
+
+    Threads may use one search at the same time; it answers one of them after the other. No child
+    uses it that was forked while there were other threads.
+
+    What it holds is freed by ``close``, at the end of a ``with``, or when nothing refers to it any
+    longer.
+
+    >>> search = Pathspec(["src", ":!*.o"])
+    >>> search.matches("src/a.c"), search.matches("src/a.o")
+    (True, False)
+    >>> search.close()
+    >>> search.matches("src/a.c")
+    Traceback (most recent call last):
+    ValueError: the search is closed
+    """
+
+    def __init__(
+        self,
+        specs: Iterable[Text],
+        prefix: Text = "",
+        root: Text = "",
+        defaults: Defaults = _NO_DEFAULTS,
+    ) -> None:
+        """Makes the search of specs that are given in the directory ``prefix`` of the repository at
+        ``root``.
+
+        No specs select everything, or with a prefix what lies there. Only specs that are absolute
+        paths need the root. The cost is linear in the bytes of all specs, and for each spec in the
+        prefix and the root; and they are sorted.
+
+        It raises PathspecError for the first spec with the byte 0; or for the first that can't be
+        read, or else the first that can't be placed in the repository; or where the prefix isn't
+        clean.
+
+        >>> Pathspec(["../c"], prefix="a/b").matches("a/c")
+        True
+        """
+        if isinstance(specs, (str, bytes, os.PathLike)):
+            raise TypeError("specs are a list of specs, not one")
+        texts = _joined(specs)
+        self._make(_library.new, _library.search_message, texts, prefix, root, defaults)
+
+    @classmethod
+    def from_lines(
+        cls,
+        text: Text,
+        prefix: Text = "",
+        root: Text = "",
+        defaults: Defaults = _NO_DEFAULTS,
+    ) -> Pathspec:
+        """Makes the search of the specs on the lines of a text, as in a file of
+        --pathspec-from-file.
+
+        A line feed ends a line, and the last may lack it; one carriage return before a line feed is
+        no part of the line. Nothing is trimmed or unquoted, and an empty line is at fault. The byte
+        0 is one like others.
+
+        >>> Pathspec.from_lines("*.c\\n:!gen\\n").matches("gen/a.c")
+        False
+        """
+        search = cls.__new__(cls)
+        text = os.fsencode(text)
+        search._make(_library.from_lines, _library.lines_message, text, prefix, root, defaults)
+        return search
+
+    def _make(
+        self,
+        call: Callable[..., int],
+        tell: Callable[..., int],
+        texts: bytes,
+        prefix: Text,
+        root: Text,
+        defaults: Defaults,
+    ) -> None:
+        prefix, root = os.fsencode(prefix), os.fsencode(root)
+        given = texts, len(texts), prefix, len(prefix), root, len(root), int(defaults)
+        handle, fault = _library.PsSearch(), _library.PsFault()
+        status = call(ctypes.addressof(handle), *given, fault)
+        if status == _library.MEMORY:
+            raise MemoryError
+        if status == _library.PREFIX:
+            raise PathspecError("the prefix isn't clean", FaultKind.PREFIX)
+        if status != _library.OK:
+            kind = FaultKind(fault.kind)
+            message = _message(tell, *given) or f"spec {fault.number}: {kind.name}"
+            raise PathspecError(message, kind, fault.number)
+        self._take(handle)
+
+    def _take(self, handle: _library.PsSearch) -> None:
+        """Takes a handle that owns a search."""
+        # (a call of this thread may come between two of its own, as from a signal's handler, but
+        # never into one)
+        self._lock = threading.RLock()
+        self._found = _library.PsMatch()
+        self._found_at = ctypes.addressof(self._found)
+        self._at: Optional[int] = ctypes.addressof(handle)
+        self._finalizer = weakref.finalize(self, _free, handle)
+        # (a daemon's thread may ask on while the interpreter ends)
+        self._finalizer.atexit = False
+
+    def _open(self) -> int:
+        """The address of the handle. The lock is held."""
+        if self._at is None:
+            raise ValueError("the search is closed")
+        return self._at
+
+    def share(self) -> Pathspec:
+        """The same search, for a thread of its own, without attributes. Specs aren't read again."""
+        other, handle = type(self).__new__(type(self)), _library.PsSearch()
+        with self._lock:
+            status = _library.share(self._open(), ctypes.addressof(handle))
+        if status != _library.OK:
+            raise MemoryError
+        other._take(handle)
+        return other
+
+    def matches(self, path: Text, is_dir: bool = False) -> bool:
+        """Whether the search selects a path.
+
+        >>> Pathspec([":(glob)s*"]).matches("src/")
+        True
+        """
+        text, is_dir = _path(path, is_dir)
+        with self._lock:
+            selects: int = _library.match(self._open(), text, len(text), is_dir, self._found_at)
+            if self._found.kind == 5:
+                raise MemoryError
+        return selects != 0
+
+    def filter(self, paths: Iterable[_Path], is_dir: bool = False) -> Iterator[_Path]:
+        """Those of the paths that the search selects, as they come.
+
+        >>> list(Pathspec(["*.c"]).filter(["a.c", "a.o", b"b.c"]))
+        ['a.c', b'b.c']
+        """
+        for path in paths:
+            if self.matches(path, is_dir):
+                yield path
+
+    def settle(self, path: Text, is_dir: bool = False) -> Optional[Match]:
+        """The spec that settles a path, if one does: the first that matches, of the excludes and
+        then of the includes.
+
+        The path is selected where there is one and ``is_excluded`` is false.
+
+        >>> Pathspec(["src", ":!*.o"]).settle("src/a.o")
+        Match(number=1, kind=<MatchKind.WILDCARD: 3>, is_excluded=True)
+        """
+        text, is_dir = _path(path, is_dir)
+        with self._lock:
+            found = self._found
+            _library.match(self._open(), text, len(text), is_dir, self._found_at)
+            number, kind, is_excluded = found.number, found.kind, found.is_excluded
+        if kind == 0:
+            return None
+        if kind == 5:
+            raise MemoryError
+        return Match(number, MatchKind(kind), is_excluded != 0)
+
+    def may_skip(self, directory: Text) -> bool:
+        """Whether a walk may skip a directory, since nothing below it is selected, whatever
+        attributes paths have.
+
+        >>> search = Pathspec(["src/*.rs", ":!src/gen"])
+        >>> [search.may_skip(name) for name in ("docs", "src", "src/gen")]
+        [True, False, True]
+        """
+        text, _ = _path(directory, True)
+        with self._lock:
+            return bool(_library.may_skip(self._open(), text, len(text)))
+
+    def can_match(self, path: Text, is_dir: bool = False) -> bool:
+        """Whether something at or below a path can match.
+
+        Where it can't, nothing there is selected, whatever attributes paths have. It tells less
+        than ``may_skip``, which excludes count for, too.
+        """
+        text, is_dir = _path(path, is_dir)
+        with self._lock:
+            return bool(_library.can_match(self._open(), text, len(text), is_dir))
+
+    def assign(self, path: Text, attributes: Text) -> None:
+        """Gives a path attributes, as ``attr:`` of a spec has them: ``text -diff !merge eol=lf``.
+
+        No macro is unfolded. Later lists for a path come after earlier ones. A path that was given
+        none has every attribute unspecified. It raises PathspecError where the list can't be read,
+        and then nothing has changed.
+
+        >>> search = Pathspec([":(attr:text)*"])
+        >>> search.assign("a.c", "text eol=lf")
+        >>> search.matches("a.c"), search.matches("b.c")
+        (True, False)
+        """
+        text, _ = _path(path, False)
+        given, fault = os.fsencode(attributes), _library.PsFault()
+        with self._lock:
+            status = _library.assign(self._open(), text, len(text), given, len(given), fault)
+        if status == _library.MEMORY:
+            raise MemoryError
+        if status != _library.OK:
+            kind = FaultKind(fault.kind)
+            message = _message(_library.list_message, given, len(given)) or kind.name
+            raise PathspecError(message, kind)
+
+    @property
+    def common_prefix(self) -> str:
+        """What all selected paths begin with, but for the empty path. It may end within a name, and
+        may be empty.
+
+        >>> Pathspec(["src/lib", "src/list"]).common_prefix
+        'src/li'
+        """
+        return self._text(_library.common_prefix) or ""
+
+    @property
+    def longest_common_directory(self) -> Optional[str]:
+        """The directory at or below which all selected paths lie, as long as the includes' common
+        prefix tells one.
+
+        There is none where there is no include, and where it is the top.
+        """
+        return self._text(_library.longest_common_directory)
+
+    @property
+    def prefix_directory(self) -> str:
+        """What the first include has kept of the prefix.
+
+        It may be empty, and is where there is no include.
+        """
+        return self._text(_library.prefix_directory) or ""
+
+    def _text(self, call: Callable[..., int]) -> Optional[str]:
+        with self._lock:
+            text = _copied(call, self._open())
+        return None if text is None else os.fsdecode(text)
+
+    @overload
+    def walk(
+        self,
+        root: Union[str, "os.PathLike[str]"] = ".",
+        on_error: Optional[Callable[[OSError], object]] = None,
+    ) -> Walk[str]:
+        ...
+
+    @overload
+    def walk(
+        self,
+        root: Union[bytes, "os.PathLike[bytes]"],
+        on_error: Optional[Callable[[OSError], object]] = None,
+    ) -> Walk[bytes]:
+        ...
+
+    def walk(
+        self,
+        root: Any = ".",
+        on_error: Optional[Callable[[OSError], object]] = None,
+    ) -> Walk[Any]:
+        """The selected files below a directory, the repository's top, by their paths from there, in
+        no order.
+
+        They are bytes where the root is. Symbolic links count as files and aren't followed. What is
+        called ``.git`` is left out, and so is what is neither a file nor a link. No directory is
+        entered that may be skipped.
+
+        Where a directory can't be read, OSError is raised; or it is given to ``on_error``, and the
+        walk goes on.
+        """
+        return Walk(self, os.fspath(root), on_error)
+
+    def close(self) -> None:
+        """Frees what the search holds.
+
+        Closing again does nothing, and any other call raises ValueError.
+        """
+        with self._lock:
+            self._at = None
+            self._finalizer()
+
+    def __enter__(self) -> Pathspec:
+        return self
+
+    def __exit__(self, *_: object) -> None:
+        self.close()
+
+    def __reduce__(self) -> NoReturn:
+        raise TypeError("a Pathspec can't be pickled or copied: hand on its specs")
+
+
+def _free(handle: _library.PsSearch) -> None:
+    _library.free(ctypes.addressof(handle))
+
+
+def _joined(specs: Iterable[Text]) -> bytes:
+    """The bytes of all specs, each ended by the byte 0."""
+    texts = []
+    for number, spec in enumerate(specs):
+        text = os.fsencode(spec)
+        position = text.find(b"\0")
+        if position >= 0:
+            raise PathspecError(
+                f"spec {number}: the byte 0 at {position}",
+                FaultKind.NUL,
+                number,
+                position,
+            )
+        texts.append(text)
+    texts.append(b"")
+    return b"\0".join(texts)
+
+
+def _path(path: Text, is_dir: bool) -> Tuple[bytes, bool]:
+    """The bytes of a path without slashes at its end, and whether it is a directory's."""
+    text = os.fsencode(path)
+    if text.endswith(b"/"):
+        return text.rstrip(b"/"), True
+    return text, is_dir
+
+
+def _copied(call: Callable[..., int], *given: object) -> Optional[bytes]:
+    """The text that a call copies to the room that it is given, if there is one."""
+    room, length = ctypes.create_string_buffer(256), ctypes.c_size_t()
+    status = call(*given, room, len(room), length)
+    if length.value > len(room):
+        room = ctypes.create_string_buffer(length.value)
+        status = call(*given, room, len(room), length)
+    return room.raw[: length.value] if status == _library.YES else None
+
+
+def _message(call: Callable[..., int], *given: object) -> Optional[str]:
+    """The message of a fault, if memory lasts."""
+    text = _copied(call, *given)
+    return None if text is None else text.decode(errors="replace")

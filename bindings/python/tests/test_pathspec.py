@@ -1,0 +1,431 @@
+"""Answers, and bad input, through the package alone."""
+
+import copy
+import ctypes
+import gc
+import os
+import pathlib
+import pickle
+import subprocess
+import sys
+import threading
+import unittest
+import weakref
+
+from puneloviash import (
+    Defaults,
+    FaultKind,
+    Match,
+    MatchKind,
+    Pathspec,
+    PathspecError,
+    _library,
+)
+
+
+class Answers(unittest.TestCase):
+    def test_kinds_of_matches(self):
+        search = Pathspec(["src", "*.c", ":(literal)a[b]", ":!gen"])
+        rows = {
+            "src/a": Match(0, MatchKind.BELOW, False),
+            "src": Match(0, MatchKind.VERBATIM, False),
+            "b.c": Match(1, MatchKind.WILDCARD, False),
+            "a[b]": Match(2, MatchKind.VERBATIM, False),
+            "gen/b.c": Match(3, MatchKind.BELOW, True),
+            "docs": None,
+        }
+        for path, wanted in rows.items():
+            with self.subTest(path=path):
+                self.assertEqual(search.settle(path), wanted)
+                selects = wanted is not None and not wanted.is_excluded
+                self.assertIs(search.matches(path), selects)
+        search = Pathspec([":!gen"])
+        self.assertEqual(search.settle("a").kind, MatchKind.ALWAYS)
+        self.assertTrue(search.matches("a"))
+
+    def test_directories(self):
+        search = Pathspec([":(glob)s*", "d/"])
+        self.assertTrue(search.matches("src", is_dir=True))
+        self.assertTrue(search.matches("d", is_dir=True))
+        self.assertFalse(search.matches("d"))
+        search = Pathspec(["src/lib", ":!src/lib/gen"])
+        self.assertFalse(search.may_skip("src"))
+        self.assertTrue(search.may_skip("docs"))
+        self.assertTrue(search.may_skip("src/lib/gen"))
+        self.assertTrue(search.can_match("src", is_dir=True))
+        self.assertFalse(search.can_match("docs", is_dir=True))
+
+    def test_a_slash_at_the_end_says_directory(self):
+        search = Pathspec([":(glob)s*", "d/", ":(attr:x)t", "u/v/w"])
+        self.assertTrue(search.matches("src/"))
+        self.assertTrue(search.matches(b"d/"))
+        self.assertFalse(search.may_skip("u/"))
+        self.assertFalse(search.may_skip("u/v//"))
+        self.assertTrue(search.can_match("u/v/"))
+        search.assign("t/", "x")
+        self.assertTrue(search.matches("t", is_dir=True))
+        self.assertEqual(search.settle("d/"), Match(1, MatchKind.VERBATIM, False))
+
+    def test_all_types_of_texts(self):
+        class Named:
+            def __init__(self, name):
+                self.name = name
+
+            def __fspath__(self):
+                return self.name
+
+        for spec in "a", b"a", pathlib.PurePosixPath("a"), Named("a"), Named(b"a"):
+            search = Pathspec([spec])
+            for path in "a", b"a", pathlib.PurePosixPath("a"), Named("a"), Named(b"a"):
+                self.assertTrue(search.matches(path))
+                self.assertIsNotNone(search.settle(path))
+                self.assertFalse(search.may_skip(path))
+                self.assertTrue(search.can_match(path))
+        for wrong in 1, None, ["a"]:
+            with self.assertRaises(TypeError):
+                search.matches(wrong)
+            with self.assertRaises(TypeError):
+                Pathspec([wrong])
+        for one in "a", b"a", pathlib.PurePosixPath("a"):
+            with self.assertRaises(TypeError):
+                Pathspec(one)
+
+    def test_specs_of_any_iterable(self):
+        self.assertTrue(Pathspec(iter(["a", "b"])).matches("b"))
+        self.assertTrue(Pathspec(()).matches("b"))
+        self.assertTrue(Pathspec({"a": 1}).matches("a"))
+
+    def test_filter_gives_what_it_was_given(self):
+        search = Pathspec(["*.c", "d/"])
+        paths = ["a.c", b"b.c", pathlib.PurePosixPath("c.c"), "a.o", "d/", "d"]
+        self.assertEqual(list(search.filter(paths)), [*paths[:3], "d/"])
+        self.assertEqual(list(search.filter(["d"], is_dir=True)), ["d"])
+        self.assertEqual(list(search.filter([])), [])
+        many = [f"{number}.{'co'[number % 2]}" for number in range(10_000)]
+        self.assertEqual(list(search.filter(iter(many))), many[::2])
+        # It takes no more of them than it is asked for.
+        paths = iter(["a.c", "b.c", "c.c"])
+        self.assertEqual(next(search.filter(paths)), "a.c")
+
+    def test_prefixes_and_roots(self):
+        search = Pathspec(["../c", "/r/d"], prefix="a/b", root="/r")
+        self.assertTrue(search.matches("a/c"))
+        self.assertTrue(search.matches("d"))
+        self.assertFalse(search.matches("c"))
+        search = Pathspec([], prefix=b"a", root=pathlib.PurePosixPath("/r"))
+        self.assertTrue(search.matches("a/b"))
+        self.assertFalse(search.matches("b"))
+        self.assertEqual(search.common_prefix, "a")
+        self.assertEqual(search.prefix_directory, "a")
+        for prefix in "/", "a/", "a//b", "..":
+            with self.assertRaises(PathspecError) as raised:
+                Pathspec(["c"], prefix=prefix)
+            self.assertIs(raised.exception.kind, FaultKind.PREFIX)
+            self.assertIsNone(raised.exception.number)
+
+    def test_long_texts_are_whole(self):
+        long = "d" * 10_000
+        search = Pathspec([f"{long}/a", f"{long}/b"])
+        self.assertEqual(search.common_prefix, f"{long}/")
+        self.assertEqual(search.longest_common_directory, long)
+        self.assertEqual(Pathspec(["a"]).prefix_directory, "")
+        self.assertIsNone(Pathspec([]).longest_common_directory)
+        with self.assertRaisesRegex(PathspecError, long):
+            Pathspec([f":({long})"])
+
+    def test_defaults(self):
+        def answer(defaults, spec, path):
+            return Pathspec([spec], defaults=defaults).matches(path)
+
+        self.assertTrue(answer(Defaults(0), "*.c", "a/b.c"))
+        self.assertFalse(answer(Defaults.GLOB, "*.c", "a/b.c"))
+        self.assertTrue(answer(Defaults.ICASE, "A", "a"))
+        self.assertTrue(answer(Defaults.LITERAL, ":!a", ":!a"))
+        self.assertFalse(answer(Defaults.NOGLOB, "*.c", "a.c"))
+        self.assertTrue(answer(Defaults.GLOB | Defaults.ICASE, "*.C", "a.c"))
+
+    def test_defaults_of_the_environment(self):
+        self.assertEqual(Defaults.from_environment({}), Defaults(0))
+        said = {"GIT_GLOB_PATHSPECS": "1", "GIT_ICASE_PATHSPECS": "on"}
+        both = Defaults.GLOB | Defaults.ICASE
+        self.assertEqual(Defaults.from_environment(said), both)
+        with self.assertRaises(PathspecError) as raised:
+            Defaults.from_environment({"GIT_GLOB_PATHSPECS": "perhaps"})
+        self.assertIs(raised.exception.kind, FaultKind.NOT_TRUTH)
+        with self.assertRaises(PathspecError) as raised:
+            said = {"GIT_GLOB_PATHSPECS": "1", "GIT_NOGLOB_PATHSPECS": "1"}
+            Defaults.from_environment(said)
+        self.assertIs(raised.exception.kind, FaultKind.GLOB_AND_NO_GLOB)
+
+    def test_lines(self):
+        search = Pathspec.from_lines("*.c\r\n:!gen")
+        self.assertTrue(search.matches("a.c"))
+        self.assertFalse(search.matches("gen/a.c"))
+        with self.assertRaises(PathspecError) as raised:
+            Pathspec.from_lines("a\n\nb\n")
+        self.assertEqual(raised.exception.number, 1)
+        self.assertIs(raised.exception.kind, FaultKind.EMPTY)
+        # The byte 0 is one like others there.
+        search = Pathspec.from_lines(b"a\0b")
+        self.assertTrue(search.matches("a\0b"))
+        self.assertFalse(search.matches("a"))
+        self.assertTrue(Pathspec.from_lines("c", prefix="d").matches("d/c"))
+
+    def test_attributes(self):
+        search = Pathspec([":(attr:text)*", ":(attr:eol=lf)b"])
+        self.assertFalse(search.matches("a"))
+        search.assign("a", "text")
+        self.assertTrue(search.matches("a"))
+        search.assign(b"a", b"-text")
+        self.assertFalse(search.matches("a"))
+        search.assign(pathlib.PurePosixPath("b"), "eol=lf")
+        rows = {
+            "": (FaultKind.EMPTY_ATTRIBUTES, "attribute list is empty"),
+            "a=b\\": (
+                FaultKind.TRAILING_ESCAPE,
+                "escape at the end of attribute value: b\\",
+            ),
+        }
+        for given, (kind, message) in rows.items():
+            with self.assertRaises(PathspecError) as raised:
+                search.assign("b", given)
+            self.assertIs(raised.exception.kind, kind)
+            self.assertIsNone(raised.exception.number)
+            self.assertEqual(str(raised.exception), message)
+        self.assertTrue(search.matches("b"))
+        self.assertFalse(search.share().matches("b"))
+
+
+class Faults(unittest.TestCase):
+    def test_messages(self):
+        rows = {
+            "": (FaultKind.EMPTY, "an empty string is not a valid pathspec"),
+            ":%a": (
+                FaultKind.UNIMPLEMENTED_SHORT,
+                "unimplemented short keyword: '%'",
+            ),
+            ":(b": (
+                FaultKind.MISSING_PAREN,
+                "missing ')' at the end of pathspec magic in :(b",
+            ),
+            ":(nope)b": (
+                FaultKind.INVALID_KEYWORD,
+                "found an unknown keyword in long magic: nope",
+            ),
+        }
+        for spec, (kind, message) in rows.items():
+            for make in (
+                lambda: Pathspec(["a", spec]),
+                lambda: Pathspec.from_lines(f"a\n{spec}\n"),
+            ):
+                with self.subTest(spec=spec), self.assertRaises(PathspecError) as raised:
+                    make()
+                self.assertEqual(raised.exception.number, 1)
+                self.assertIs(raised.exception.kind, kind)
+                self.assertEqual(str(raised.exception), f"spec 1: {message}")
+
+    def test_kinds(self):
+        rows = {
+            ":(literal,glob)a": FaultKind.LITERAL_WITH_GLOB,
+            ":(attr:a,attr:b)": FaultKind.SECOND_ATTRIBUTES,
+            ":(prefix:9)a": FaultKind.INVALID_PREFIX,
+            ":(attr:)a": FaultKind.EMPTY_ATTRIBUTES,
+            ":(attr:+)a": FaultKind.INVALID_NAME,
+            ":(attr:a=%)a": FaultKind.INVALID_VALUE_BYTE,
+            "/a": FaultKind.OUTSIDE_ROOT,
+            "../a": FaultKind.LEAVES_REPOSITORY,
+        }
+        for spec, kind in rows.items():
+            with self.subTest(spec=spec), self.assertRaises(PathspecError) as raised:
+                Pathspec([spec])
+            self.assertEqual(raised.exception.number, 0)
+            self.assertIs(raised.exception.kind, kind)
+        # A spec that can't be read comes before one that can't be placed.
+        with self.assertRaises(PathspecError) as raised:
+            Pathspec(["../a", ":%"])
+        self.assertEqual(raised.exception.number, 1)
+
+    def test_kinds_have_the_names_of_the_library(self):
+        room, length = ctypes.create_string_buffer(32), ctypes.c_size_t()
+        for kind in FaultKind:
+            if kind.value > 0:
+                _library.fault_name(kind.value, room, len(room), length)
+                name = room.raw[: length.value].decode()
+                self.assertEqual(name.lower(), kind.name.replace("_", "").lower())
+        self.assertIs(FaultKind(16), FaultKind.OTHER)
+
+    def test_the_byte_0_is_told(self):
+        with self.assertRaises(PathspecError) as raised:
+            Pathspec(["a", "b", "cd\0e"])
+        error = raised.exception
+        self.assertIs(error.kind, FaultKind.NUL)
+        self.assertEqual((error.number, error.position), (2, 2))
+        self.assertEqual(str(error), "spec 2: the byte 0 at 2")
+        with self.assertRaises(PathspecError):
+            Pathspec([b"\0"])
+        # In a path it is a byte like others.
+        self.assertFalse(Pathspec(["a"]).matches("a\0"))
+        self.assertTrue(Pathspec(["a*"]).matches("a\0b"))
+        self.assertTrue(Pathspec(["a"]).may_skip("b\0"))
+
+    def test_empty_paths(self):
+        for specs in ["a"], [":!a"], []:
+            search = Pathspec(specs)
+            for path in "", b"", "/":
+                self.assertTrue(search.matches(path))
+                self.assertFalse(search.may_skip(path))
+                self.assertTrue(search.can_match(path))
+
+    def test_bytes_that_are_no_utf_8(self):
+        for byte in range(1, 256):
+            path = bytes([ord("x"), byte, ord("y")])
+            search = Pathspec([path], defaults=Defaults.LITERAL)
+            self.assertTrue(search.matches(path))
+            self.assertTrue(search.matches(os.fsdecode(path)))
+            self.assertFalse(search.matches("xy"))
+            self.assertEqual(os.fsencode(search.common_prefix), path)
+        self.assertTrue(Pathspec(["\udcff*"]).matches(b"\xff\xfe"))
+        self.assertTrue(Pathspec([b"\xff*"]).matches("\udcff\udcfe"))
+        with self.assertRaises(UnicodeEncodeError):
+            Pathspec(["\ud800"])
+        with self.assertRaises(PathspecError) as raised:
+            Pathspec([b":(\xff)a"])
+        self.assertTrue(str(raised.exception).endswith("\ufffd"))
+
+    def test_many_specs(self):
+        specs = [f"{number:06}" for number in range(100_000)]
+        search = Pathspec(specs)
+        self.assertEqual(search.settle("012345/a").number, 12_345)
+        self.assertFalse(search.matches("12345"))
+        specs[-1] = ":(nope)a"
+        with self.assertRaises(PathspecError) as raised:
+            Pathspec(specs)
+        self.assertEqual(raised.exception.number, 99_999)
+
+    def test_errors_are_pickled(self):
+        with self.assertRaises(PathspecError) as raised:
+            Pathspec(["a\0"])
+        error = pickle.loads(pickle.dumps(raised.exception))
+        self.assertIsInstance(error, ValueError)
+        self.assertEqual(str(error), str(raised.exception))
+        self.assertEqual((error.kind, error.number, error.position), (FaultKind.NUL, 0, 1))
+
+
+class Lives(unittest.TestCase):
+    def test_closed(self):
+        with Pathspec(["a"]) as search:
+            self.assertTrue(search.matches("a"))
+            walk = search.walk(os.curdir)
+        search.close()
+        for call in (
+            lambda: search.matches("a"),
+            lambda: list(search.filter(["a"])),
+            lambda: search.settle("a"),
+            lambda: search.may_skip("a"),
+            lambda: search.can_match("a"),
+            lambda: search.assign("a", "b"),
+            lambda: search.common_prefix,
+            lambda: search.longest_common_directory,
+            lambda: search.prefix_directory,
+            lambda: search.share(),
+            lambda: list(walk),
+        ):
+            with self.assertRaisesRegex(ValueError, "closed"):
+                call()
+
+    def test_what_is_shared_outlives(self):
+        search = Pathspec(["*.c"])
+        other = search.share()
+        search.close()
+        self.assertTrue(other.matches("a.c"))
+
+    def test_freed_with_the_last_reference(self):
+        search = Pathspec(["a"])
+        finalizer, lost = search._finalizer, weakref.ref(search)
+        self.assertTrue(finalizer.alive)
+        del search
+        gc.collect()
+        self.assertIsNone(lost())
+        self.assertFalse(finalizer.alive)
+
+    def test_no_copies(self):
+        search = Pathspec(["a"])
+        for call in pickle.dumps, copy.copy, copy.deepcopy:
+            with self.assertRaises(TypeError):
+                call(search)
+
+    def test_memory_is_given_back(self):
+        if not os.path.exists("/proc/self/statm"):
+            self.skipTest("no /proc")
+
+        def pages():
+            return int(pathlib.Path("/proc/self/statm").read_text().split()[1])
+
+        specs = [f"{number:06}" for number in range(1000)]
+        Pathspec(specs).matches("a")
+        before = pages()
+        for _ in range(200):
+            Pathspec(specs).matches("a")
+        self.assertLess(pages() - before, 4096)
+
+    def test_threads_ask_one_search(self):
+        search = Pathspec([":(glob)src/**/*.c", ":!src/gen", ":(attr:x)*"])
+        wrong = []
+
+        def ask(number):
+            own = search.share() if number % 2 else search
+            for turn in range(2000):
+                if turn % 500 == 0:
+                    own.assign(f"{number}/{turn}", "x")
+                found = own.settle(f"{number}/0")
+                right = own.matches("src/d/a.c") and not own.matches("src/gen/a.c")
+                if not right or found is None or found.number != 2:
+                    wrong.append((number, turn))
+
+        threads = [threading.Thread(target=ask, args=(n,)) for n in range(6)]
+        for thread in threads:
+            thread.start()
+        for thread in threads:
+            thread.join()
+        self.assertEqual(wrong, [])
+
+    def test_closed_by_another_thread(self):
+        for _ in range(50):
+            search, answers = Pathspec(["a"]), []
+
+            def ask():
+                try:
+                    while True:
+                        answers.append(search.matches("a"))
+                except ValueError:
+                    pass
+
+            thread = threading.Thread(target=ask)
+            thread.start()
+            search.close()
+            thread.join()
+            self.assertTrue(all(answers))
+
+    @unittest.skipUnless(hasattr(os, "fork"), "no fork")
+    def test_fork(self):
+        # (in a process of its own, which has no other thread)
+        program = """
+import os, sys
+from puneloviash import Pathspec
+search = Pathspec(["src/*.c", ":!src/gen"])
+def asks_well():
+    own = search.share()
+    return all(s.matches("src/a.c") and s.may_skip("src/gen") for s in (search, own))
+child = os.fork()
+if not child:
+    well = asks_well()
+    search.close()
+    os._exit(not well)
+_, status = os.waitpid(child, 0)
+sys.exit(status != 0 or not asks_well())
+"""
+        subprocess.run([sys.executable, "-c", program], check=True)
+
+
+if __name__ == "__main__":
+    unittest.main()
