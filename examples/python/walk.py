@@ -1,0 +1,29 @@
+"""Prints the files below a directory that pathspecs select, each ended by the byte 0.
+
+    walk.py [-v] DIRECTORY [SPEC...]
+
+With -v the last line on standard error says how many directories were opened.
+"""
+
+import os
+import sys
+
+from puneloviash import Pathspec, PathspecError
+
+
+def main(words):
+    verbose = words[:1] == [b"-v"]
+    top, *specs = words[verbose:]
+    with Pathspec(specs) as search:
+        walk = search.walk(top)
+        for path in walk:
+            sys.stdout.buffer.write(path + b"\0")
+    if verbose:
+        print(f"opened {walk.opened}", file=sys.stderr)
+
+
+if __name__ == "__main__":
+    try:
+        main([os.fsencode(word) for word in sys.argv[1:]])
+    except (PathspecError, OSError) as error:
+        sys.exit(f"walk: {error}")
