@@ -2,8 +2,10 @@
 #   make           prove, build and run the program once
 #   make quick     run the program before any proof
 #   make check     the gate: every proof, must-fail edit, test and program; two checks at a time, or RT_JOBS
-#   make install   the program and its manual page below PREFIX (and DESTDIR), and the library where it is built
+#   make install   the program and its manual page below PREFIX (and DESTDIR); the library and the crate for Rust over it where it
+#                  is built, and so the wheel for Python
 #   make library   prove and build the library for C, and compare its calls with the header's
+#   make bindings  build and test the packages for Rust and Python over the library
 #   make examples  build and run the callers of the library, and compare the walkers with git
 #   make dist      pack the program and the library: a tarball, Debian packages and their SHA-256 in out/dist
 #   make reproduce pack them in two clones of the last commit, and compare each file
@@ -12,16 +14,19 @@ BINDIR ?= $(PREFIX)/bin
 MANDIR ?= $(PREFIX)/share/man
 LIBDIR ?= $(PREFIX)/lib
 INCLUDEDIR ?= $(PREFIX)/include
+DATADIR ?= $(PREFIX)/share
 
 folder := crates/pathspec_select_cli
 program := $(folder)/out/pathspec_select_cli
 library := target/library
+# Where the wheel for Python is taken from.
+WHEELS ?= target/bindings
 # The number of the declarations, which names the shared library and stands in pathspec.pc.
 version = $(shell sed -n 's/^.define PS_VERSION //p' include/pathspec.h)
 # A folder as pathspec.pc names it: by its prefix, where it lies below it.
 below = $(1:$(PREFIX)/%=$${prefix}/%)
 
-.PHONY: all quick check install library examples dist reproduce
+.PHONY: all quick check install library bindings examples dist reproduce
 
 all:
 	cd $(folder) && rt run -- ':(glob)src/*.c' < stdin
@@ -38,8 +43,9 @@ install:
 	install $(program) $(DESTDIR)$(BINDIR)/pathspec-select
 	install -m 644 docs/pathspec-select.1 $(DESTDIR)$(MANDIR)/man1/pathspec-select.1
 	@if test -f $(library)/libpathspec.a; then $(MAKE) --no-print-directory install-library; fi
+	@if ls $(WHEELS)/puneloviash-*.whl > /dev/null 2>&1; then $(MAKE) --no-print-directory install-wheel; fi
 
-.PHONY: install-library
+.PHONY: install-library install-wheel
 install-library:
 	install -d $(DESTDIR)$(LIBDIR)/pkgconfig $(DESTDIR)$(INCLUDEDIR)
 	install -m 644 $(library)/libpathspec.a $(DESTDIR)$(LIBDIR)/libpathspec.a
@@ -48,9 +54,19 @@ install-library:
 	sed 's|@PREFIX@|$(PREFIX)|; s|@LIBDIR@|$(call below,$(LIBDIR))|; s|@INCLUDEDIR@|$(call below,$(INCLUDEDIR))|; s|@VERSION@|$(version)|' \
 	    include/pathspec.pc.in > $(DESTDIR)$(LIBDIR)/pkgconfig/pathspec.pc
 	install -m 644 include/pathspec.h $(DESTDIR)$(INCLUDEDIR)/pathspec.h
+	cd bindings/rust && for file in *.* LICENSE-* src/* tests/*; do \
+	    install -D -m 644 $$file $(abspath $(DESTDIR)$(DATADIR))/puneloviash/rust/$$file || exit; \
+	done
+
+install-wheel:
+	install -d $(DESTDIR)$(DATADIR)/puneloviash
+	install -m 644 $(WHEELS)/puneloviash-*.whl $(DESTDIR)$(DATADIR)/puneloviash
 
 library:
 	bash examples/library
+
+bindings:
+	bash bindings/run
 
 examples:
 	bash examples/run
