@@ -7,7 +7,8 @@
 #   make library   prove and build the library for C, and compare its calls with the header's
 #   make bindings  build and test the packages for Rust and Python over the library
 #   make examples  build and run the callers of the library, and compare the walkers with git
-#   make dist      pack the program and the library: a tarball, Debian packages and their SHA-256 in out/dist
+#   make dist      pack the program, the library and the packages over it: a tarball, Debian packages, a wheel, a crate and their
+#                  SHA-256 in out/dist
 #   make reproduce pack them in two clones of the last commit, and compare each file
 PREFIX ?= /usr/local
 BINDIR ?= $(PREFIX)/bin

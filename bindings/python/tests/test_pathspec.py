@@ -230,7 +230,7 @@ class Faults(unittest.TestCase):
             ":(attr:a,attr:b)": FaultKind.SECOND_ATTRIBUTES,
             ":(prefix:9)a": FaultKind.INVALID_PREFIX,
             ":(attr:)a": FaultKind.EMPTY_ATTRIBUTES,
-            ":(attr:+)a": FaultKind.INVALID_NAME,
+            ":(attr:%)a": FaultKind.INVALID_NAME,
             ":(attr:a=%)a": FaultKind.INVALID_VALUE_BYTE,
             "/a": FaultKind.OUTSIDE_ROOT,
             "../a": FaultKind.LEAVES_REPOSITORY,

@@ -211,7 +211,7 @@ fn faults() {
         (":(attr:a,attr:b)", FaultKind::SecondAttributes),
         (":(prefix:9)a", FaultKind::InvalidPrefix),
         (":(attr:)a", FaultKind::EmptyAttributes),
-        (":(attr:+)a", FaultKind::InvalidName),
+        (":(attr:%)a", FaultKind::InvalidName),
         (":(attr:a=%)a", FaultKind::InvalidValueByte),
         ("/a", FaultKind::OutsideRoot),
         ("../a", FaultKind::LeavesRepository),
