@@ -12,7 +12,7 @@ TYPES = {
     "const uint8_t *": ctypes.c_char_p,
     "uint8_t *": ctypes.c_void_p,
     "ps_search *": ctypes.c_void_p,
-    "ps_match *": ctypes.c_void_p,
+    "ps_match *": ctypes.POINTER(_library.PsMatch),
     "ps_fault *": ctypes.POINTER(_library.PsFault),
     "size_t *": ctypes.POINTER(ctypes.c_size_t),
     "uint32_t *": ctypes.POINTER(ctypes.c_uint32),
@@ -47,7 +47,7 @@ class Declarations(unittest.TestCase):
         version = re.search(r"#define PS_VERSION (\d+)", self.header)
         self.assertEqual(_library.VERSION, int(version.group(1)))
         names = {name: int(number) for name, number in re.findall(r"PS_(\w+) = (\d+)", self.header)}
-        for name in "OK", "YES", "MEMORY", "PREFIX":
+        for name in "OK", "YES", "MEMORY", "PREFIX", "UNSETTLED", "NO_MEMORY":
             self.assertEqual(getattr(_library, name), names[name])
         for one in [*Defaults, *MatchKind]:
             self.assertEqual(one.value, names[one.name])

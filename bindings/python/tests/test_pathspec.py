@@ -348,6 +348,9 @@ class Lives(unittest.TestCase):
         self.assertIsNone(lost())
         self.assertFalse(finalizer.alive)
 
+    def test_the_package_has_types(self):
+        self.assertTrue(pathlib.Path(_library.__file__).with_name("py.typed").exists())
+
     def test_no_copies(self):
         search = Pathspec(["a"])
         for call in pickle.dumps, copy.copy, copy.deepcopy:

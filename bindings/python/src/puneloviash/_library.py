@@ -15,6 +15,9 @@ VERSION = 2
 # What calls answer, as the header names it.
 OK, YES, MEMORY, PREFIX = 0, 1, 3, 4
 
+# The kinds of a match that are no MatchKind.
+UNSETTLED, NO_MEMORY = 0, 5
+
 
 class PsSearch(ctypes.Structure):
     """A search, or none."""
@@ -90,8 +93,10 @@ free = _holding.ps_search_free
 free.argtypes, free.restype = [_search], None
 
 match = _holding.ps_search_match
-match.argtypes = [_search, *_bytes, ctypes.c_bool, ctypes.c_void_p]
+match.argtypes = [_search, *_bytes, ctypes.c_bool, ctypes.POINTER(PsMatch)]
 match.restype = _status
+selects = _holding.ps_search_selects
+selects.argtypes, selects.restype = [_search, *_bytes, ctypes.c_bool], _status
 may_skip = _holding.ps_search_may_skip
 may_skip.argtypes, may_skip.restype = [_search, *_bytes], _status
 can_match = _holding.ps_search_can_match

@@ -87,8 +87,7 @@ class Pathspec:
         root: Text = "",
         defaults: Defaults = _NO_DEFAULTS,
     ) -> None:
-        """Makes the search of specs that are given in the directory ``prefix`` of the repository at
-        ``root``.
+        """Makes the search of specs, given in ``prefix`` of the repository at ``root``.
 
         No specs select everything, or with a prefix what lies there. Only specs that are absolute
         paths need the root. The cost is linear in the bytes of all specs, and for each spec in the
@@ -114,12 +113,11 @@ class Pathspec:
         root: Text = "",
         defaults: Defaults = _NO_DEFAULTS,
     ) -> Pathspec:
-        """Makes the search of the specs on the lines of a text, as in a file of
-        --pathspec-from-file.
+        """Makes the search of the specs on the lines of a text.
 
-        A line feed ends a line, and the last may lack it; one carriage return before a line feed is
-        no part of the line. Nothing is trimmed or unquoted, and an empty line is at fault. The byte
-        0 is one like others.
+        They are as in a file of --pathspec-from-file: a line feed ends a line, and the last may
+        lack it; one carriage return before a line feed is no part of the line. Nothing is trimmed
+        or unquoted, and an empty line is at fault. The byte 0 is one like others.
 
         >>> Pathspec.from_lines("*.c\\n:!gen\\n").matches("gen/a.c")
         False
@@ -157,8 +155,7 @@ class Pathspec:
         # (a call of this thread may come between two of its own, as from a signal's handler, but
         # never into one)
         self._lock = threading.RLock()
-        self._found = _library.PsMatch()
-        self._found_at = ctypes.addressof(self._found)
+        self._has_attributes = False
         self._at: Optional[int] = ctypes.addressof(handle)
         self._finalizer = weakref.finalize(self, _free, handle)
         # (a daemon's thread may ask on while the interpreter ends)
@@ -188,10 +185,11 @@ class Pathspec:
         """
         text, is_dir = _path(path, is_dir)
         with self._lock:
-            selects: int = _library.match(self._open(), text, len(text), is_dir, self._found_at)
-            if self._found.kind == 5:
-                raise MemoryError
-        return selects != 0
+            at = self._open()
+            if not self._has_attributes:
+                return bool(_library.selects(at, text, len(text), is_dir))
+        found = self.settle(path, is_dir)
+        return found is not None and not found.is_excluded
 
     def filter(self, paths: Iterable[_Path], is_dir: bool = False) -> Iterator[_Path]:
         """Those of the paths that the search selects, as they come.
@@ -204,28 +202,27 @@ class Pathspec:
                 yield path
 
     def settle(self, path: Text, is_dir: bool = False) -> Optional[Match]:
-        """The spec that settles a path, if one does: the first that matches, of the excludes and
-        then of the includes.
+        """The spec that settles a path, if one does.
 
-        The path is selected where there is one and ``is_excluded`` is false.
+        It is the first that matches, of the excludes and then of the includes. The path is selected
+        where there is one and ``is_excluded`` is false.
 
         >>> Pathspec(["src", ":!*.o"]).settle("src/a.o")
         Match(number=1, kind=<MatchKind.WILDCARD: 3>, is_excluded=True)
         """
-        text, is_dir = _path(path, is_dir)
+        (text, is_dir), found = _path(path, is_dir), _library.PsMatch()
         with self._lock:
-            found = self._found
-            _library.match(self._open(), text, len(text), is_dir, self._found_at)
-            number, kind, is_excluded = found.number, found.kind, found.is_excluded
-        if kind == 0:
+            _library.match(self._open(), text, len(text), is_dir, found)
+        if found.kind == _library.UNSETTLED:
             return None
-        if kind == 5:
+        if found.kind == _library.NO_MEMORY:
             raise MemoryError
-        return Match(number, MatchKind(kind), is_excluded != 0)
+        return Match(found.number, MatchKind(found.kind), found.is_excluded != 0)
 
     def may_skip(self, directory: Text) -> bool:
-        """Whether a walk may skip a directory, since nothing below it is selected, whatever
-        attributes paths have.
+        """Whether a walk may skip a directory.
+
+        Then nothing below it is selected, whatever attributes paths have.
 
         >>> search = Pathspec(["src/*.rs", ":!src/gen"])
         >>> [search.may_skip(name) for name in ("docs", "src", "src/gen")]
@@ -261,6 +258,7 @@ class Pathspec:
         given, fault = os.fsencode(attributes), _library.PsFault()
         with self._lock:
             status = _library.assign(self._open(), text, len(text), given, len(given), fault)
+            self._has_attributes = self._has_attributes or status == _library.OK
         if status == _library.MEMORY:
             raise MemoryError
         if status != _library.OK:
@@ -270,8 +268,9 @@ class Pathspec:
 
     @property
     def common_prefix(self) -> str:
-        """What all selected paths begin with, but for the empty path. It may end within a name, and
-        may be empty.
+        """What all selected paths begin with, but for the empty path.
+
+        It may end within a name, and may be empty.
 
         >>> Pathspec(["src/lib", "src/list"]).common_prefix
         'src/li'
@@ -280,10 +279,10 @@ class Pathspec:
 
     @property
     def longest_common_directory(self) -> Optional[str]:
-        """The directory at or below which all selected paths lie, as long as the includes' common
-        prefix tells one.
+        """The directory at or below which all selected paths lie.
 
-        There is none where there is no include, and where it is the top.
+        It is told as long as the includes' common prefix tells one. There is none where there is no
+        include, and where it is the top.
         """
         return self._text(_library.longest_common_directory)
 
@@ -321,10 +320,9 @@ class Pathspec:
         root: Any = ".",
         on_error: Optional[Callable[[OSError], object]] = None,
     ) -> Walk[Any]:
-        """The selected files below a directory, the repository's top, by their paths from there, in
-        no order.
+        """The selected files below a directory, the repository's top.
 
-        They are bytes where the root is. Symbolic links count as files and aren't followed. What is
+        They are told by their paths from there, in no order, as bytes where the root is. Symbolic links count as files and aren't followed. What is
         called ``.git`` is left out, and so is what is neither a file nor a link. No directory is
         entered that may be skipped.
 
