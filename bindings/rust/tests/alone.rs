@@ -99,7 +99,7 @@ fn refuse_in_making() -> isize {
         let before = LIVE.load(Relaxed);
         let (made, was_refused) = refusing(number, make);
         match made {
-            Ok((_, matcher)) => {
+            Ok((_other, matcher)) => {
                 assert!(!was_refused);
                 refuse_in_matching(&matcher);
             }

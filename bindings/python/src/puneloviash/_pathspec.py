@@ -322,9 +322,9 @@ class Pathspec:
     ) -> Walk[Any]:
         """The selected files below a directory, the repository's top.
 
-        They are told by their paths from there, in no order, as bytes where the root is. Symbolic links count as files and aren't followed. What is
-        called ``.git`` is left out, and so is what is neither a file nor a link. No directory is
-        entered that may be skipped.
+        Their paths go from there, in no order; they are bytes where the root is. Symbolic links
+        count as files and aren't followed. What is called ``.git`` is left out, and so is what is
+        neither a file nor a link. No directory is entered that may be skipped.
 
         Where a directory can't be read, OSError is raised; or it is given to ``on_error``, and the
         walk goes on.
