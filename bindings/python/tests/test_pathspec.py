@@ -283,7 +283,9 @@ class Faults(unittest.TestCase):
             self.assertTrue(search.matches(path))
             self.assertTrue(search.matches(os.fsdecode(path)))
             self.assertFalse(search.matches("xy"))
-            self.assertEqual(os.fsencode(search.common_prefix), path)
+            # (it ends at a wildcard byte, also where that stands for itself)
+            prefix = path[:1] if byte in b"*?[\\" else path
+            self.assertEqual(os.fsencode(search.common_prefix), prefix)
         self.assertTrue(Pathspec(["\udcff*"]).matches(b"\xff\xfe"))
         self.assertTrue(Pathspec([b"\xff*"]).matches("\udcff\udcfe"))
         with self.assertRaises(UnicodeEncodeError):
