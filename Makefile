@@ -55,9 +55,10 @@ install-library:
 	sed 's|@PREFIX@|$(PREFIX)|; s|@LIBDIR@|$(call below,$(LIBDIR))|; s|@INCLUDEDIR@|$(call below,$(INCLUDEDIR))|; s|@VERSION@|$(version)|' \
 	    include/pathspec.pc.in > $(DESTDIR)$(LIBDIR)/pkgconfig/pathspec.pc
 	install -m 644 include/pathspec.h $(DESTDIR)$(INCLUDEDIR)/pathspec.h
-	cd bindings/rust && for file in *.* LICENSE-* src/* tests/*; do \
+	cd bindings/rust && for file in *.* src/* tests/*; do \
 	    install -D -m 644 $$file $(abspath $(DESTDIR)$(DATADIR))/puneloviash/rust/$$file || exit; \
 	done
+	install -m 644 LICENSE-APACHE LICENSE-MIT $(DESTDIR)$(DATADIR)/puneloviash/rust
 
 install-wheel:
 	install -d $(DESTDIR)$(DATADIR)/puneloviash
