@@ -2,7 +2,7 @@
 
     peers.py LISTING ROUNDS SPEC... -- GLOB... -- LINE... --
 
-One line: nanoseconds a path of both, the least of the rounds. It ends with 1 where the two select different numbers of paths.
+One line: nanoseconds of the processor a path of both, the least of the rounds. It ends with 1 where the two select different numbers.
 bench/bindings runs it; the globs are for its sibling in Rust.
 """
 import sys
@@ -14,9 +14,9 @@ import puneloviash
 
 def timed(paths, call):
     """How many paths a call selects, and nanoseconds a path."""
-    start = time.perf_counter_ns()
+    start = time.process_time_ns()
     selected = sum(1 for _ in call(paths))
-    return selected, (time.perf_counter_ns() - start) / len(paths)
+    return selected, (time.process_time_ns() - start) / len(paths)
 
 
 def main(listing, rounds, *words):
