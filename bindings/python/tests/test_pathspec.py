@@ -103,7 +103,7 @@ class Answers(unittest.TestCase):
         self.assertEqual(list(search.filter([])), [])
         many = [f"{number}.{'co'[number % 2]}" for number in range(10_000)]
         self.assertEqual(list(search.filter(iter(many))), many[::2])
-        # It takes no more of them than it is asked for.
+        # It takes no more of them than its caller does.
         paths = iter(["a.c", "b.c", "c.c"])
         self.assertEqual(next(search.filter(paths)), "a.c")
 

@@ -138,7 +138,7 @@ impl fmt::Debug for Matcher {
 /// The spec that settles a path.
 #[derive(Clone, Copy, Debug, PartialEq, Eq, Hash)]
 pub struct Match {
-    /// Its place in the list, from 0. It is 0, too, where no spec is told of: see [`MatchKind`].
+    /// Its place in the list, from 0. It is 0, too, where no spec decides: see [`MatchKind`].
     pub number: usize,
     /// How it came to match.
     pub kind: MatchKind,

@@ -9,8 +9,7 @@ use std::os::unix::ffi::OsStringExt;
 use std::path::PathBuf;
 use std::sync::{Mutex, MutexGuard, PoisonError};
 
-/// A search: specs that match together. It is asked through a [`Matcher`], which each thread takes
-/// of it.
+/// A search: specs that match together. A [`Matcher`] asks it, and each thread takes one of its own.
 ///
 /// ```
 /// # fn main() -> Result<(), puneloviash::Error> {

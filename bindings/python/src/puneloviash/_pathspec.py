@@ -59,7 +59,7 @@ class Match(NamedTuple):
 
 
 class Pathspec:
-    """A search of specs, that is asked about paths.
+    """A search of specs, which answers questions about paths.
 
     A path is relative to the top of the repository, and has names between single slashes:
     ``src/lib.rs``, not ``./src/lib.rs``. The empty path is the top, which any search selects. A
@@ -281,8 +281,8 @@ class Pathspec:
     def longest_common_directory(self) -> Optional[str]:
         """The directory at or below which all selected paths lie.
 
-        It is told as long as the includes' common prefix tells one. There is none where there is no
-        include, and where it is the top.
+        The includes' common prefix tells it. There is none where there is no include, and where it
+        is the top.
         """
         return self._text(_library.longest_common_directory)
 
