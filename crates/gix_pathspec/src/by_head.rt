@@ -18,10 +18,10 @@ ghost use Rattle.gix_pathspec.specs.Effort.{ArePlacesOf, candidate_count, IsCoun
 pub(crate) mod subtree_excludes;
 
 use crate::search::MatchKind;
-use crate::search::counted::{CountedSpecs, SpecScratch};
+use crate::search::counted::{CountedHeads, CountedSpecs, SpecScratch};
 use crate::search::spec_matching::begins_with;
 use bstr::BStr;
-use pathspec_heads::places::{CompareScratch, LongestHead, PlacesByHead};
+use pathspec_heads::places::{CompareScratch, LongestHead};
 use pathspec_heads::tables::StemScratch;
 use pathspec_parts::attributes::LookUp;
 use std::fmt;
@@ -149,7 +149,7 @@ impl Scratch {
 pub(crate) struct SpecsByHead {
     specs: CountedSpecs,
     /// The places of the specs in search order, by their heads.
-    heads: Box<PlacesByHead>,
+    heads: Box<CountedHeads>,
     common_prefix: Vec<u8>,
 }
 
@@ -172,7 +172,7 @@ impl SpecsByHead {
     ghost use Rattle.gix_pathspec.specs.Search.{answer};
 
     /// Puts specs together with their places and their common prefix.
-    pub(crate) fn new(specs: CountedSpecs, heads: Box<PlacesByHead>, common: Vec<u8>) -> SpecsByHead
+    pub(crate) fn new(specs: CountedSpecs, heads: Box<CountedHeads>, common: Vec<u8>) -> SpecsByHead
         requires places { ArePlacesOf specs (box_value heads) }
         requires common { common.items ≡ common_prefix (specs_of specs) }
         ensures { result ≡ specs }
@@ -206,7 +206,7 @@ impl SpecsByHead {
     }
 
     /// The heads of the specs. A scratch counts each comparison of one with a path.
-    pub(crate) fn heads(&self) -> &PlacesByHead
+    pub(crate) fn heads(&self) -> &CountedHeads
         ensures { ArePlacesOf self.now result.now }
     {
         &self.heads
@@ -272,7 +272,7 @@ impl SpecsByHead {
 /// head that begins the path.
 fn first_match<L: LookUp>(
     specs: &CountedSpecs,
-    heads: &PlacesByHead,
+    heads: &CountedHeads,
     scratch: &mut Scratch,
     path: BStr<'_>,
     is_dir: bool,
@@ -314,7 +314,7 @@ fn first_match<L: LookUp>(
 /// asked.
 fn first_candidate<L: LookUp>(
     specs: &CountedSpecs,
-    heads: &PlacesByHead,
+    heads: &CountedHeads,
     head: usize,
     scratch: &mut SpecScratch,
     tested: &mut usize,

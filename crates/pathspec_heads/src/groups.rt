@@ -38,9 +38,8 @@ impl Groups {
             self.old.order.items self.new.heads self.new.starts.items self.new.order.items
             head.now place) }
     {
-        if !self.heads.ends_with(head) {
+        if self.heads.push_new(head)? {
             self.starts.push(self.order.len())?;
-            self.heads.push(head)?;
         }
         self.order.push(place)?;
         Ok(())

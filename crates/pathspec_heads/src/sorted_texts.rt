@@ -1,5 +1,5 @@
 //! Different texts in byte order. A comparison of one with a probe is counted in a scratch.
-ghost use Rattle.std.specs.Prelude.{◌≡◌, ℕ, ◌+◌, ◌++◌, ◌∷◌, [], ◌<◌, ◌≤◌, length, IfOk};
+ghost use Rattle.std.specs.Prelude.{◌≡◌, ℕ, ◌+◌, ◌++◌, ◌∷◌, [], ◌<◌, ◌≤◌, false, not, if◌then◌else◌, length, IfOk};
 ghost use Rattle.pathspec_glob.specs.Bytes.{is_empty};
 ghost use Rattle.pathspec_glob.specs.Counts.{Counts};
 ghost use Rattle.pathspec_heads.specs.Agreement.{agreement, IsComparison};
@@ -118,11 +118,29 @@ impl SortedTexts {
         }
     }
 
-    /// Adds a copy of a text that stands behind all others. The cost is linear in its bytes, on average.
+    /// Adds a copy of a text that stands behind all others, unless it is the last of them. Tells whether it was added. The
+    /// cost is linear in its bytes, on average.
     ///
     /// # Errors
     /// Memory runs out.
-    pub(crate) fn push(&mut self, text: &[u8]) -> Result<(), AllocError>
+    pub(crate) fn push_new(&mut self, text: &[u8]) -> Result<bool, AllocError>
+        requires { ends_with_head self.old text.now ≡ false → IsRising (self.old ++ text.now ∷ []) }
+        ensures added { IfOk result (λ added. added ≡ not (ends_with_head self.old text.now)) }
+        ensures texts { IfOk result (λ added.
+            self.new ≡ (if added then self.old ++ text.now ∷ [] else self.old)) }
+    {
+        if self.ends_with(text) {
+            return Ok(false);
+        }
+        self.push(text)?;
+        Ok(true)
+    }
+
+    /// Adds a copy of a text that stands behind all others.
+    ///
+    /// # Errors
+    /// Memory runs out.
+    fn push(&mut self, text: &[u8]) -> Result<(), AllocError>
         requires { IsRising (self.old ++ text.now ∷ []) }
         ensures { IfOk result (λ _. self.new ≡ self.old ++ text.now ∷ []) }
     {
@@ -156,8 +174,8 @@ impl SortedTexts {
         (shared, self.front_of(last, shared))
     }
 
-    /// Whether the last of the texts is the given one.
-    pub(crate) fn ends_with(&self, text: &[u8]) -> bool
+    /// Whether the last of the texts is the given one. No search can ask this, since no scratch counts it.
+    fn ends_with(&self, text: &[u8]) -> bool
         ensures { result ≡ ends_with_head self.now text.now }
     {
         let count = self.len();

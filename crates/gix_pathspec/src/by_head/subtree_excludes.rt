@@ -10,16 +10,15 @@ ghost use Rattle.gix_pathspec.specs.Room.{tokens_of};
 ghost use Rattle.gix_pathspec.specs.SubtreeExcludes.{AreExcludePlaces, IsExcludeCounted, covers, subtree_exclude_count};
 
 use crate::by_head::Scratch;
-use crate::search::counted::{CountedExcludes, SpecScratch};
+use crate::search::counted::{CountedExcludes, CountedHeads, SpecScratch};
 use bstr::BStr;
-use pathspec_heads::places::PlacesByHead;
 use std::marker::Model;
 
 /// Subtree excludes with their places by their heads. No question writes to them.
 #[derive(Drop)]
 pub(crate) struct ExcludesByHead {
     excludes: CountedExcludes,
-    heads: Box<PlacesByHead>,
+    heads: Box<CountedHeads>,
 }
 
 impl Model for ExcludesByHead {
@@ -37,7 +36,7 @@ impl Model for ExcludesByHead {
 
 impl ExcludesByHead {
     /// Puts excludes together with their places.
-    pub(crate) fn new(excludes: CountedExcludes, heads: Box<PlacesByHead>) -> ExcludesByHead
+    pub(crate) fn new(excludes: CountedExcludes, heads: Box<CountedHeads>) -> ExcludesByHead
         requires { AreExcludePlaces excludes (box_value heads) }
         ensures { result ≡ excludes }
     {
@@ -55,7 +54,7 @@ impl ExcludesByHead {
         ensures counted { IsExcludeCounted self.now (bstr_bytes directory.entry)
             scratch.old.counts scratch.new.counts }
     {
-        let heads: &PlacesByHead = &self.heads;
+        let heads: &CountedHeads = &self.heads;
         let longest = heads.longest_head_of(directory.as_bytes(), &mut scratch.heads);
         scratch.effort.compared = longest.compared;
         match longest.head {
@@ -77,7 +76,7 @@ impl ExcludesByHead {
 /// Whether an exclude covers the directory, of those whose head begins the head with this number. `tested` counts those asked.
 fn candidate_covers(
     excludes: &CountedExcludes,
-    heads: &PlacesByHead,
+    heads: &CountedHeads,
     head: usize,
     scratch: &mut SpecScratch,
     tested: &mut usize,

@@ -1,7 +1,7 @@
-//! Specs and excludes that a match can only ask, so that a scratch counts each question.
+//! Specs, excludes and heads that a match can only ask, so that a scratch counts each question.
 //!
-//! A match stands outside of the module `search`. It sees specs by these types alone, and heads by `PlacesByHead`. It can't
-//! make a scratch, so the one that it borrows counts all that it asks and compares.
+//! A match stands outside of the module `search`, and sees specs and heads by these types alone. It can't make a scratch, so the
+//! one that it borrows counts all that it asks and compares.
 ghost use Rattle.std.specs.Prelude.{◌≡◌, ◌↔◌, ◌+◌, ◌<◌, ◌≤◌, length, map, All, IsTrue, IfOk, OnOk, OnErr};
 ghost use Rattle.bstr.specs.BStr.{bstr_bytes};
 ghost use Rattle.pathspec_parts.specs.Attributes.{AsksLookUp};
@@ -14,6 +14,7 @@ use crate::search::MatchKind;
 use crate::search::spec::CompiledSpec;
 use crate::search::subtree_excludes::SubtreeExclude;
 use bstr::BStr;
+use pathspec_heads::places::{CompareScratch, LongestHead, PlacesByHead};
 use pathspec_parts::attributes::{LookUp, Outcome};
 use pathspec_parts::glob;
 use std::alloc::{AllocError, Global};
@@ -47,6 +48,20 @@ impl Model for CountedExcludes {
     ghost Value = { List Spec };
 
     ghost view = { λ t. t.all.items };
+}
+
+/// Heads, and the places that have them. A match can only search the heads, and a scratch counts each comparison of one.
+#[derive(Drop)]
+pub(crate) struct CountedHeads {
+    all: PlacesByHead,
+}
+
+impl Model for CountedHeads {
+    ghost use Rattle.pathspec_heads.specs.Groups.{GroupedPlaces};
+
+    ghost Value = { GroupedPlaces };
+
+    ghost view = { λ h. h.all };
 }
 
 /// The room that questions to specs write: that of their globs, an outcome for each spec, and a count that is never set back.
@@ -166,6 +181,48 @@ impl CountedExcludes {
     {
         scratch.tested = scratch.tested.wrapping_add(1);
         self.all[place].covers(directory, &mut scratch.globs)
+    }
+}
+
+impl CountedHeads {
+    ghost use Rattle.std.specs.Prelude.{ℕ, ◌^◌, IfSome};
+    ghost use Rattle.pathspec_heads.specs.Heads.{IsLastFront, IsChainOf};
+    ghost use Rattle.pathspec_heads.specs.Groups.{IsInChain, IsLeastFrom};
+
+    /// Wraps heads and places, so that a scratch counts each comparison.
+    pub(super) fn new(all: PlacesByHead) -> CountedHeads
+        ensures { result ≡ all }
+    {
+        CountedHeads { all }
+    }
+
+    /// Makes a scratch for searches for the heads, as [`PlacesByHead::new_scratch`] does. A match can't call this.
+    pub(super) fn new_scratch(&self) -> CompareScratch
+        ensures { result ≡ 0 }
+    {
+        self.all.new_scratch()
+    }
+
+    /// The longest head that begins the text, as [`PlacesByHead::longest_head_of`] says.
+    #[inline(always)]
+    pub(crate) fn longest_head_of(&self, text: &[u8], scratch: &mut CompareScratch) -> LongestHead
+        ensures found { IsLastFront self.now.heads (length self.now.heads) text.now result.head }
+        ensures chain { IfSome result.head (λ j. IsChainOf self.now.heads text.now j) }
+        ensures counted { Counts scratch.old result.compared scratch.new }
+        ensures cost { (b : ℕ) → length self.now.heads < 2 ^ b → result.compared ≤ b + 2 }
+        ensures asked { 0 < length self.now.heads → 1 ≤ result.compared }
+    {
+        self.all.longest_head_of(text, scratch)
+    }
+
+    /// The least place from `from` on whose head is the given one or begins it.
+    #[inline(always)]
+    pub(crate) fn next_place(&self, head: usize, from: usize) -> Option<usize>
+        requires { head < length self.now.heads }
+        ensures { IsLeastFrom (IsInChain self.now.heads self.now.starts self.now.order head)
+            from result }
+    {
+        self.all.next_place(head, from)
     }
 }
 

@@ -6,6 +6,7 @@ ghost use Rattle.std.specs.Box.{box_value};
 ghost use Rattle.bstr.specs.BStr.{bstr_bytes};
 ghost use Rattle.bstr.specs.Owned.{bstring_bytes};
 ghost use Rattle.pathspec_parts.specs.Paths.{is_clean_prefix};
+ghost use Rattle.pathspec_heads.specs.Groups.{IsGrouped};
 ghost use Rattle.gix_pathspec.specs.Errors.{IsMemory};
 ghost use Rattle.gix_pathspec.specs.Patterns.{pattern_spec};
 ghost use Rattle.gix_pathspec.specs.NormalForm.{NormalFormIsNormal};
@@ -23,7 +24,7 @@ ghost use Rattle.gix_pathspec.specs.Lines.{numbered_of_lines, search_of_lines};
 use crate::by_head::SpecsByHead;
 use crate::by_head::subtree_excludes::ExcludesByHead;
 use crate::search::compiling::{compile, compile_all, compile_lines};
-use crate::search::counted::{CountedExcludes, CountedSpecs};
+use crate::search::counted::{CountedExcludes, CountedHeads, CountedSpecs};
 use crate::search::matching::boxed_scratch;
 use crate::search::reach::Reach;
 use crate::search::spec::CompiledSpec;
@@ -297,16 +298,25 @@ fn excludes_by_head(alloc: Global, specs: &[CompiledSpec]) -> Result<ExcludesByH
     ensures { IfOk result (λ excludes. excludes ≡ subtree_excludes_of (specs_of specs.now)) }
 {
     let (excludes, heads) = excludes_with_heads(alloc, specs)?;
-    let heads = Box::new(alloc, PlacesByHead::new(alloc, &heads)?)?;
+    let heads = boxed_heads(alloc, &heads)?;
     Ok(ExcludesByHead::new(CountedExcludes::new(excludes), heads))
 }
 
 /// The places of specs by their heads.
-fn places_by_head(alloc: Global, specs: &[CompiledSpec]) -> Result<Box<PlacesByHead>, AllocError>
+fn places_by_head(alloc: Global, specs: &[CompiledSpec]) -> Result<Box<CountedHeads>, AllocError>
     ensures { IfOk result (λ places. ArePlacesOf specs.now (box_value places)) }
 {
     let heads = heads_in_order(alloc, specs)?;
-    Ok(Box::new(alloc, PlacesByHead::new(alloc, &heads)?)?)
+    boxed_heads(alloc, &heads)
+}
+
+/// Heads with their places, in a box.
+fn boxed_heads(alloc: Global, heads: &[&[u8]]) -> Result<Box<CountedHeads>, AllocError>
+    ensures { IfOk result (λ places. IsGrouped (map (λ head. head.now) heads.now)
+        (box_value places).heads (box_value places).starts (box_value places).order) }
+{
+    let places = CountedHeads::new(PlacesByHead::new(alloc, heads)?);
+    Ok(Box::new(alloc, places)?)
 }
 
 /// The heads of specs in their order.
