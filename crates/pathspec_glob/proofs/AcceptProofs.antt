@@ -47,7 +47,7 @@ byte-cases : (e s w k p m st mt mo : Bool)
     ≡ (((((e || s) && k) && w) && st) || (((((e || s) && k) && not w) && mt) || ((((e || s) && w) && m) || ((e && p) && mo))))
 byte-cases e s w k p m st mt mo = grind (arith, or-false)
 
-drop-one : {X : Type 0} (xs : List X) (n : ℕ) → drop 1 (drop n xs) ≡ drop (suc n) xs
+pub drop-one : {X : Type 0} (xs : List X) (n : ℕ) → drop 1 (drop n xs) ≡ drop (suc n) xs
 drop-one xs zero = refl
 drop-one [] (suc n) = refl
 drop-one (x ∷ xs) (suc n) = drop-one xs n

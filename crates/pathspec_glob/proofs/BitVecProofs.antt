@@ -127,3 +127,13 @@ put-word-other words states index i word other = elim (cases_lt i states) [
       get_or_past (bits_of (set words index word) states) i false (omega (arith, g, length-bits_of (set words index word) states))
       ∙ sym (get_or_past (bits_of words states) i false (omega (arith, g, length-bits_of words states)))
 ]
+
+-- Where all words are 0, no place is held.
+pub none-stands : (words : List ℕ) (states : ℕ) → ((k : ℕ) → k < length words → get_or words k 0 ≡ 0) → (i : ℕ) → holds (bits_of words states) i ≡ false
+none-stands words states none i = elim (cases_lt i states) [
+  | inl l ↦ bits_of-holds words states i l ∙ none-held words i (elim (cases_lt (i / 64) (length words)) [
+    | inl low ↦ none (i / 64) low
+    | inr past ↦ get_or_past words (i / 64) 0 past
+  ])
+  | inr g ↦ get_or_past (bits_of words states) i false (omega (arith, g, length-bits_of words states))
+]

@@ -1,5 +1,5 @@
 //! Vectors of truth values, one bit each.
-ghost use Rattle.std.specs.Prelude.{◌≡◌, ℕ, suc, ◌<◌, ◌+◌, ◌*◌, ◌≤◌, ◌==◌, if◌then◌else◌, ◌^◌, IfOk, OnOk, length, take, set, replicate, drop, false, ◌++◌};
+ghost use Rattle.std.specs.Prelude.{◌≡◌, ℕ, suc, ◌<◌, ◌+◌, ◌*◌, ◌≤◌, ◌==◌, if◌then◌else◌, ◌^◌, IfOk, IsTrue, EachIndex, slice_index, OnOk, length, take, set, replicate, drop, false, ◌++◌};
 ghost use Rattle.pathspec_glob.specs.GlobCells.{has};
 ghost use Rattle.pathspec_glob.specs.BitVecs.{holds};
 
@@ -88,6 +88,52 @@ impl BitVec {
         self.words[place / 64] = word;
     }
 
+    /// Whether another vector has the same values. One that has may be said not to have, where its words differ behind them.
+    pub fn is_same(&self, other: &BitVec) -> bool
+        ensures { IsTrue result → self.now ≡ other.now }
+    {
+        self.len == other.len && self.words == other.words
+    }
+
+    /// Whether all values are false. Where words hold more behind them, the answer may be no.
+    pub fn holds_none(&self) -> bool
+        ensures { IsTrue result → (i : ℕ) → holds self.now i ≡ false }
+    {
+        is_zero(&self.words)
+    }
+
+    /// A number that vectors with the same words share.
+    pub fn digest(&self) -> u64 {
+        let mut digest = 0u64;
+        for word in &self.words {
+            digest = (digest ^ *word)
+                .wrapping_mul(0x9E37_79B9_7F4A_7C15)
+                .rotate_left(29);
+        }
+        digest ^ (digest >> 32)
+    }
+
+    /// Makes the values those of another vector.
+    pub fn copy_from(&mut self, other: &BitVec)
+        requires { length other.now ≡ length self.old }
+        ensures { self.new ≡ other.now }
+    {
+        self.words.copy_from_slice(&other.words);
+    }
+
+    /// Copies the vector.
+    ///
+    /// # Errors
+    /// Memory runs out.
+    pub fn copy(&self, alloc: Global) -> Result<BitVec, AllocError>
+        ensures { IfOk result (λ copy. copy ≡ self.now) }
+    {
+        Ok(BitVec {
+            words: Vec::from_slice(alloc, &self.words)?,
+            len: self.len,
+        })
+    }
+
     /// Sets the first `count` values to false, and perhaps others behind them.
     pub fn leave(&mut self, count: usize)
         requires { count ≤ length self.old }
@@ -96,6 +142,13 @@ impl BitVec {
     {
         clear(&mut self.words, count / 64 + 1);
     }
+}
+
+/// Whether all words are 0.
+fn is_zero(words: &[u64]) -> bool
+    ensures { IsTrue result → EachIndex words.now (λ k. slice_index words.now k ≡ 0) }
+{
+    words.iter().all(|word| *word == 0)
 }
 
 /// The word with the bit at a place set or not, as `value` says.

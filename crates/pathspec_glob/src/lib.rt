@@ -22,10 +22,11 @@ mod state_set;
 mod tokens;
 mod wildcards;
 
+pub use bit_vec::BitVec;
 pub use directory_glob::DirectoryGlob;
 pub use matcher::Glob;
 pub use scratch::Scratch;
-pub use tokens::is_same_byte;
+pub use tokens::{Tokens, is_same_byte};
 pub use wildcards::is_wildcard;
 
 /// The rule for what the wildcards of a glob may take.

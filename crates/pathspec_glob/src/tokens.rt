@@ -169,7 +169,7 @@ impl Tokens {
     }
 
     /// Whether the token at a place takes a byte, alone or with others.
-    fn takes(&self, place: usize, byte: u8, case: Case) -> bool
+    pub fn takes(&self, place: usize, byte: u8, case: Case) -> bool
         requires { place < length self.now.tokens }
         ensures { result ≡ token_takes self.now case place byte }
     {
