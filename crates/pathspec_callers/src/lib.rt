@@ -1,6 +1,7 @@
 //! Callers of the library crates, which the `CALLING.md` of each shows.
 #![tactic(auto)]
 
+pub mod attribute_files;
 pub mod attributes;
 pub mod filter;
 pub mod glob;

@@ -1,0 +1,13 @@
+pub mod LineProofs
+pub mod WordProofs
+pub mod QuotingProofs
+mod ReadingRows
+pub mod RuleProofs
+pub mod DecidingProofs
+pub mod AskingProofs
+pub mod FileProofs
+pub mod PathProofs
+mod FileRows
+pub mod DirectoryProofs
+pub mod AnswerProofs
+pub mod LawProofs

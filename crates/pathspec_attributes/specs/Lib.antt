@@ -1,0 +1,9 @@
+pub mod Lines
+pub mod Quoting
+pub mod Rules
+pub mod Readings
+pub mod Deciding
+pub mod Files
+pub mod Places
+pub mod Views
+pub mod Laws

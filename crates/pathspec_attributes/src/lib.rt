@@ -1,0 +1,20 @@
+//! Attribute files (gitattributes), read as git reads them, as a look-up of attributes.
+#![tactic(auto)]
+
+mod asking;
+mod assignments;
+mod attribute_files;
+mod deciding;
+mod file;
+mod lines;
+mod paths;
+mod place;
+mod quoting;
+mod reading;
+mod reasons;
+mod rule;
+
+pub use attribute_files::AttributeFiles;
+pub use place::Place;
+pub use quoting::unquote;
+pub use reasons::{LeftOut, Reason};
