@@ -7,7 +7,7 @@ ghost use Rattle.pathspec_parts.specs.Outputs.{output_where};
 
 use gix_pathspec::Search;
 use gix_pathspec::attributes::LookUp;
-use pathspec_filter::{FilterError, LeadingDot, filter};
+use pathspec_filter::{FilterError, LeadingDot, Selection, filter};
 use std::alloc::Global;
 
 /// The lines of a listing that a search selects.
@@ -29,7 +29,10 @@ pub fn selected_lines<L: LookUp>(
         alloc,
         search,
         b'\n',
-        LeadingDot::Kept,
+        Selection {
+            leading_dot: LeadingDot::Kept,
+            is_inverted: false,
+        },
         &mut reader,
         &mut lines,
         look_up,

@@ -171,7 +171,7 @@ module _ (takes : List ℕ → Bool → Bool) (separator : ℕ) (known : Option 
   -- before anything was read
   pub ends-none : (old : Option (List ℕ)) → IfSome known (EndsEarly takes separator old old)
   ends-none old =
-      let counts : Counts = record { records = 0; selected = 0 } in
+      let counts : Counts = record { records = 0; selected = 0; skipped = 0 } in
       ends-early takes separator old old known [] (begins-consumed takes separator known known [] (consumes-none known)) (stopped-none takes separator old counts [])
 
   pub filtered-start : (old : Option (List ℕ)) (chunk : List ℕ) (counts : Counts) (room : ℕ) → chunk ≡ [] → counts.records ≡ 0 → counts.selected ≡ 0 → room ≡ 2 ^ 64 - 2 → IsFiltered takes separator known known old old chunk counts room
@@ -287,3 +287,9 @@ pub moved-taking : {F : Type 0} (table others : Table) (asked first : Asked) (se
 moved-taking table others asked first separator other bytes left old new before after r t n s h =
     subst (λ (x : Table). EndsTaking (is_taken x asked) separator bytes left old new before after r) t
     (subst (λ (x : Asked). EndsTaking (is_taken others x) separator bytes left old new before after r) n (subst (λ (x : ℕ). EndsTaking (is_taken others first) x bytes left old new before after r) s h))
+
+-- of counts, only those of records and of selected ones matter
+pub well-counted : (takes : List ℕ → Bool → Bool) (separator : ℕ) (known old new : Option (List ℕ)) (counts others : Counts) → others.records ≡ counts.records → others.selected ≡ counts.selected
+    → IfSome known (EndsWell takes separator old new counts) → IfSome known (EndsWell takes separator old new others)
+well-counted takes separator None old new counts others r s h = h
+well-counted takes separator (Some input) old new counts others r s h = record { good = h.good; written = h.written; counted = record { records = r ∙ h.counted.records; selected = s ∙ h.counted.selected } }

@@ -272,14 +272,6 @@ module _ (takes : List ℕ → Bool → Bool) (separator : ℕ) where
         let some = ap length p.behind.first.whole in
         omega (arith, few, some, length-append p.behind.text (separator ∷ p.behind.first.behind), length-drop count bytes, length-take-le count bytes p.inside, p.inside)
 
-  -- a stop at any record
-  pub ends-stopped : {F : Type 0} (bytes left : List ℕ) (old new : Option (List ℕ)) (before after : Counts) (e : FilterError F) → IsEarly e → HasStopped takes separator bytes old new → EndsTaking {A = Unit {0}} takes separator bytes left old new before after (Err e)
-  ends-stopped bytes left old new before after error.Read early h = h
-  ends-stopped bytes left old new before after (error.Line number) early h = absurd early
-  ends-stopped bytes left old new before after (error.LookUp fault) early h = h
-  ends-stopped bytes left old new before after error.Memory early h = h
-  ends-stopped bytes left old new before after error.Write early h = h
-
   -- no bytes were taken, and nothing is left
   pub all-none : (old : Option (List ℕ)) (counts : Counts) (chunk : List ℕ) → chunk ≡ [] → HasTakenAll takes separator (with_end separator chunk) chunk old old counts counts
   all-none old counts [] e = record { taken = []; whole = refl; free = All-nil (λ b. (b == separator) ≡ false); done = taken-none old [] counts refl }
@@ -304,7 +296,7 @@ module _ (table others : Table) (choice other : Choice) (rest part : List ℕ) (
       subst (λ (y : Table). IsFound (chooses y choice) choice.separator (drop run rest) x) t
       (subst (λ (y : Choice). IsFound (chooses others y) y.separator (drop run rest) x) k (subst (λ (y : List ℕ). IsFound (chooses others other) other.separator y x) p h))
 
-  pub found-good : (r : Record) → x ≡ found.Record r → BeginsGood (chooses table choice) choice.separator (drop run rest) r.length r.is_selected
+  pub found-good : (r : Record) → x ≡ found.Record r → BeginsGood (chooses table choice) choice.separator (drop run rest) r.length r.is_taken
   found-good r e = subst (λ (y : Found). IsFound (chooses table choice) choice.separator (drop run rest) y) e moved
 
   pub found-none : x ≡ found.Partial → IsFreeOf choice.separator (drop run rest)

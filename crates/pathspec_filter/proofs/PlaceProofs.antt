@@ -15,7 +15,7 @@ use Rattle.pathspec_parts.specs.Records.{record_path, record_is_dir, is_bad, hol
 use Rattle.pathspec_parts.specs.RecordParts.{IsFreeOf, IsFirstRecord, BeginsWithFile}
 use Rattle.pathspec_parts.proofs.RecordProofs.{last_cases, ends_with_slash-push, without_last_slash-push, begins_with-slash}
 use Rattle.pathspec_parts.proofs.RecordPartProofs.{free_before}
-use Rattle.pathspec_filter.specs.Places.{Asked, is_taken, HoldsNoneChosen, IsSkippedAt, SharesFront, LiesIn, TakesNames, IsPlace}
+use Rattle.pathspec_filter.specs.Places.{Asked, is_chosen_in, is_taken, HoldsNoneChosen, IsSkippedAt, SharesFront, LiesIn, TakesNames, IsPlace}
 use Rattle.pathspec_filter.specs.Passes.{BeginsBad}
 use Rattle.pathspec_filter.specs.FoundRecords.{BeginsGood}
 
@@ -119,7 +119,7 @@ pub skipped-none : (asked : Asked) (directory : List ℕ) → IsSkippedAt asked 
 skipped-none asked directory some = absurd (some refl)
 
 -- nothing in a directory that is skipped is chosen
-pub skipped-chosen : (table : Table) (asked : Asked) (directory path : List ℕ) (n : ℕ) (is_dir : Bool) → IsSkippedAt asked directory n → n ≢ 0 → LiesIn directory path → is_taken table asked path is_dir ≡ false
+pub skipped-chosen : (table : Table) (asked : Asked) (directory path : List ℕ) (n : ℕ) (is_dir : Bool) → IsSkippedAt asked directory n → n ≢ 0 → LiesIn directory path → is_chosen_in table asked path is_dir ≡ false
 skipped-chosen table asked directory path n is_dir skipped some inside =
     let s = skipped some in
     let d = s.1 in
@@ -204,10 +204,6 @@ first-at separator rest n h =
           ap (λ b. b == separator) (get_or-take n rest k 0 less) ∙ false_from_ne_true _ (h.0.before k (omega arith) less));
     }
 
--- without one the bytes are free of it
-pub free-at : (separator : ℕ) (rest : List ℕ) → IsFirstByte (is_byte separator) rest None → IsFreeOf separator rest
-free-at separator rest h = All-from_get_or (λ b. (b == separator) ≡ false) rest 0 (λ k low. false_from_ne_true _ (h k (omega arith) low))
-
 -- a file right in the directory
 pub first-file : (separator : ℕ) (directory rest : List ℕ) (n : ℕ) → BeginsWithFile separator directory rest n → IsFirstRecord separator rest (take n rest)
 first-file separator directory rest n f =
@@ -236,12 +232,6 @@ found-file table asked separator directory rest n is_selected f names s =
       good = ap is_bad f.whole ∙ names f.name f.some f.no_slash;
       selected = s ∙ (ap (λ t. is_taken table asked t false) (sym path) ∙ ap (is_taken table asked (record_path (take n rest))) (sym kind));
     }
-
-pub file-some : (directory rest : List ℕ) (separator n : ℕ) → BeginsWithFile separator directory rest n → take n rest ≢ []
-file-some directory rest separator n f e =
-    let count = ap length (sym f.whole ∙ e) in
-    let none : length f.name ≡ 0 = omega (arith, count, length-append directory f.name) in
-    f.some (nil_from_length f.name none)
 
 -- any other good record
 pub found-record : (takes : List ℕ → Bool → Bool) (separator : ℕ) (rest : List ℕ) (n : ℕ) (is_selected : Bool) → IsFirstByte (is_byte separator) rest (Some n) → is_bad (take n rest) ≡ false

@@ -15,6 +15,6 @@ pub record BeginsGood (takes : List ℕ → Bool → Bool) (separator : ℕ) (re
 
 -- what stands first
 abbrev pub IsFound : (List ℕ → Bool → Bool) → ℕ → List ℕ → Found → Type 0
-IsFound takes separator rest (found.Record record_found) = BeginsGood takes separator rest record_found.length record_found.is_selected
+IsFound takes separator rest (found.Record record_found) = BeginsGood takes separator rest record_found.length record_found.is_taken
 IsFound takes separator rest found.Bad = BeginsBad separator rest
 IsFound takes separator rest found.Partial = IsFreeOf separator rest

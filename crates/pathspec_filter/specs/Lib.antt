@@ -4,7 +4,7 @@ pub use Rattle.gix_pathspec.specs.Attributes
 pub use Rattle.gix_pathspec.specs.Specs
 pub use Rattle.gix_pathspec.specs.Matching
 pub use Rattle.gix_pathspec.specs.Search
-pub mod LeadingDots
+pub mod Selections
 pub mod FilterAnswers
 pub mod Places
 pub mod Chunks

@@ -7,21 +7,25 @@ use Rattle.pathspec_parts.specs.Records.{is_bad}
 use Rattle.gix_pathspec.specs.Search.{Numbered, specs_of}
 use Rattle.gix_pathspec.specs.Matching.{is_chosen}
 use Rattle.pathspec_parts.specs.RecordParts.{IsFreeOf}
-use Rattle.pathspec_filter.specs.declared.leading_dot.LeadingDot.{LeadingDot}
-use Rattle.pathspec_filter.specs.LeadingDots.{takes_in}
+use Rattle.pathspec_filter.specs.declared.selection.Selection.{Selection}
+use Rattle.pathspec_filter.specs.Selections.{path_in, takes_in}
 
--- What is asked about paths: the specs, in search order, and whether a leading `./` is part of a path.
+-- What is asked about paths: the specs, in search order, and which records are taken.
 pub record Asked : Type 0 where
   pub specs : List Numbered
-  pub leading_dot : LeadingDot
+  pub selection : Selection
 
--- whether a path is chosen
+-- whether the path that a record has is chosen
+abbrev pub is_chosen_in : Table → Asked → List ℕ → Bool → Bool
+is_chosen_in table asked path is_dir = is_chosen table (specs_of asked.specs) (path_in asked.selection.leading_dot path) is_dir
+
+-- whether a record is taken
 abbrev pub is_taken : Table → Asked → List ℕ → Bool → Bool
-is_taken table asked = takes_in asked.leading_dot (is_chosen table (specs_of asked.specs))
+is_taken table asked = takes_in asked.selection (is_chosen table (specs_of asked.specs))
 
 -- Nothing below the directory is chosen, whatever a look-up says.
 abbrev pub HoldsNoneChosen : Asked → List ℕ → Type 0
-HoldsNoneChosen asked d = (table : Table) (path : List ℕ) (is_dir : Bool) → IsBelow path d → is_taken table asked path is_dir ≡ false
+HoldsNoneChosen asked d = (table : Table) (path : List ℕ) (is_dir : Bool) → IsBelow path d → is_chosen_in table asked path is_dir ≡ false
 
 -- So many bytes of a directory's path, if not 0, are a directory with its slash that holds none chosen.
 abbrev pub IsSkippedAt : Asked → List ℕ → ℕ → Type 0
@@ -51,6 +55,6 @@ pub record Choice : Type 0 where
   pub asked : Asked
   pub separator : ℕ
 
--- whether a record is chosen
+-- whether a record is taken
 abbrev pub chooses : Table → Choice → List ℕ → Bool → Bool
 chooses table choice = is_taken table choice.asked

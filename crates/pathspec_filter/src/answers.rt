@@ -3,11 +3,14 @@ use pathspec_parts::writing::WriteError;
 use std::alloc::AllocError;
 use std::fmt::Debug;
 
-/// How many records a filter read, and how many of them it selected.
+/// How many records a filter read, how many of them it took, and how many directories it passed over.
 #[derive(Clone, Copy, Debug, Default, PartialEq, Eq)]
 pub struct Counts {
     pub records: u64,
+    /// The records that it took and wrote.
     pub selected: u64,
+    /// The directories that hold no selected path and that it came to: those below one of them aren't counted.
+    pub skipped: u64,
 }
 
 /// Why a filter ended before the end of its input.

@@ -7,7 +7,7 @@ ghost use Rattle.pathspec_filter.specs.FilterAnswers.{IsEarly, CountsFault};
 
 use crate::place::Place;
 use crate::questions::Questions;
-use crate::{FilterError, LeadingDot};
+use crate::{FilterError, Selection};
 use gix_pathspec::Search;
 use memchr::memchr;
 use pathspec_parts::attributes::LookUp;
@@ -21,7 +21,7 @@ use std::marker::Model;
 pub(crate) struct Record {
     /// How many bytes it has without the separator.
     pub(crate) length: usize,
-    pub(crate) is_selected: bool,
+    pub(crate) is_taken: bool,
 }
 
 /// What stands first among bytes.
@@ -67,18 +67,23 @@ impl<'s> Chooser<'s> {
         alloc: Global,
         search: &'s Search,
         separator: u8,
-        leading_dot: LeadingDot,
+        selection: Selection,
     ) -> Result<Chooser<'s>, AllocError>
         ensures asked { IfOk result (λ chooser. chooser.asked
-            ≡ record { specs = search.now.specs; leading_dot = leading_dot }) }
+            ≡ record { specs = search.now.specs; selection = selection }) }
         ensures separator { IfOk result (λ chooser. chooser.separator ≡ separator) }
     {
-        let questions = Questions::new(alloc, search, leading_dot)?;
+        let questions = Questions::new(alloc, search, selection)?;
         Ok(Chooser {
             questions,
             place: Place::top(alloc),
             separator,
         })
+    }
+
+    /// The count of directories that were passed over.
+    pub(crate) fn skipped(&self) -> u64 {
+        self.questions.skipped()
     }
 
     /// Whether there is a separator among bytes.
@@ -109,13 +114,8 @@ impl<'s> Chooser<'s> {
             return self.other_first(rest, look_up);
         };
         let path = &rest[..length];
-        let is_selected = self
-            .place
-            .selects(&mut self.questions, path, false, look_up)?;
-        Ok(Found::Record(Record {
-            length,
-            is_selected,
-        }))
+        let is_taken = self.place.takes(&mut self.questions, path, false, look_up)?;
+        Ok(Found::Record(Record { length, is_taken }))
     }
 
     /// Decides the first record of bytes, whatever it is.
@@ -139,14 +139,11 @@ impl<'s> Chooser<'s> {
         if records::is_bad(text) {
             return Ok(Found::Bad);
         }
-        let is_selected = self.decide(text, look_up)?;
-        Ok(Found::Record(Record {
-            length,
-            is_selected,
-        }))
+        let is_taken = self.decide(text, look_up)?;
+        Ok(Found::Record(Record { length, is_taken }))
     }
 
-    /// Whether a good record is selected.
+    /// Whether a good record is taken.
     ///
     /// # Errors
     /// [`FilterError::LookUp`], where the look-up failed in this call, and [`FilterError::Memory`].
@@ -158,7 +155,7 @@ impl<'s> Chooser<'s> {
         requires good { is_bad text.now ≡ false }
         requires free { IsFreeOf self.old.separator text.now }
         ensures kept { self.new ≡ self.old }
-        ensures selected { IfOk result (λ is_selected. is_selected ≡ chooses
+        ensures taken { IfOk result (λ is_taken. is_taken ≡ chooses
             (L.table look_up.old) self.old (record_path text.now) (record_is_dir text.now)) }
         ensures early { IfErr result IsEarly }
         ensures table_stays { L.table look_up.new ≡ L.table look_up.old }
@@ -167,7 +164,6 @@ impl<'s> Chooser<'s> {
         let (parents, _) = split_name(text);
         self.place.go_to(&mut self.questions, parents)?;
         let (path, is_dir) = strip_last_slash(text);
-        self.place
-            .selects(&mut self.questions, path, is_dir, look_up)
+        self.place.takes(&mut self.questions, path, is_dir, look_up)
     }
 }

@@ -3,12 +3,12 @@ ghost use Rattle.std.specs.Prelude.{◌≡◌, ℕ, Bool, List};
 ghost use Rattle.pathspec_parts.specs.Outputs.{RecordsInParts, OutputInParts};
 ghost use Rattle.gix_pathspec.specs.Search.{specs_of};
 ghost use Rattle.gix_pathspec.specs.Matching.{is_chosen};
-ghost use Rattle.pathspec_filter.specs.LeadingDots.{takes_in};
+ghost use Rattle.pathspec_filter.specs.Selections.{takes_in};
 ghost use Rattle.pathspec_filter.specs.FilterAnswers.{EndsFilter, CountsFault};
 
 use crate::chunk::Chunk;
 use crate::pass::Taker;
-use crate::{Counts, FilterError, LeadingDot};
+use crate::{Counts, FilterError, Selection};
 use gix_pathspec::Search;
 use pathspec_parts::attributes::LookUp;
 use std::alloc::Global;
@@ -17,8 +17,8 @@ use std::io::{Read, Write};
 /// How many bytes are read at most: one less than a record's number can count, since the last record may lack its separator.
 const MOST: u64 = u64::MAX - 1;
 
-/// Reads records to the end, and writes those that a search selects, in their order, each with the separator after it. It says
-/// how many it read and selected.
+/// Reads records to the end, and writes those that a search selects, in their order, each with the separator after it; with an
+/// inverted selection it writes the others. It says how many it read and wrote.
 ///
 /// Records end with the separator; the last one may lack it. A record that ends with `/` is a directory, any other a file. Whether
 /// a `./` in front of a record is part of its path is the caller's choice.
@@ -39,25 +39,25 @@ pub fn filter<R: Read, W: Write, L: LookUp>(
     alloc: Global,
     search: &Search,
     separator: u8,
-    leading_dot: LeadingDot,
+    selection: Selection,
     reader: &mut R,
     writer: &mut W,
     look_up: &mut L,
 ) -> Result<Counts, FilterError<L::Fault>>
     ensures ends { EndsFilter
-        (takes_in leading_dot (is_chosen (L.table look_up.old) (specs_of search.now.specs))) separator
+        (takes_in selection (is_chosen (L.table look_up.old) (specs_of search.now.specs))) separator
         (R.remaining reader.old) (W.contents writer.old) (W.contents writer.new) result }
     // So a listing that is cut behind a separator can be filtered in parts, also by several machines.
     ensures record_parts { RecordsInParts separator }
     ensures output_parts { OutputInParts
-        (takes_in leading_dot (is_chosen (L.table look_up.old) (specs_of search.now.specs))) separator }
+        (takes_in selection (is_chosen (L.table look_up.old) (specs_of search.now.specs))) separator }
     ensures table_stays { L.table look_up.new ≡ L.table look_up.old }
     ensures counts { CountsFault (L.failures look_up.old) (L.failures look_up.new) result }
 {
     // The proof reads here that a listing can be cut.
     parts_stand_alone(separator);
     let mut chunk = Chunk::new(alloc)?;
-    let mut taker = Taker::new(alloc, search, separator, leading_dot)?;
+    let mut taker = Taker::new(alloc, search, separator, selection)?;
     let mut left = MOST;
     loop {
         let Some(count) = chunk.fill(reader)? else {
@@ -65,7 +65,7 @@ pub fn filter<R: Read, W: Write, L: LookUp>(
         };
         if count == 0 {
             taker.take_last(&mut chunk, separator, writer, look_up)?;
-            return Ok(taker.counts);
+            return Ok(taker.summary());
         }
         left = match left.checked_sub(count as u64) {
             Some(left) => left,

@@ -5,11 +5,11 @@ mod answers;
 mod choice;
 mod chunk;
 mod filtering;
-mod leading_dot;
 mod pass;
 mod place;
 mod questions;
+mod selection;
 
 pub use answers::{Counts, FilterError};
 pub use filtering::filter;
-pub use leading_dot::LeadingDot;
+pub use selection::{LeadingDot, Selection, path_in};

@@ -8,7 +8,7 @@ ghost use Rattle.pathspec_filter.specs.FilterAnswers.{IsEarly, CountsFault};
 
 use crate::choice::{Chooser, Found};
 use crate::chunk::Chunk;
-use crate::{Counts, FilterError, LeadingDot};
+use crate::{Counts, FilterError, Selection};
 use gix_pathspec::Search;
 use pathspec_parts::attributes::LookUp;
 use pathspec_parts::writing::{WriteError, write_buffered, write_whole};
@@ -45,23 +45,36 @@ impl<'s> Taker<'s> {
         alloc: Global,
         search: &'s Search,
         separator: u8,
-        leading_dot: LeadingDot,
+        selection: Selection,
     ) -> Result<Taker<'s>, AllocError>
         ensures asked { IfOk result (λ taker. taker.chooser.asked
-            ≡ record { specs = search.now.specs; leading_dot = leading_dot }) }
+            ≡ record { specs = search.now.specs; selection = selection }) }
         ensures separator { IfOk result (λ taker. taker.chooser.separator ≡ separator) }
         ensures held { IfOk result (λ taker. taker.held.items ≡ []) }
         ensures records { IfOk result (λ taker. taker.counts.records ≡ 0) }
         ensures selected { IfOk result (λ taker. taker.counts.selected ≡ 0) }
     {
         Ok(Taker {
-            chooser: Chooser::new(alloc, search, separator, leading_dot)?,
+            chooser: Chooser::new(alloc, search, separator, selection)?,
             held: Vec::with_capacity(alloc, ROOM)?,
             counts: Counts {
                 records: 0,
                 selected: 0,
+                skipped: 0,
             },
         })
+    }
+
+    /// What was read, selected and passed over.
+    pub(crate) fn summary(&self) -> Counts
+        ensures records { result.records ≡ self.now.counts.records }
+        ensures selected { result.selected ≡ self.now.counts.selected }
+    {
+        Counts {
+            records: self.counts.records,
+            selected: self.counts.selected,
+            skipped: self.chooser.skipped(),
+        }
     }
 
     /// Takes the whole records of a chunk whose last bytes, so many, are new: it decides them, and writes those that are
@@ -189,9 +202,9 @@ impl<'s> Taker<'s> {
         loop {
             match self.chooser.first_of(&rest[run..], look_up)? {
                 Found::Record(record) => {
-                    self.counts = counts_with(self.counts, record.is_selected);
+                    self.counts = counts_with(self.counts, record.is_taken);
                     let end = run + record.length + 1;
-                    if record.is_selected {
+                    if record.is_taken {
                         run = end;
                     } else {
                         self.hold(&rest[..run], writer)?;
@@ -259,14 +272,14 @@ impl<'s> Taker<'s> {
 }
 
 /// The counts with one record more.
-fn counts_with(counts: Counts, is_selected: bool) -> Counts
+fn counts_with(counts: Counts, is_taken: bool) -> Counts
     requires room { counts.records + 1 < 2 ^ 64 }
     requires few { counts.selected ≤ counts.records }
     ensures records { result.records ≡ counts.records + 1 }
     ensures selected { result.selected
-        ≡ (if is_selected then counts.selected + 1 else counts.selected) }
+        ≡ (if is_taken then counts.selected + 1 else counts.selected) }
 {
-    let selected = if is_selected {
+    let selected = if is_taken {
         counts.selected + 1
     } else {
         counts.selected
@@ -274,5 +287,6 @@ fn counts_with(counts: Counts, is_selected: bool) -> Counts
     Counts {
         records: counts.records + 1,
         selected,
+        skipped: counts.skipped,
     }
 }

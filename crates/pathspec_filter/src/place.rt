@@ -61,12 +61,12 @@ impl Place {
         Ok(())
     }
 
-    /// Whether the search selects a path in the directory.
+    /// Whether a record with a path in the directory is taken.
     ///
     /// # Errors
     /// [`FilterError::LookUp`], where the look-up failed in this call.
     #[inline(always)]
-    pub(crate) fn selects<L: LookUp>(
+    pub(crate) fn takes<L: LookUp>(
         &self,
         questions: &mut Questions<'_>,
         path: &[u8],
@@ -78,17 +78,17 @@ impl Place {
         requires skipped { IsSkippedAt questions.old
             self.now.directory.items self.now.skipped }
         ensures kept { questions.new ≡ questions.old }
-        ensures selected { IfOk result (λ is_selected. is_selected
+        ensures taken { IfOk result (λ answer. answer
             ≡ is_taken (L.table look_up.old) questions.old path.now is_dir) }
         ensures early { IfErr result IsEarly }
         ensures table_stays { L.table look_up.new ≡ L.table look_up.old }
         ensures counts { CountsFault (L.failures look_up.old) (L.failures look_up.new) result }
     {
         if self.skipped != 0 {
-            return Ok(false);
+            return Ok(questions.takes_if(false));
         }
-        match questions.selects(path, is_dir, look_up) {
-            Ok(is_selected) => Ok(is_selected),
+        match questions.takes(path, is_dir, look_up) {
+            Ok(is_taken) => Ok(is_taken),
             Err(fault) => Err(FilterError::LookUp(fault)),
         }
     }

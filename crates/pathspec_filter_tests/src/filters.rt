@@ -1,12 +1,30 @@
 //! Filters over readers and writers in memory.
 use gix_pathspec::Search;
-use pathspec_filter::{Counts, FilterError, LeadingDot, filter};
+use pathspec_filter::{Counts, FilterError, LeadingDot, Selection, filter};
 use pathspec_test_devices::{ALL, Answer, Script, ScriptedReader, ScriptedWriter};
 use pathspec_test_searches::search_of_line;
 use pathspec_test_support::look_ups::Marks;
 use std::alloc::{AllocError, Global};
 use std::io::{ErrorKind, Read, Write};
 use std::test::Fail;
+
+/// The records that a search selects, whose paths are the records as they stand.
+const PLAIN: Selection = Selection {
+    leading_dot: LeadingDot::Kept,
+    is_inverted: false,
+};
+
+/// The records that a search selects, where a leading `./` is no part of a path.
+const DOTLESS: Selection = Selection {
+    leading_dot: LeadingDot::Dropped,
+    is_inverted: false,
+};
+
+/// The records that a search doesn't select.
+const OTHERS: Selection = Selection {
+    leading_dot: LeadingDot::Kept,
+    is_inverted: true,
+};
 
 /// What a filter is told: how many records it read and selected, or the number of the first bad one.
 #[derive(Clone, Copy, Debug, PartialEq, Eq)]
@@ -38,15 +56,7 @@ fn end_over<R: Read, W: Write>(
     writer: &mut W,
 ) -> End {
     let mut marks = Marks::new();
-    let ended = filter(
-        alloc,
-        search,
-        b'\n',
-        LeadingDot::Kept,
-        reader,
-        writer,
-        &mut marks,
-    );
+    let ended = filter(alloc, search, b'\n', PLAIN, reader, writer, &mut marks);
     end_of(ended)
 }
 
@@ -54,7 +64,7 @@ fn end_over<R: Read, W: Write>(
 fn writes(
     alloc: Global,
     search: &Search,
-    (input, separator, leading_dot): (&[u8], u8, LeadingDot),
+    (input, separator, selection): (&[u8], u8, Selection),
     (read, write): (usize, usize),
     (want, end): (&[u8], End),
 ) -> bool {
@@ -64,7 +74,7 @@ fn writes(
         alloc,
         search,
         separator,
-        leading_dot,
+        selection,
         &mut reader,
         &mut writer,
         &mut Marks::new(),
@@ -80,12 +90,12 @@ type Row<'a> = (&'a str, &'a str, &'a str, End);
 fn assert_rows(
     alloc: Global,
     separator: u8,
-    leading_dot: LeadingDot,
+    selection: Selection,
     rows: &[Row<'_>],
 ) -> Result<(), Fail> {
     for (number, (line, input, want, end)) in rows.iter().enumerate() {
         let search = search_of_line(alloc, line, "")?;
-        let input = (input.as_bytes(), separator, leading_dot);
+        let input = (input.as_bytes(), separator, selection);
         for step in 1..=input.0.len().saturating_add(1) {
             let want = (want.as_bytes(), *end);
             if !writes(alloc, &search, input, (step, step), want) {
@@ -124,7 +134,7 @@ fn selected_records_are_written_whatever_the_reads(rt: HostRuntime) -> Result<()
         (":!a", "b\na/x\na//y\nc", "b\n", End::Line(3)),
         (":!a", "b\na/x\na/\n\n", "b\n", End::Line(4)),
     ];
-    assert_rows(rt.alloc(), b'\n', LeadingDot::Kept, ROWS)
+    assert_rows(rt.alloc(), b'\n', PLAIN, ROWS)
 }
 
 // As `find .` and `find . -type d -printf '%p/\n'` print paths.
@@ -142,8 +152,43 @@ fn a_leading_dot_that_is_dropped_is_written(rt: HostRuntime) -> Result<(), Fail>
         ("", "./a\n.//a\n./b\n", "./a\n", End::Line(2)),
     ];
     const KEPT: &[Row<'_>] = &[("src", "./src/a\nsrc/a\n./\n", "src/a\n", End::Good(3, 1))];
-    assert_rows(rt.alloc(), b'\n', LeadingDot::Dropped, DROPPED)?;
-    assert_rows(rt.alloc(), b'\n', LeadingDot::Kept, KEPT)
+    assert_rows(rt.alloc(), b'\n', DOTLESS, DROPPED)?;
+    assert_rows(rt.alloc(), b'\n', PLAIN, KEPT)
+}
+
+#[test]
+#[rattlefmt::skip]
+fn an_inverted_filter_writes_the_others(rt: HostRuntime) -> Result<(), Fail> {
+    const ROWS: &[Row<'_>] = &[
+        ("", "a\nb/c\n", "", End::Good(2, 0)),
+        ("a :!a/b", "a/b/x\na/x\nb/\na/b/y\nab", "a/b/x\nb/\na/b/y\nab\n", End::Good(5, 4)),
+        (":(attr:gen).", "x\na/b\ny\n", "a/b\ny\n", End::Good(3, 2)),
+        ("a", "b\n\na\n", "b\n", End::Line(2)),
+    ];
+    assert_rows(rt.alloc(), b'\n', OTHERS, ROWS)
+}
+
+#[test]
+#[rattlefmt::skip]
+fn directories_that_are_passed_over_are_counted(rt: HostRuntime) -> Result<(), Fail> {
+    // Specs, an input, and the count.
+    const ROWS: &[(&str, &str, u64)] = &[
+        ("", "a/b/c\n", 0),
+        (":!a", "a/x\na/b/x\na/c/\nb/x\n", 1),
+        ("a/b", "a/c/x\na/c/d/x\na/e/x\nb/x\na/c/y\n", 4),
+        ("*.c", "a/x\nb/y\n", 0),
+    ];
+    for (number, (line, input, want)) in ROWS.iter().enumerate() {
+        let search = search_of_line(rt.alloc(), line, "")?;
+        for selection in [PLAIN, OTHERS] {
+            let mut reader = input.as_bytes();
+            let mut written = Vec::new(rt.alloc());
+            let mut marks = Marks::new();
+            let ended = filter(rt.alloc(), &search, b'\n', selection, &mut reader, &mut written, &mut marks);
+            assert!(rt; ended.is_ok_and(|counts| counts.skipped == *want), "{number}");
+        }
+    }
+    Ok(())
 }
 
 #[test]
@@ -156,8 +201,8 @@ fn any_byte_ends_a_record(rt: HostRuntime) -> Result<(), Fail> {
     ];
     // Then no record has a slash, and no name is in a directory.
     const SLASH: &[Row<'_>] = &[("b", "a/b/b\n/b", "b/b/", End::Good(4, 2)), ("", "/a", "", End::Line(1))];
-    assert_rows(rt.alloc(), 0, LeadingDot::Kept, NUL)?;
-    assert_rows(rt.alloc(), b'/', LeadingDot::Kept, SLASH)
+    assert_rows(rt.alloc(), 0, PLAIN, NUL)?;
+    assert_rows(rt.alloc(), b'/', PLAIN, SLASH)
 }
 
 const BROKEN: Answer = Err(ErrorKind::BrokenPipe);
@@ -237,7 +282,7 @@ fn asks(
         alloc,
         &search,
         b'\n',
-        LeadingDot::Kept,
+        PLAIN,
         &mut reader,
         &mut written,
         &mut marks,
@@ -285,7 +330,7 @@ fn writes_long(
     let mut input = Vec::from_slice(alloc, b"b\n")?;
     input.resize(length.saturating_add(2), b'a')?;
     input.extend_from_slice(b"\nb\na")?;
-    let input = (input.as_slice(), b'\n', LeadingDot::Kept);
+    let input = (input.as_slice(), b'\n', PLAIN);
     let end = (want.as_slice(), End::Good(4, 2));
     Ok(writes(alloc, search, input, (step, usize::MAX), end))
 }
@@ -323,7 +368,7 @@ fn a_record_lies_across_the_end_of_a_read(rt: HostRuntime) -> Result<(), Fail> {
         input.extend_from_slice(RECORD)?;
         input.extend_from_slice(RECORD)?;
         let want = (b"ab/cde\nab/cde\n".as_slice(), End::Good(3, 2));
-        let input = (input.as_slice(), b'\n', LeadingDot::Kept);
+        let input = (input.as_slice(), b'\n', PLAIN);
         let all = (usize::MAX, usize::MAX);
         assert!(rt; writes(rt.alloc(), &search, input, all, want), "{before}");
     }

@@ -1,6 +1,6 @@
 //! Each growth refused in turn, of filters.
 use gix_pathspec::Search;
-use pathspec_filter::{FilterError, LeadingDot, filter};
+use pathspec_filter::{FilterError, LeadingDot, Selection, filter};
 use pathspec_test_searches::search_of_line;
 use pathspec_test_support::growths::{Call, Calls, assert_calls};
 use pathspec_test_support::look_ups::Marks;
@@ -30,7 +30,10 @@ impl Call for Filters {
             alloc,
             &given.1,
             b'\n',
-            LeadingDot::Kept,
+            Selection {
+                leading_dot: LeadingDot::Kept,
+                is_inverted: false,
+            },
             &mut reader,
             &mut written,
             &mut marks,

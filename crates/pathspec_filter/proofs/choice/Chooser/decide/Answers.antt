@@ -5,11 +5,11 @@ use Rattle.pathspec_filter.specs.Places.{Asked, Choice, LiesIn, IsPlace}
 use Rattle.pathspec_filter.proofs.PlaceProofs.{path-some, path-inside, place-of, place-top}
 use Rattle.pathspec_filter.proofs.choice.Chooser.decide.Goals as goal
 
-pub selects-requires-clause-some : goal.selects-requires-clause-some
-selects-requires-clause-some g c = λ e. path-some c.args.text.now c.requires.good (sym c.strip_last_slash-is_dir.ensures.path ∙ e)
+pub takes-requires-clause-some : goal.takes-requires-clause-some
+takes-requires-clause-some g c = λ e. path-some c.args.text.now c.requires.good (sym c.strip_last_slash-is_dir.ensures.path ∙ e)
 
-pub selects-requires-clause-inside : goal.selects-requires-clause-inside
-selects-requires-clause-inside g c =
+pub takes-requires-clause-inside : goal.takes-requires-clause-inside
+takes-requires-clause-inside g c =
     let text = c.args.text.now in
     let parents = c.split_name.result.0.now in
     let name = c.split_name.result.1.now in
@@ -28,5 +28,5 @@ invariant_of-self-2 g c =
     let text = c.args.text.now in
     let place = c.go_to.new.self in
     let free = subst (λ (x : Choice). IsFreeOf x.separator text) (sym c.self.view_is) c.requires.free in
-    subst (λ (asked : Asked). IsPlace asked s.separator place.directory.items place.skipped) (sym (c.selects.ensures.kept ∙ c.go_to.ensures.kept))
+    subst (λ (asked : Asked). IsPlace asked s.separator place.directory.items place.skipped) (sym (c.takes.ensures.kept ∙ c.go_to.ensures.kept))
     (place-of s.questions s.separator text c.split_name.result.0.now c.split_name.result.1.now place.directory.items place.skipped c.split_name.ensures.whole c.requires.good free c.in_ok-go_to.ensures.there c.go_to.ensures.skipped)

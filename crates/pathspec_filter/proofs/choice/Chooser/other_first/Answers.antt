@@ -22,4 +22,4 @@ returns-clause-found g c =
     let rest = c.args.rest.now in
     let n = c.in-Some.length in
     let first = subst (λ (x : Choice). IsFirstByte (is_byte x.separator) rest (Some n)) c.self.view_is c.in-Some.ensures in
-    found-record (chooses (g.L.LookUp.table c.args.look_up.now) c.args.self.now) c.args.self.now.separator rest n c.in_ok-is_selected.is_selected first (sym c.is_bad.ensures ∙ c.if-is_bad.false) c.in_ok-is_selected.ensures.selected
+    found-record (chooses (g.L.LookUp.table c.args.look_up.now) c.args.self.now) c.args.self.now.separator rest n c.in_ok-is_taken.is_taken first (sym c.is_bad.ensures ∙ c.if-is_bad.false) c.in_ok-is_taken.ensures.taken

@@ -19,7 +19,7 @@ loop-record-init g c = record {
 pub counts_with-self-requires-clause-room : goal.counts_with-self-requires-clause-room
 counts_with-self-requires-clause-room g c =
     let f = found-good (g.L.LookUp.table c.args.look_up.now) (g.L.LookUp.table c.loop-record.look_up) c.args.self.now.chooser c.loop-record.self.chooser c.loop-record.rest.now _ c.loop-record.run c.in_ok-record.field-0 c.loop-record.invariant.table c.loop-record.invariant.kept (take_rest c.loop-record.rest.now c.loop-record.run) c.in_ok-record.ensures.found c.in-Record.record c.in-Record.is in
-    omega (arith, within-room (chooses (g.L.LookUp.table c.args.look_up.now) c.args.self.now.chooser) c.args.self.now.chooser.separator c.args.bytes.now c.loop-record.rest.now c.loop-record.run (g.W.Write.contents c.args.writer.now) (g.W.Write.contents c.loop-record.writer) c.loop-record.self.held.items c.args.self.now.counts c.loop-record.self.counts c.loop-record.invariant.within c.in-Record.record.length c.in-Record.record.is_selected f, c.requires.room)
+    omega (arith, within-room (chooses (g.L.LookUp.table c.args.look_up.now) c.args.self.now.chooser) c.args.self.now.chooser.separator c.args.bytes.now c.loop-record.rest.now c.loop-record.run (g.W.Write.contents c.args.writer.now) (g.W.Write.contents c.loop-record.writer) c.loop-record.self.held.items c.args.self.now.counts c.loop-record.self.counts c.loop-record.invariant.within c.in-Record.record.length c.in-Record.record.is_taken f, c.requires.room)
 
 pub counts_with-self-requires-clause-few : goal.counts_with-self-requires-clause-few
 counts_with-self-requires-clause-few g c = within-few (chooses (g.L.LookUp.table c.args.look_up.now) c.args.self.now.chooser) c.args.self.now.chooser.separator c.args.bytes.now c.loop-record.rest.now c.loop-record.run (g.W.Write.contents c.args.writer.now) (g.W.Write.contents c.loop-record.writer) c.loop-record.self.held.items c.args.self.now.counts c.loop-record.self.counts c.loop-record.invariant.within c.requires.few
@@ -27,19 +27,19 @@ counts_with-self-requires-clause-few g c = within-few (chooses (g.L.LookUp.table
 pub overflow_add-end : goal.overflow_add-end
 overflow_add-end g c =
     let f = found-good (g.L.LookUp.table c.args.look_up.now) (g.L.LookUp.table c.loop-record.look_up) c.args.self.now.chooser c.loop-record.self.chooser c.loop-record.rest.now _ c.loop-record.run c.in_ok-record.field-0 c.loop-record.invariant.table c.loop-record.invariant.kept (take_rest c.loop-record.rest.now c.loop-record.run) c.in_ok-record.ensures.found c.in-Record.record c.in-Record.is in
-    omega (arith, within-fits (chooses (g.L.LookUp.table c.args.look_up.now) c.args.self.now.chooser) c.args.self.now.chooser.separator c.args.bytes.now c.loop-record.rest.now c.loop-record.run (g.W.Write.contents c.args.writer.now) (g.W.Write.contents c.loop-record.writer) c.loop-record.self.held.items c.args.self.now.counts c.loop-record.self.counts c.loop-record.invariant.within c.in-Record.record.length c.in-Record.record.is_selected f, c.requires.room)
+    omega (arith, within-fits (chooses (g.L.LookUp.table c.args.look_up.now) c.args.self.now.chooser) c.args.self.now.chooser.separator c.args.bytes.now c.loop-record.rest.now c.loop-record.run (g.W.Write.contents c.args.writer.now) (g.W.Write.contents c.loop-record.writer) c.loop-record.self.held.items c.args.self.now.counts c.loop-record.self.counts c.loop-record.invariant.within c.in-Record.record.length c.in-Record.record.is_taken f, c.requires.room)
 
 pub overflow_add-end-in-Record : goal.overflow_add-end-in-Record
 overflow_add-end-in-Record g c =
     let f = found-good (g.L.LookUp.table c.args.look_up.now) (g.L.LookUp.table c.loop-record.look_up) c.args.self.now.chooser c.loop-record.self.chooser c.loop-record.rest.now _ c.loop-record.run c.in_ok-record.field-0 c.loop-record.invariant.table c.loop-record.invariant.kept (take_rest c.loop-record.rest.now c.loop-record.run) c.in_ok-record.ensures.found c.in-Record.record c.in-Record.is in
-    omega (arith, within-fits (chooses (g.L.LookUp.table c.args.look_up.now) c.args.self.now.chooser) c.args.self.now.chooser.separator c.args.bytes.now c.loop-record.rest.now c.loop-record.run (g.W.Write.contents c.args.writer.now) (g.W.Write.contents c.loop-record.writer) c.loop-record.self.held.items c.args.self.now.counts c.loop-record.self.counts c.loop-record.invariant.within c.in-Record.record.length c.in-Record.record.is_selected f, c.requires.room)
+    omega (arith, within-fits (chooses (g.L.LookUp.table c.args.look_up.now) c.args.self.now.chooser) c.args.self.now.chooser.separator c.args.bytes.now c.loop-record.rest.now c.loop-record.run (g.W.Write.contents c.args.writer.now) (g.W.Write.contents c.loop-record.writer) c.loop-record.self.held.items c.args.self.now.counts c.loop-record.self.counts c.loop-record.invariant.within c.in-Record.record.length c.in-Record.record.is_taken f, c.requires.room)
 
 pub loop-record-preserved-then-record : goal.loop-record-preserved-then-record
 loop-record-preserved-then-record g c =
     let f = found-good (g.L.LookUp.table c.args.look_up.now) (g.L.LookUp.table c.loop-record.look_up) c.args.self.now.chooser c.loop-record.self.chooser c.loop-record.rest.now _ c.loop-record.run c.in_ok-record.field-0 c.loop-record.invariant.table c.loop-record.invariant.kept (take_rest c.loop-record.rest.now c.loop-record.run) c.in_ok-record.ensures.found c.in-Record.record c.in-Record.is in
     let counted = c.counts_with-self.ensures in
     record {
-      within = within-yes (chooses (g.L.LookUp.table c.args.look_up.now) c.args.self.now.chooser) c.args.self.now.chooser.separator c.args.bytes.now c.loop-record.rest.now c.loop-record.run (g.W.Write.contents c.args.writer.now) (g.W.Write.contents c.loop-record.writer) c.loop-record.self.held.items c.args.self.now.counts c.loop-record.self.counts c.loop-record.invariant.within c.in-Record.record.length c.in-Record.record.is_selected f c.counts_with-self.result counted.records counted.selected c.if-record.true;
+      within = within-yes (chooses (g.L.LookUp.table c.args.look_up.now) c.args.self.now.chooser) c.args.self.now.chooser.separator c.args.bytes.now c.loop-record.rest.now c.loop-record.run (g.W.Write.contents c.args.writer.now) (g.W.Write.contents c.loop-record.writer) c.loop-record.self.held.items c.args.self.now.counts c.loop-record.self.counts c.loop-record.invariant.within c.in-Record.record.length c.in-Record.record.is_taken f c.counts_with-self.result counted.records counted.selected c.if-record.true;
       kept = c.in_ok-record.ensures.kept ∙ c.loop-record.invariant.kept;
       table = c.in_ok-record.ensures.table_stays ∙ c.loop-record.invariant.table;
       count = c.in_ok-record.ensures.counts ∙ c.loop-record.invariant.count;
@@ -57,7 +57,7 @@ loop-record-preserved g c =
     let same = c.in_ok-hold-in-Record.ensures.counts in
     let rest = c.loop-record.rest.now in
     let end = c.loop-record.run + c.in-Record.record.length + 1 in
-    let next = within-no (chooses (g.L.LookUp.table c.args.look_up.now) c.args.self.now.chooser) c.args.self.now.chooser.separator c.args.bytes.now c.loop-record.rest.now c.loop-record.run (g.W.Write.contents c.args.writer.now) (g.W.Write.contents c.loop-record.writer) c.loop-record.self.held.items c.args.self.now.counts c.loop-record.self.counts c.loop-record.invariant.within c.in-Record.record.length c.in-Record.record.is_selected f c.hold.new.self.counts (ap (λ (x : Counts). x.records) same ∙ counted.records) (ap (λ (x : Counts). x.selected) same ∙ counted.selected) c.if-record.false (g.W.Write.contents c.hold.new.writer) c.hold.new.self.held.items c.in_ok-hold-in-Record.ensures.written in
+    let next = within-no (chooses (g.L.LookUp.table c.args.look_up.now) c.args.self.now.chooser) c.args.self.now.chooser.separator c.args.bytes.now c.loop-record.rest.now c.loop-record.run (g.W.Write.contents c.args.writer.now) (g.W.Write.contents c.loop-record.writer) c.loop-record.self.held.items c.args.self.now.counts c.loop-record.self.counts c.loop-record.invariant.within c.in-Record.record.length c.in-Record.record.is_taken f c.hold.new.self.counts (ap (λ (x : Counts). x.records) same ∙ counted.records) (ap (λ (x : Counts). x.selected) same ∙ counted.selected) c.if-record.false (g.W.Write.contents c.hold.new.writer) c.hold.new.self.held.items c.in_ok-hold-in-Record.ensures.written in
     record {
       within = subst (λ (xs : List ℕ). IsWithin (chooses (g.L.LookUp.table c.args.look_up.now) c.args.self.now.chooser) c.args.self.now.chooser.separator c.args.bytes.now xs 0 (g.W.Write.contents c.args.writer.now) (g.W.Write.contents c.hold.new.writer) c.hold.new.self.held.items c.args.self.now.counts c.hold.new.self.counts) (sym (take_rest rest end)) next;
       kept = c.in_ok-hold-in-Record.ensures.chooser ∙ (c.in_ok-record.ensures.kept ∙ c.loop-record.invariant.kept);

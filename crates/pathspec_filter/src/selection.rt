@@ -1,7 +1,7 @@
-//! A `./` in front of a record.
+//! Which records are taken, and what a `./` in front of one is.
 ghost use Rattle.std.specs.Prelude.{◌≡◌};
-ghost use Rattle.pathspec_filter.specs.LeadingDots.{path_in};
-ghost use Rattle.pathspec_filter.specs.declared.leading_dot.LeadingDot.TheVariants.{Dropped};
+ghost use Rattle.pathspec_filter.specs.Selections.{path_in};
+ghost use Rattle.pathspec_filter.specs.declared.selection.LeadingDot.TheVariants.{Dropped};
 
 /// Whether a `./` in front of a record is part of its path. The record is written as it stands in both cases.
 #[derive(Clone, Copy, Debug, PartialEq, Eq)]
@@ -12,9 +12,18 @@ pub enum LeadingDot {
     Dropped,
 }
 
+/// Which records a filter takes.
+#[derive(Clone, Copy, Debug, PartialEq, Eq)]
+pub struct Selection {
+    /// Whether a leading `./` is part of a record's path.
+    pub leading_dot: LeadingDot,
+    /// Whether the filter takes the records that the search doesn't select, as `grep -v` does, instead of those that it selects.
+    pub is_inverted: bool,
+}
+
 /// What a path is, where a leading `./` is part of it or not.
 #[inline(always)]
-pub(crate) fn path_in(leading_dot: LeadingDot, path: &[u8]) -> &[u8]
+pub fn path_in(leading_dot: LeadingDot, path: &[u8]) -> &[u8]
     ensures { result.now ≡ path_in leading_dot path.now }
 {
     match leading_dot {
