@@ -197,6 +197,21 @@ uint32_t ps_search_may_skip(ps_search *search, const uint8_t *directory, size_t 
  */
 uint32_t ps_search_can_match(ps_search *search, const uint8_t *path, size_t path_length, bool is_dir);
 
+/* ---- many paths */
+
+/*
+ * Whether the search selects each of many paths, for a caller to whom a call costs more than a match. The paths are
+ * texts, each ended by the byte 0, which the last may lack. Only here, slashes at a path's end say that it is a
+ * directory's, and are no part of it.
+ *
+ * The answers of ps_search_match, PS_YES or PS_NO, are written to the first bytes of `answers` in the order of the
+ * paths, as many as there is room for, and how many paths there are to `count`. PS_OK; or PS_EMPTY, and they are
+ * PS_NO; or PS_MEMORY where memory ran out for some path, and its answer is PS_YES: ps_search_match tells which. It
+ * takes memory only as ps_search_match does, and none for a path.
+ */
+uint32_t ps_search_match_all(ps_search *search, const uint8_t *paths, size_t paths_length, uint8_t *answers,
+                             size_t answers_length, size_t *count);
+
 /* ---- texts */
 
 /*

@@ -294,6 +294,42 @@ static void messages(void)
     EXPECT(room_used, 0);
 }
 
+/* Many paths in one call: each answer is that of the path alone, as far as there is room. */
+static void lists(void)
+{
+    static const char paths[] = "a.c\0src/\0src\0src//\0\0d/\0d\0gen/a.c\0/\0a.o\0last.c";
+    static const uint8_t wanted[] = { 1, 1, 0, 1, 1, 1, 0, 0, 1, 0, 1 };
+    ps_search search = PS_SEARCH_INIT;
+    ps_fault fault;
+    uint8_t answers[16];
+    size_t count = 99;
+    memset(answers, 7, sizeof answers);
+    EXPECT(ps_search_match_all(&search, BYTES(paths), answers, sizeof answers, &count), PS_EMPTY);
+    EXPECT(count, sizeof wanted);
+    for (size_t number = 0; number < sizeof answers; number++)
+        EXPECT(answers[number], number < count ? PS_NO : 7);
+    EXPECT(make(&search, "*.c\0:(glob)s*/\0d/\0:!gen", 24, 0, &fault), PS_OK);
+    for (size_t room = 0; room <= sizeof answers; room++) {
+        memset(answers, 7, sizeof answers);
+        EXPECT(ps_search_match_all(&search, BYTES(paths), answers, room, &count), PS_OK);
+        EXPECT(count, sizeof wanted);
+        for (size_t number = 0; number < sizeof answers; number++)
+            EXPECT(answers[number], number < room && number < count ? wanted[number] : 7);
+    }
+    EXPECT(ps_search_match_all(&search, BYTES(""), answers, sizeof answers, &count), PS_OK);
+    EXPECT(count, 0);
+    EXPECT(ps_search_match_all(&search, BYTES("\0a.c\0"), answers, sizeof answers, &count), PS_OK);
+    EXPECT(count, 2);
+    /* (the empty path is the top, which any search selects) */
+    EXPECT(answers[0] == PS_YES && answers[1] == PS_YES, true);
+    /* what attributes say in the end */
+    EXPECT(make(&search, ":(attr:x)*", 11, 0, &fault), PS_OK);
+    EXPECT(ps_search_assign(&search, BYTES("b"), BYTES("x"), &fault), PS_OK);
+    EXPECT(ps_search_match_all(&search, BYTES("a\0b\0b/"), answers, sizeof answers, &count), PS_OK);
+    EXPECT(count == 3 && answers[0] == PS_NO && answers[1] == PS_YES && answers[2] == PS_YES, true);
+    ps_search_free(&search);
+}
+
 /* Attributes: none, some, and a list that can't be read. */
 static void attributes(void)
 {
@@ -388,6 +424,7 @@ int main(void)
     words();
     walks();
     messages();
+    lists();
     attributes();
     many();
     threads();

@@ -68,6 +68,25 @@ static long refuse_in_match(ps_search *search)
     }
 }
 
+/* Whether many paths take as many, of which each is refused in turn: then the first is selected, and the others are answered. */
+static int refuse_in_matches(ps_search *search, long wanted)
+{
+    for (long refused = 0;; refused++) {
+        uint8_t answers[4] = { 9, 9, 9, 9 };
+        size_t count;
+        left = refused;
+        uint32_t status = ps_search_match_all(search, BYTES("d/e/q\0d/e/src/a.c\0x"), answers, sizeof answers, &count);
+        int was_refused = left < 0;
+        left = -1;
+        if (count != 3 || answers[0] != PS_YES || answers[1] != PS_YES || answers[2] != PS_NO || answers[3] != 9)
+            return 0;
+        if (!was_refused)
+            return status == PS_OK && refused == wanted;
+        if (status != PS_MEMORY)
+            return 0;
+    }
+}
+
 int main(void)
 {
     for (long refused = 0;; refused++) {
@@ -84,9 +103,13 @@ int main(void)
         long asked = requests, matched = 0;
         if (status == PS_OK && !(ps_search_match(&other, BYTES("d/e/src/a.c"), false, &found) && found.kind == PS_WILDCARD))
             return 1;
+        uint8_t answers[2];
+        size_t count;
+        if (status == PS_OK && ps_search_match_all(&other, BYTES("d/e/src/a.c\0d/e/q"), answers, sizeof answers, &count) != PS_OK)
+            return 1;
         if (requests != asked)
             return 1;
-        if (status == PS_OK && (matched = refuse_in_match(&search)) < 0)
+        if (status == PS_OK && ((matched = refuse_in_match(&search)) < 0 || !refuse_in_matches(&search, matched)))
             return 1;
         ps_search_free(&search);
         ps_search_free(&other);

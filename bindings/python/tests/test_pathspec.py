@@ -11,6 +11,7 @@ import sys
 import threading
 import unittest
 import weakref
+from unittest import mock
 
 from puneloviash import (
     Defaults,
@@ -101,11 +102,101 @@ class Answers(unittest.TestCase):
         self.assertEqual(list(search.filter(paths)), [*paths[:3], "d/"])
         self.assertEqual(list(search.filter(["d"], is_dir=True)), ["d"])
         self.assertEqual(list(search.filter([])), [])
-        many = [f"{number}.{'co'[number % 2]}" for number in range(10_000)]
-        self.assertEqual(list(search.filter(iter(many))), many[::2])
-        # It takes no more of them than its caller does.
-        paths = iter(["a.c", "b.c", "c.c"])
-        self.assertEqual(next(search.filter(paths)), "a.c")
+        for count in 999, 1000, 1001, 2000, 10_000:
+            many = [f"{number}.{'co'[number % 2]}" for number in range(count)]
+            self.assertEqual(list(search.filter(iter(many))), many[::2])
+
+    def test_filter_answers_as_matches_does(self):
+        search = Pathspec([":(glob)s*", "d/", "*.c", "\udcff*", ":(attr:x)t", ":!gen"])
+        paths = ["src", "src/", "src//", "d", "d/", "d//", "", "/", "a.c", "gen/a.c", "t", "t/"]
+        texts = [*paths, "\udcff\udcfe", "\u00e9.c", "s\0", "a\0.c", "a.c\0", "\0", "\0d/"]
+        for turn in range(2):
+            for many in (
+                paths,
+                texts,
+                [os.fsencode(path) for path in texts],
+                [pathlib.PurePosixPath(path) for path in paths],
+                [path if len(path) % 2 else os.fsencode(path) for path in texts],
+            ):
+                for is_dir in False, True:
+                    with self.subTest(turn=turn, many=many, is_dir=is_dir):
+                        wanted = [path for path in many if search.matches(path, is_dir)]
+                        self.assertEqual(list(search.filter(many, is_dir)), wanted)
+            search.assign("t", "x")
+
+    def test_filter_reads_ahead(self):
+        search = Pathspec(["*.c"])
+        left = iter([f"{number}.c" for number in range(3000)])
+        found = search.filter(left)
+        self.assertEqual(next(left), "0.c")
+        self.assertEqual(next(found), "1.c")
+        self.assertEqual(next(left), "1001.c")
+        # It doesn't ask again where an end was told, as a terminal's may be.
+        ends = iter([["a.c"], ["b.c"]])
+
+        class Again:
+            def __init__(self):
+                self.left = iter(next(ends))
+
+            def __iter__(self):
+                return self
+
+            def __next__(self):
+                try:
+                    return next(self.left)
+                except StopIteration:
+                    self.left = iter(next(ends))
+                    raise
+
+        self.assertEqual(list(search.filter(Again())), ["a.c"])
+
+    def test_filter_raises_in_its_place(self):
+        search = Pathspec(["*.c"])
+
+        def fails():
+            yield "a.c"
+            yield "a.o"
+            raise OSError
+
+        class Named:
+            def __fspath__(self):
+                raise OSError
+
+        rows = (
+            (fails(), OSError),
+            (["a.c", "a.o", None, "b.c"], TypeError),
+            ([b"a.c", bytearray(b"b.c")], TypeError),
+            (["a.c", "\ud800.c", "b.c"], UnicodeEncodeError),
+            (["a.c", Named(), "b.c"], OSError),
+        )
+        for paths, error in rows:
+            with self.subTest(error=error):
+                found = search.filter(paths)
+                self.assertEqual(os.fsdecode(next(found)), "a.c")
+                with self.assertRaises(error):
+                    next(found)
+                self.assertEqual(list(found), [])
+        with self.assertRaises(TypeError):
+            next(search.filter(1))
+
+    def test_filter_without_memory(self):
+        search = Pathspec([":(attr:x)*"])
+        search.assign("a", "x")
+        match = _library.match
+
+        def match_or_refuse(at, text, length, is_dir, found):
+            if text == b"b":
+                found.kind = _library.NO_MEMORY
+                return _library.YES
+            return match(at, text, length, is_dir, found)
+
+        with mock.patch.multiple(
+            _library, match_all=lambda *_: _library.MEMORY, match=match_or_refuse
+        ):
+            found = search.filter(["c", "a", "b", "a"])
+            self.assertEqual(next(found), "a")
+            with self.assertRaises(MemoryError):
+                next(found)
 
     def test_prefixes_and_roots(self):
         search = Pathspec(["../c", "/r/d"], prefix="a/b", root="/r")

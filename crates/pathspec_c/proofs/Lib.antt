@@ -1,3 +1,4 @@
 mod RawBoxValues
 mod HandleValues
 mod BitProofs
+mod ManyProofs

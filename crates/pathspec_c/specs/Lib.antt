@@ -4,3 +4,4 @@ pub mod Calls
 pub mod Reports
 pub mod Texts
 pub mod Names
+pub mod Many

@@ -1,5 +1,6 @@
 -- What a handle holds.
-use Rattle.std.specs.Prelude.{◌≡◌, ℕ, Bool, true, false, List, [], ◌∷◌, ◌++◌, Option, Some, None, Ok, IfSome}
+use Rattle.std.specs.Prelude.{◌≡◌, ℕ, Bool, true, false, List, [], ◌∷◌, ◌++◌, Option, Some, None, Ok}
+use Rattle.std.specs.Option.{IsSomeAnd}
 use Rattle.pathspec_parts.specs.Attributes.{Assignment}
 use Rattle.pathspec_parts.specs.AttributeRows.{Row, table_of, RowsContents}
 use Rattle.pathspec_pattern.specs.AttributeLists.{assignments_of}
@@ -29,7 +30,7 @@ pub record Keeps (old new : SearcherContents) : Type 0 where
 -- an empty handle stays empty, and else it keeps what it holds
 abbrev pub KeepsSearcher : Option SearcherContents → Option SearcherContents → Type 0
 KeepsSearcher None new = new ≡ None
-KeepsSearcher (Some old) new = IfSome new (Keeps old)
+KeepsSearcher (Some old) new = IsSomeAnd new (Keeps old)
 
 -- one row more: a path, and what a list of attributes assigns there
 abbrev pub AddsRow : List ℕ → List ℕ → SearcherContents → SearcherContents → Type 0

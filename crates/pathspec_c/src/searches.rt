@@ -3,6 +3,7 @@
 //! The status is 0 where all was done, 2 where the handle is empty, and 3 where memory ran out. It is 4 where the prefix isn't
 //! clean, and 5 where a spec or a list of attributes is at fault. Only with 5 is the fault written.
 ghost use Rattle.std.specs.Prelude.{◌≡◌, ◌≢◌, ◌↔◌, ◌⊎◌, ℕ, false, None, Some, Err, Result, IfSome, List};
+ghost use Rattle.std.specs.Option.{IsSomeAnd};
 ghost use Rattle.pathspec_parts.specs.Paths.{is_clean_prefix};
 ghost use Rattle.pathspec_pattern.specs.AttributeLists.{assignments_of};
 ghost use Rattle.gix_pathspec.specs.Building.{Builds};
@@ -123,7 +124,7 @@ pub extern "C" fn ps_search_assign(
     fault: &mut PsFault,
 ) -> u32
     ensures added { result ≡ 0 → IfSome search.old.searcher (λ old.
-        IfSome search.new.searcher (AddsRow path.now list.now old)) }
+        IsSomeAnd search.new.searcher (AddsRow path.now list.now old)) }
     ensures stays { result ≢ 0 → search.new.searcher ≡ search.old.searcher }
     ensures empty { (result ≡ 2) ↔ (search.old.searcher ≡ None) }
     ensures list { result ≡ 5 → HasKind fault.new.kind (assignments_of list.now) }

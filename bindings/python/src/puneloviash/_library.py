@@ -1,7 +1,8 @@
 """The declarations of pathspec.h over ctypes.
 
-The questions of a search hold the interpreter's lock, since they take less time than to give it
-back and fetch it again. What reads specs gives it back.
+The questions of a search hold the interpreter's lock: a path takes less time than to give it back
+and fetch it again, and a thousand mostly less than a thread may keep it anyway, which is 5 ms. What
+reads specs gives it back.
 """
 
 import ctypes
@@ -97,6 +98,8 @@ match.argtypes = [_search, *_bytes, ctypes.c_bool, ctypes.POINTER(PsMatch)]
 match.restype = _status
 selects = _holding.ps_search_selects
 selects.argtypes, selects.restype = [_search, *_bytes, ctypes.c_bool], _status
+match_all = _holding.ps_search_match_all
+match_all.argtypes, match_all.restype = [_search, *_bytes, *_room], _status
 may_skip = _holding.ps_search_may_skip
 may_skip.argtypes, may_skip.restype = [_search, *_bytes], _status
 can_match = _holding.ps_search_can_match

@@ -4,6 +4,7 @@ from __future__ import annotations
 
 import ctypes
 import enum
+import itertools
 import os
 import threading
 import weakref
@@ -12,12 +13,15 @@ from typing import (
     Callable,
     Iterable,
     Iterator,
+    List,
     NamedTuple,
     NoReturn,
     Optional,
+    Sequence,
     Tuple,
     TypeVar,
     Union,
+    cast,
     overload,
 )
 
@@ -32,6 +36,9 @@ Text = Union[str, bytes, "os.PathLike[str]", "os.PathLike[bytes]"]
 
 _Path = TypeVar("_Path", bound=Text)
 _NO_DEFAULTS = Defaults(0)
+
+#: How many paths are handed on in one call.
+_AT_ONCE = 1000
 
 
 class MatchKind(enum.Enum):
@@ -192,14 +199,47 @@ class Pathspec:
         return found is not None and not found.is_excluded
 
     def filter(self, paths: Iterable[_Path], is_dir: bool = False) -> Iterator[_Path]:
-        """Those of the paths that the search selects, as they come.
+        """Those of the paths that the search selects, in their order.
+
+        It reads up to 1,000 paths ahead, and asks about these at once.
 
         >>> list(Pathspec(["*.c"]).filter(["a.c", "a.o", b"b.c"]))
         ['a.c', b'b.c']
         """
-        for path in paths:
-            if self.matches(path, is_dir):
-                yield path
+        left = iter(paths)
+        while True:
+            read: List[_Path] = []
+            try:
+                read.extend(itertools.islice(left, _AT_ONCE))
+            except Exception:
+                # (those before the fault are still answered)
+                yield from self._selected(read, is_dir)
+                raise
+            yield from self._selected(read, is_dir)
+            if len(read) < _AT_ONCE:
+                return
+
+    def _selected(self, paths: List[_Path], is_dir: bool) -> Iterator[_Path]:
+        """Those of the paths that the search selects, asked about at once where it can be."""
+        answers = self._answers(paths, is_dir) if paths else b""
+        if answers is None:
+            return (path for path in paths if self.matches(path, is_dir))
+        return itertools.compress(paths, answers)
+
+    def _answers(self, paths: Sequence[Text], is_dir: bool) -> Optional[bytes]:
+        """For each path whether the search selects it, as 1 or 0.
+
+        There is none where a path is no text or has the byte 0, or where memory runs out: then each
+        is to be asked about alone, so that the first of these raises what it should.
+        """
+        try:
+            texts = _ended(paths, is_dir)
+        except Exception:
+            return None
+        room, count = ctypes.create_string_buffer(len(paths)), ctypes.c_size_t()
+        with self._lock:
+            status = _library.match_all(self._open(), texts, len(texts), room, len(room), count)
+        return room.raw if status == _library.OK and count.value == len(paths) else None
 
     def settle(self, path: Text, is_dir: bool = False) -> Optional[Match]:
         """The spec that settles a path, if one does.
@@ -378,6 +418,20 @@ def _path(path: Text, is_dir: bool) -> Tuple[bytes, bool]:
     if text.endswith(b"/"):
         return text.rstrip(b"/"), True
     return text, is_dir
+
+
+def _ended(paths: Sequence[Text], is_dir: bool) -> bytes:
+    """The bytes of paths, each ended by the byte 0, with a slash before it where they are all of
+    directories.
+    """
+    end = "/\0" if is_dir else "\0"
+    try:
+        # (a text's bytes are those of its parts)
+        return os.fsencode(end.join(cast(Sequence[str], paths)) + end)
+    except TypeError:
+        # (not all are str)
+        last = os.fsencode(end)
+        return last.join([os.fsencode(path) for path in paths]) + last
 
 
 def _copied(call: Callable[..., int], *given: object) -> Optional[bytes]:
