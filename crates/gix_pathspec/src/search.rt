@@ -9,7 +9,7 @@ mod patterns;
 mod pruning;
 mod reach;
 mod spec;
-pub(crate) mod spec_matching;
+pub mod spec_matching;
 mod subtree_excludes;
 
 use crate::Pattern;

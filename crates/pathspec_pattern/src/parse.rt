@@ -20,6 +20,7 @@ use cut::Cut;
 pub use lists::attributes;
 use magic::Magic;
 use pathspec_parts::path;
+pub use pieces::{is_escape, place_of_cut};
 use std::alloc::Global;
 
 /// Reads the text of a pathspec: `:` alone, a path, or a path behind magic. The defaults decide what the text doesn't say.

@@ -340,7 +340,11 @@ pub(super) fn glob_mode(pattern: &Pattern, is_wild: bool) -> Option<Mode>
 ///
 /// # Errors
 /// Memory runs out.
-fn compile_glob(alloc: Global, pattern: &Pattern, is_wild: bool) -> Result<Option<Glob>, AllocError>
+pub fn compile_glob(
+    alloc: Global,
+    pattern: &Pattern,
+    is_wild: bool,
+) -> Result<Option<Glob>, AllocError>
     requires { is_wild ≡ has_wildcard (pattern_spec pattern.now) }
     ensures { IfOk result (λ glob. glob ≡ glob_of (pattern_spec pattern.now)) }
 {

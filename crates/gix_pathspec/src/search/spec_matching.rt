@@ -15,6 +15,7 @@ ghost use Rattle.gix_pathspec.specs.Paths.{is_below};
 
 use crate::search::MatchKind;
 use crate::search::spec::CompiledSpec;
+pub use crate::search::spec::compile_glob;
 use crate::{MagicSignature, Pattern};
 use bitflags::Flags;
 use bstr::BStr;
@@ -27,7 +28,7 @@ use pathspec_parts::glob::{self, Glob, Scratch, is_same_byte, is_wildcard};
 /// `glob` is the pattern's, or None for a pattern without one. Beside the steps of the glob, the call looks at each byte of
 /// the pattern's path a fixed number of times. It takes no memory.
 #[inline(always)]
-fn match_kind(
+pub fn match_kind(
     pattern: &Pattern,
     glob: &Option<Glob>,
     globs: &mut Scratch,
@@ -68,7 +69,7 @@ fn text_kind(pattern: &Pattern, path: BStr<'_>, is_dir: bool) -> Option<MatchKin
 /// Whether a path may match a spec that ignores case: it is the spec's prefix directory or lies below it, compared with case.
 /// `:(icase)B`, given in `a`, may match `a/b`, but not `A/b`. It also may where case counts or there is no prefix directory.
 #[inline(always)]
-pub(super) fn is_in_prefix_directory(pattern: &Pattern, path: BStr<'_>, is_dir: bool) -> bool
+pub fn is_in_prefix_directory(pattern: &Pattern, path: BStr<'_>, is_dir: bool) -> bool
     ensures { result ≡ is_in_prefix_directory (pattern_spec pattern.now)
         (bstr_bytes path.entry) is_dir }
 {
@@ -143,7 +144,7 @@ pub(super) fn case_of(pattern: &Pattern) -> Case
 }
 
 /// Whether ASCII case doesn't count for the pattern.
-pub(super) fn ignores_case(pattern: &Pattern) -> bool
+pub fn ignores_case(pattern: &Pattern) -> bool
     ensures { result ≡ ignores_case (pattern_spec pattern.now) }
 {
     pattern.signature.contains(MagicSignature::ICASE)
@@ -345,7 +346,7 @@ pub(crate) fn is_same_text(left: &[u8], right: &[u8], ignore_case: bool) -> bool
 // In line, since of most paths the length tells, or the byte that has to be the slash.
 /// Whether a path begins with a directory's path and a slash, up to ASCII case with `ignore_case`.
 #[inline(always)]
-pub(crate) fn is_below(path: &[u8], directory: &[u8], ignore_case: bool) -> bool
+pub fn is_below(path: &[u8], directory: &[u8], ignore_case: bool) -> bool
     ensures { result ≡ is_below (fold_case ignore_case path.now)
         (fold_case ignore_case directory.now) }
 {

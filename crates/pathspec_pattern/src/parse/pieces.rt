@@ -3,8 +3,9 @@ ghost use Rattle.std.specs.Prelude.{◌≡◌, IfNone, IfSome, MatchOption, ◌=
 ghost use Rattle.pathspec_parts.specs.Bytes.{comma, backslash};
 ghost use Rattle.pathspec_pattern.specs.Reading.{IsOnlyPiece, IsFirstPiece, IsFirstCut};
 
-/// The position of the first comma that an even number of backslashes precedes directly: it cuts.
-fn place_of_cut(long: &[u8]) -> Option<usize>
+/// The position of the first comma that cuts long magic: an even number of backslashes precedes it directly. It looks at each
+/// byte up to there.
+pub fn place_of_cut(long: &[u8]) -> Option<usize>
     ensures { MatchOption result (IsOnlyPiece long.now long.now) (IsFirstCut long.now) }
 {
     let mut escaped = false;
@@ -24,8 +25,8 @@ fn is_cut(byte: u8, is_escaped: bool) -> bool
     byte == b',' && !is_escaped
 }
 
-/// Whether the byte is a backslash that nothing escapes.
-pub(super) fn is_escape(byte: u8, is_escaped: bool) -> bool
+/// Whether the byte is a backslash that nothing escapes. `is_escaped` says whether the byte in front escapes it.
+pub fn is_escape(byte: u8, is_escaped: bool) -> bool
     ensures { result ≡ (byte == backslash && not is_escaped) }
 {
     byte == b'\\' && !is_escaped

@@ -1,0 +1,4 @@
+pub mod Parting
+pub mod Verdicts
+pub mod Reasons
+pub mod AskedSpecs
