@@ -1,13 +1,13 @@
 # Thin rules over the toolchain's command rt, which does the work and keeps what it has proved.
-#   make           prove, build and run the program once
+#   make           prove and build the programs, and run the first once
 #   make quick     run the program before any proof
 #   make check     the gate: every proof, must-fail edit, test and program; two checks at a time, or RT_JOBS
-#   make install   the program and its manual page below PREFIX (and DESTDIR); the library and the crate for Rust over it where it
-#                  is built, and so the wheel for Python
+#   make install   the programs with their manual pages and completions below PREFIX (and DESTDIR); the library and the crate for
+#                  Rust over it where it is built, and so the wheel for Python
 #   make library   prove and build the library for C, and compare its calls with the header's
 #   make bindings  build and test the packages for Rust and Python over the library
 #   make examples  build and run the callers of the library, and compare the walkers with git
-#   make dist      pack the program, the library and the packages over it: a tarball, Debian packages, a wheel, a crate and their
+#   make dist      pack the programs, the library and the packages over it: a tarball, Debian packages, a wheel, a crate and their
 #                  SHA-256 in out/dist
 #   make reproduce pack them in two clones of the last commit, and compare each file
 PREFIX ?= /usr/local
@@ -19,6 +19,8 @@ DATADIR ?= $(PREFIX)/share
 
 folder := crates/pathspec_select_cli
 program := $(folder)/out/pathspec_select_cli
+# The program that people keep on their PATH.
+tool := crates/pathspec_cli/out/pathspec_cli
 library := target/library
 # Where the wheel for Python is taken from.
 WHEELS ?= target/bindings
@@ -31,6 +33,7 @@ below = $(1:$(PREFIX)/%=$${prefix}/%)
 
 all:
 	cd $(folder) && rt run -- ':(glob)src/*.c' < stdin
+	@cd crates/pathspec_cli && rt run -- filter -q src < stdin
 
 quick:
 	cd $(folder) && rt try -- ':(glob)src/*.c' < stdin
@@ -39,10 +42,14 @@ check:
 	bash .ci/run
 
 install:
-	@test -x $(program) || { echo "$(program) isn't built: run make" >&2; exit 1; }
+	@test -x $(program) -a -x $(tool) || { echo "$(program) and $(tool) aren't built: run make" >&2; exit 1; }
 	install -d $(DESTDIR)$(BINDIR) $(DESTDIR)$(MANDIR)/man1
 	install $(program) $(DESTDIR)$(BINDIR)/pathspec-select
-	install -m 644 docs/pathspec-select.1 $(DESTDIR)$(MANDIR)/man1/pathspec-select.1
+	install $(tool) $(DESTDIR)$(BINDIR)/pathspec
+	install -m 644 docs/pathspec-select.1 docs/pathspec.1 $(DESTDIR)$(MANDIR)/man1
+	install -D -m 644 dist/completions/pathspec.bash $(DESTDIR)$(DATADIR)/bash-completion/completions/pathspec
+	install -D -m 644 dist/completions/_pathspec $(DESTDIR)$(DATADIR)/zsh/site-functions/_pathspec
+	install -D -m 644 dist/completions/pathspec.fish $(DESTDIR)$(DATADIR)/fish/vendor_completions.d/pathspec.fish
 	@if test -f $(library)/libpathspec.a; then $(MAKE) --no-print-directory install-library; fi
 	@if ls $(WHEELS)/puneloviash-*.whl > /dev/null 2>&1; then $(MAKE) --no-print-directory install-wheel; fi
 

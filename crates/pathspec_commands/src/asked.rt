@@ -1,0 +1,207 @@
+//! The search that a command asks, with what people need to be told of its specs.
+ghost use Rattle.std.specs.Prelude.{IfOk, IsTrue};
+ghost use Rattle.bstr.specs.BStr.{bstr_bytes};
+ghost use Rattle.pathspec_parts.specs.Paths.{is_clean_prefix};
+
+use crate::Failure;
+use crate::spec_texts::{SpecText, spec_texts};
+use bstr::BStr;
+use gix_pathspec::search::BuildError;
+use gix_pathspec::{Defaults, Error, Pattern, Search, parse};
+use pathspec_faults::report;
+use pathspec_options::{Modes, SpecOptions};
+use pathspec_parts::path;
+use std::alloc::{AllocError, Global};
+use std::env::{self, VarError};
+use std::fs::Files;
+use std::rt::Env;
+
+/// A search, and its specs as they were given.
+#[derive(Drop)]
+pub(crate) struct Asked<'a> {
+    pub(crate) texts: Vec<SpecText<'a>>,
+    /// For each spec, as it was given, its place in search order.
+    places: Vec<usize>,
+    /// Whether a spec lists attributes.
+    pub(crate) lists_attributes: bool,
+    pub(crate) search: Search,
+}
+
+/// Reads the specs of a command, and makes their search.
+///
+/// # Errors
+/// The first fault of a file, of the environment or of a spec.
+pub(crate) fn read_specs<'a, R: Files + Env + AllocGlobal>(
+    rt: &R,
+    options: &SpecOptions<'a>,
+) -> Result<Asked<'a>, Failure> {
+    let texts = spec_texts(rt, options)?;
+    let defaults = defaults(rt, options.modes)?;
+    let mut patterns = Vec::new(rt.alloc());
+    let mut excludes = Vec::new(rt.alloc());
+    let mut lists_attributes = false;
+    for text in &texts {
+        let pattern = pattern_of(rt.alloc(), text, defaults)?;
+        excludes.push(pattern.is_excluded())?;
+        lists_attributes = lists_attributes || !pattern.attributes.is_empty();
+        patterns.push(pattern)?;
+    }
+    let search = search_of(rt.alloc(), patterns, &texts, options)?;
+    Ok(Asked {
+        texts,
+        places: places_in_search(rt.alloc(), &excludes)?,
+        lists_attributes,
+        search,
+    })
+}
+
+impl Asked<'_> {
+    /// The place in search order of the spec with a number. The prefix, where it stands for no specs, has the place 0.
+    pub(crate) fn place_of(&self, number: usize) -> usize {
+        match self.places.get(number) {
+            Some(place) => *place,
+            None => 0,
+        }
+    }
+}
+
+/// The places in search order: excludes come first, each group in the order in which it was given.
+fn places_in_search(alloc: Global, excludes: &[bool]) -> Result<Vec<usize>, AllocError> {
+    let mut places = Vec::new(alloc);
+    let mut excluded = 0usize;
+    let mut included = excludes.iter().filter(|is_exclude| **is_exclude).count();
+    for is_exclude in excludes {
+        if *is_exclude {
+            places.push(excluded)?;
+            excluded = excluded.saturating_add(1);
+        } else {
+            places.push(included)?;
+            included = included.saturating_add(1);
+        }
+    }
+    Ok(places)
+}
+
+/// The pattern of a spec.
+fn pattern_of(alloc: Global, text: &SpecText<'_>, defaults: Defaults) -> Result<Pattern, Failure> {
+    match parse::parse(alloc, &text.text, defaults) {
+        Ok(pattern) => Ok(pattern),
+        Err(error) => Err(spec_fault(alloc, text, &error)?),
+    }
+}
+
+/// What people are told of a spec at fault.
+fn spec_fault(alloc: Global, text: &SpecText<'_>, error: &Error) -> Result<Failure, Failure> {
+    if *error == Error::Memory {
+        return Ok(Failure::Memory);
+    }
+    let subject = text.origin.name(alloc)?;
+    Ok(Failure::Told(report(alloc, subject.as_str(), &text.text, error)?))
+}
+
+/// The prefix that options name: one slash at its end isn't part of it.
+///
+/// # Errors
+/// It isn't clean.
+fn prefix_of<'a>(alloc: Global, options: &SpecOptions<'a>) -> Result<BStr<'a>, Failure>
+    ensures { IfOk result (λ prefix. IsTrue (is_clean_prefix (bstr_bytes prefix))) }
+{
+    let given = options.prefix.as_bytes();
+    let prefix = match given.strip_suffix(b"/") {
+        Some(front) if !front.is_empty() => front,
+        _ => given,
+    };
+    if !path::is_clean_prefix(BStr::new(prefix)) {
+        return Err(Failure::Told(format!(in alloc;
+            "error: --prefix: `{}` is no directory's path: names between single slashes, none of them `.` or `..`\n",
+            options.prefix
+        )?));
+    }
+    Ok(BStr::new(prefix))
+}
+
+/// The search of patterns.
+fn search_of(
+    alloc: Global,
+    patterns: Vec<Pattern>,
+    texts: &[SpecText<'_>],
+    options: &SpecOptions<'_>,
+) -> Result<Search, Failure> {
+    let prefix = prefix_of(alloc, options)?;
+    let root = BStr::new(options.root.as_bytes());
+    match Search::from_specs(alloc, patterns, Some(prefix), root) {
+        Ok(search) => Ok(search),
+        Err(BuildError::Memory) => Err(Failure::Memory),
+        Err(BuildError::Spec(number, error)) => match texts.get(number) {
+            Some(text) => Err(spec_fault(alloc, text, &error)?),
+            None => Err(Failure::Memory),
+        },
+    }
+}
+
+/// The words of git's four variables for pathspecs, by the options and else by the environment.
+#[derive(Drop)]
+struct Variables {
+    literal: Option<String>,
+    icase: Option<String>,
+    glob: Option<String>,
+    noglob: Option<String>,
+}
+
+impl Variables {
+    /// The word of the variable with a name, if it is set.
+    fn word(&self, name: &str) -> Option<&str> {
+        if name == "GIT_LITERAL_PATHSPECS" {
+            self.literal.as_deref()
+        } else if name == "GIT_ICASE_PATHSPECS" {
+            self.icase.as_deref()
+        } else if name == "GIT_GLOB_PATHSPECS" {
+            self.glob.as_deref()
+        } else {
+            self.noglob.as_deref()
+        }
+    }
+}
+
+/// How specs are read where they don't say it: by the options, and else by git's four variables.
+///
+/// # Errors
+/// A variable that is neither true nor false, or isn't UTF-8.
+fn defaults<R: Env + AllocGlobal>(rt: &R, modes: Modes) -> Result<Defaults, Failure> {
+    let variables = Variables {
+        literal: word(rt, "GIT_LITERAL_PATHSPECS", modes.literal, false)?,
+        icase: word(rt, "GIT_ICASE_PATHSPECS", modes.icase, false)?,
+        glob: word(rt, "GIT_GLOB_PATHSPECS", modes.glob, modes.noglob)?,
+        noglob: word(rt, "GIT_NOGLOB_PATHSPECS", modes.noglob, modes.glob)?,
+    };
+    let mut var = |name: &str| -> Option<&str> { variables.word(name) };
+    match Defaults::from_environment(rt.alloc(), &mut var) {
+        Ok(defaults) => Ok(defaults),
+        Err(Error::Memory) => Err(Failure::Memory),
+        Err(error) => Err(Failure::Told(report(rt.alloc(), "environment", b"", &error)?)),
+    }
+}
+
+/// The word of a variable: one that says yes where an option asks for it, none where an option rules it out, and else the
+/// environment's.
+fn word<R: Env + AllocGlobal>(
+    rt: &R,
+    name: &str,
+    is_asked: bool,
+    is_ruled_out: bool,
+) -> Result<Option<String>, Failure> {
+    if is_asked {
+        return Ok(Some(String::from_str(rt.alloc(), "1")?));
+    }
+    if is_ruled_out {
+        return Ok(None);
+    }
+    match env::var(rt, name) {
+        Ok(word) => Ok(Some(word)),
+        Err(VarError::NotPresent) => Ok(None),
+        Err(VarError::NotUnicode) => Err(Failure::Told(format!(in rt.alloc();
+            "error: environment: {name} isn't UTF-8\n"
+        )?)),
+        Err(VarError::OutOfMemory) => Err(Failure::Memory),
+    }
+}

@@ -1,0 +1,157 @@
+//! The attribute files of a directory, each read when a path comes to its directory.
+use crate::Failure;
+use crate::spec_texts::read_file;
+use crate::telling::{quoted, tell};
+use bstr::BStr;
+use pathspec_attributes::{AttributeFiles, LeftOut, Place, Reason};
+use pathspec_filter::{Selection, path_in};
+use pathspec_parts::path::{is_clean_prefix, strip_last_slash};
+use pathspec_parts::records::is_bad;
+use std::alloc::AllocError;
+use std::collections::BTreeSet;
+use std::fs::{self, Files};
+use std::io::{ErrorKind, Write};
+use std::str;
+
+/// Attribute files below a directory.
+#[derive(Drop)]
+pub(crate) struct AttributeDirectory<'a> {
+    directory: &'a str,
+    pub(crate) files: AttributeFiles,
+    /// The directories whose files were looked for, from the top, each with a slash at its end.
+    known: BTreeSet<Vec<u8>>,
+}
+
+impl<'a> AttributeDirectory<'a> {
+    /// Reads the file of the top and the one of the repository that lies there (gitattributes, "DESCRIPTION").
+    ///
+    /// # Errors
+    /// A file can't be read.
+    pub(crate) fn open<R: Files + AllocGlobal, T: Write>(
+        rt: &R,
+        directory: &'a str,
+        told: &mut T,
+    ) -> Result<AttributeDirectory<'a>, Failure> {
+        let mut files = AttributeFiles::new(rt.alloc())?;
+        let top = format!(in rt.alloc(); "{directory}/.gitattributes")?;
+        add_file(rt, &mut files, Place::Directory(b""), top.as_str(), told)?;
+        let info = format!(in rt.alloc(); "{directory}/.git/info/attributes")?;
+        add_file(rt, &mut files, Place::Info, info.as_str(), told)?;
+        Ok(AttributeDirectory {
+            directory,
+            files,
+            known: BTreeSet::new(rt.alloc()),
+        })
+    }
+
+    /// Reads the files of the directories above a path that weren't read yet.
+    ///
+    /// # Errors
+    /// A file can't be read, or the path of its directory isn't UTF-8.
+    pub(crate) fn reach<R: Files + AllocGlobal, T: Write>(
+        &mut self,
+        rt: &R,
+        path: &[u8],
+        told: &mut T,
+    ) -> Result<(), Failure> {
+        let end = memchr::memrchr(b'/', path).unwrap_or(0).min(path.len());
+        let parent = &path[..end];
+        // A path with `..` could lead out of the directory, and git has none.
+        if self.known.contains(parent) || !is_clean_prefix(BStr::new(parent)) {
+            return Ok(());
+        }
+        for (at, byte) in path.iter().enumerate() {
+            if *byte == b'/' && !self.known.contains(&path[..at]) {
+                self.enter(rt, &path[..at], told)?;
+            }
+        }
+        Ok(())
+    }
+
+    /// Reads the files of the directories above the paths of whole records.
+    ///
+    /// # Errors
+    /// As for [`AttributeDirectory::reach`].
+    pub(crate) fn reach_all<R: Files + AllocGlobal, T: Write>(
+        &mut self,
+        rt: &R,
+        records: &[u8],
+        (separator, selection): (u8, Selection),
+        told: &mut T,
+    ) -> Result<(), Failure> {
+        for record in records.split(|byte| *byte == separator) {
+            let (path, _) = strip_last_slash(record);
+            if !is_bad(record) {
+                self.reach(rt, path_in(selection.leading_dot, path), told)?;
+            }
+        }
+        Ok(())
+    }
+
+    /// Reads the file of a directory.
+    fn enter<R: Files + AllocGlobal, T: Write>(
+        &mut self,
+        rt: &R,
+        path: &[u8],
+        told: &mut T,
+    ) -> Result<(), Failure> {
+        let Ok(name) = str::from_utf8(path) else {
+            let name = quoted(rt.alloc(), path)?;
+            return Err(Failure::Told(format!(in rt.alloc();
+                "error: {name}: the path isn't UTF-8, so its attribute file can't be read\n"
+            )?));
+        };
+        let file = format!(in rt.alloc(); "{}/{name}/.gitattributes", self.directory)?;
+        add_file(
+            rt,
+            &mut self.files,
+            Place::Directory(path),
+            file.as_str(),
+            told,
+        )?;
+        let known = Vec::from_slice(rt.alloc(), path)?;
+        self.known.insert(known)?;
+        Ok(())
+    }
+}
+
+/// Adds an attribute file, if it is there and no link, and tells of the lines that git leaves out.
+fn add_file<R: Files + AllocGlobal, T: Write>(
+    rt: &R,
+    files: &mut AttributeFiles,
+    place: Place<'_>,
+    file: &str,
+    told: &mut T,
+) -> Result<(), Failure> {
+    if !is_there(rt, file)? {
+        return Ok(());
+    }
+    let text = read_file(rt, file)?;
+    for LeftOut { line, reason } in files.add(place, &text)?.into_iter() {
+        let reason = reason_text(reason);
+        let warning = format!(in rt.alloc(); "warning: {file}:{line}: {reason}\n")?;
+        tell(told, warning.as_str());
+    }
+    Ok(())
+}
+
+/// Whether a path is an ordinary file.
+fn is_there<R: Files + AllocGlobal>(rt: &R, file: &str) -> Result<bool, Failure> {
+    match fs::symlink_metadata(rt, file) {
+        Ok(metadata) => Ok(metadata.is_file()),
+        Err(error) => match error.kind() {
+            ErrorKind::NotFound | ErrorKind::NotADirectory => Ok(false),
+            _ => Err(Failure::Told(format!(in rt.alloc(); "error: {file}: {error}\n")?)),
+        },
+    }
+}
+
+/// Why a line is left out.
+fn reason_text(reason: Reason) -> &'static str {
+    match reason {
+        Reason::TooLong => "the line has 2,048 bytes or more",
+        Reason::InvalidName => "this is no name of an attribute",
+        Reason::MacroHere => "macros stand in the file of the top alone",
+        Reason::Negative => "a pattern can't begin with `!`",
+    }
+}

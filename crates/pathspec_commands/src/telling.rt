@@ -1,0 +1,33 @@
+//! Lines for people.
+use crate::Failure;
+use pathspec_faults::push_shown;
+use std::alloc::{AllocError, Global};
+use std::io::Write;
+
+/// Writes to where people are told. Whether they read it changes nothing.
+pub(crate) fn tell<T: Write>(told: &mut T, text: &str) {
+    let _ = told.write_all(text.as_bytes());
+}
+
+/// A text in quotes, with control characters and bytes that are no UTF-8 by their numbers.
+pub(crate) fn quoted(alloc: Global, text: &[u8]) -> Result<String, AllocError> {
+    let mut shown = String::from_str(alloc, "'")?;
+    push_shown(&mut shown, text)?;
+    shown.push_str("'")?;
+    Ok(shown)
+}
+
+/// Adds so many spaces.
+pub(crate) fn push_spaces(line: &mut String, count: usize) -> Result<(), AllocError> {
+    for _ in 0..count {
+        line.push(' ')?;
+    }
+    Ok(())
+}
+
+/// The fault of a path that is no record's.
+pub(crate) fn bad_path(alloc: Global, number: usize) -> Result<Failure, AllocError> {
+    Ok(Failure::Told(format!(in alloc;
+        "error: path {number} is empty, begins with a slash or holds two in a row\n"
+    )?))
+}

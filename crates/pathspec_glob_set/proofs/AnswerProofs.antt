@@ -1,0 +1,93 @@
+-- What a set of globs says of a text.
+use Rattle.std.proofs.Common.{◌≡◌, ℕ, ◌≤◌, Bool, true, false, sym, ◌∙◌, ap, subst, arith, inl, inr, List, [], length, get_or, Some, None}
+use Rattle.std.proofs.lemmas.Bool.{true≢false, cases_lt}
+use Rattle.pathspec_glob_set.specs.declared.moves.Moves.{Moves}
+use Rattle.pathspec_glob_set.specs.declared.member.Member.{Member}
+use Rattle.pathspec_glob_set.specs.declared.set.GlobSet.{GlobSet}
+use Rattle.pathspec_glob_set.specs.declared.table.Lead.{Lead}
+use Rattle.pathspec_glob_set.specs.declared.table.Lead.TheVariants.{Row, Nowhere, Unknown}
+use Rattle.pathspec_glob_set.specs.Moves.{AreAlike, LeadsNowhere, LeadsTo}
+use Rattle.pathspec_glob_set.specs.Sizes.{row_at, IsFirst}
+use Rattle.pathspec_glob_set.specs.Sets.{member_matches, AreEnds, AreMovesOf, IsColumn}
+use Rattle.pathspec_glob_set.specs.Meanings.{is_over_before, is_wide_before, stands, takes_before}
+use Rattle.pathspec_glob_set.specs.Answers.{IsFound, IsMatch, LeavesOutNone, MemberMatches}
+use Rattle.pathspec_glob.proofs.GlobProofs.{glob_is_relation}
+use Rattle.pathspec_glob_set.specs.Tables.{is_unknown, IsKnown}
+use Rattle.pathspec_glob_set.proofs.SetProofs.{says-matches}
+
+-- moves that are the same are those of the same globs
+pub alike-moves : (globs : List Member) (some others : Moves) → AreAlike some others → AreMovesOf globs others → AreMovesOf globs some
+alike-moves globs some others alike are =
+    let ends = sym alike.ends in
+    record {
+      ends = subst (AreEnds globs) ends are.ends;
+      places = ap length alike.wide ∙ are.places;
+      wide = subst (λ e. IsColumn globs e (λ glob i. is_wide_before glob.tokens i) some.wide) ends (subst (λ w. IsColumn globs others.ends.items (λ glob i. is_wide_before glob.tokens i) w) (sym alike.wide) are.wide);
+      over = subst (λ e. IsColumn globs e (λ glob i. is_over_before glob.tokens i) some.over) ends (subst (λ w. IsColumn globs others.ends.items (λ glob i. is_over_before glob.tokens i) w) (sym alike.over) are.over);
+      takes = λ b fits. subst (λ e. IsColumn globs e (λ glob i. takes_before glob.tokens glob.case i b) (row_at some.takes.items (get_or some.classes b 0))) ends
+          (subst (λ t. IsColumn globs others.ends.items (λ glob i. takes_before glob.tokens glob.case i b) (row_at t (get_or some.classes b 0))) (sym alike.takes)
+          (subst (λ k. IsColumn globs others.ends.items (λ glob i. takes_before glob.tokens glob.case i b) (row_at others.takes.items (get_or k b 0))) (sym alike.classes) (are.takes b fits)));
+      start = subst (λ e. IsColumn globs e (λ glob i. stands glob.tokens glob.case i []) some.start) ends (subst (λ w. IsColumn globs others.ends.items (λ glob i. stands glob.tokens glob.case i []) w) (sym alike.start) are.start);
+    }
+
+-- what is found in the row that a text leads to
+pub found-in-row : (set : GlobSet) (moves : Moves) (text : List ℕ) (row : List Bool) (from found : ℕ) (lead : Lead) → AreAlike moves set.moves → LeadsTo moves text row
+    → IsFirst moves.ends.items row from found → IsFound set text from lead found
+found-in-row set moves text row from found lead alike leads first = record {
+  behind = first.behind;
+  within = subst (λ e. found ≤ length e) alike.ends first.within;
+  none = λ globs are g glob at after before.
+      sym (says-matches globs moves (alike-moves globs moves set.moves alike are) text row leads g glob at) ∙ first.none g after before;
+  match_there = λ known globs are glob at.
+      let mine = alike-moves globs moves set.moves alike are in
+      sym (says-matches globs moves mine text row leads found glob at) ∙ first.stands (omega (arith, at.within, mine.ends.len));
+}
+
+-- where a text leads to no place, nothing is found
+pub found-nowhere : (set : GlobSet) (moves : Moves) (text : List ℕ) (from : ℕ) (lead : Lead) → AreAlike moves set.moves → LeadsNowhere moves text → from ≤ length set.moves.ends.items
+    → IsFound set text from lead (length set.moves.ends.items)
+found-nowhere set moves text from lead alike nowhere low = record {
+  behind = low;
+  within = omega arith;
+  none = λ globs are g glob at after before.
+      sym (says-matches globs moves (alike-moves globs moves set.moves alike are) text nowhere.0 nowhere.1.0 g glob at) ∙ nowhere.1.1 (get_or moves.ends.items g 0);
+  match_there = λ known globs are glob at. absurd (let no : ⊥ = omega (arith, at.within, are.ends.len) in no);
+}
+
+-- where a walk gave up, nothing is left out
+pub found-unknown : (set : GlobSet) (text : List ℕ) (from : ℕ) → from ≤ length set.moves.ends.items → IsFound set text from Unknown from
+found-unknown set text from low = record {
+  behind = omega arith;
+  within = low;
+  none = λ globs are g glob at after before. absurd (let no : ⊥ = omega (arith, after, before) in no);
+  match_there = λ known. absurd known;
+}
+
+-- ---- by the relation of all globs
+
+matches-true : (glob : Member) (text : List ℕ) → MemberMatches glob text → member_matches glob text ≡ true
+matches-true glob text matched = (glob_is_relation glob.tokens.mode glob.case glob.tokens.tokens text).1 matched
+
+true-matches : (glob : Member) (text : List ℕ) → member_matches glob text ≡ true → MemberMatches glob text
+true-matches glob text e = (glob_is_relation glob.tokens.mode glob.case glob.tokens.tokens text).0 e
+
+-- no glob that matches comes before what was found
+pub left-none : (set : GlobSet) (text : List ℕ) (from : ℕ) (lead : Lead) (found : ℕ) → IsFound set text from lead found → LeavesOutNone set text from (Some found)
+left-none set text from lead found is globs are g glob at after matched = elim (cases_lt g found) [
+  | inl l ↦ absurd (true≢false (sym (matches-true glob text matched) ∙ is.none globs are g glob at after l))
+  | inr n ↦ n
+]
+
+-- where nothing is found, no glob matches
+pub left-all : (set : GlobSet) (text : List ℕ) (from : ℕ) (lead : Lead) (found : ℕ) → IsFound set text from lead found → length set.moves.ends.items ≤ found → LeavesOutNone set text from None
+left-all set text from lead found is none globs are g glob at after matched =
+    true≢false (sym (matches-true glob text matched) ∙ is.none globs are g glob at after (omega (arith, none, at.within, are.ends.len)))
+
+-- what is found matches, unless the search gave up
+pub found-matches : (set : GlobSet) (text : List ℕ) (from : ℕ) (lead : Lead) (found : ℕ) (gave_up : Bool) → IsFound set text from lead found → gave_up ≡ is_unknown lead → IsMatch set text gave_up found
+found-matches set text from lead found gave_up is e went_on globs are glob at = true-matches glob text (is.match_there (known lead (sym e ∙ went_on)) globs are glob at)
+  where
+    known : (l : Lead) → is_unknown l ≡ false → IsKnown l
+    known (Row r) h = tt
+    known Nowhere h = tt
+    known Unknown h = absurd (true≢false h)

@@ -1,0 +1,329 @@
+-- Tables of rows that texts led to.
+use Rattle.std.proofs.Common.{◌≡◌, ◌≢◌, ℕ, zero, suc, ◌+◌, ◌-◌, ◌*◌, ◌<◌, ◌≤◌, Bool, true, false, ◌&&◌, ◌||◌, refl, sym, ◌∙◌, ap, subst, arith, inl, inr, List, [], ◌∷◌, length, get_or, set, replicate, drop, ◌^◌}
+use Rattle.std.proofs.lemmas.Bool.{cases_eq, cases_lt}
+use Rattle.std.proofs.lemmas.List.{get_or-set_same, get_or-set_other, length-set, get_or-replicate, length-replicate, get_or_past, drop_more}
+use Rattle.std.proofs.Math.Nat.{mul-le-mul_right}
+use Rattle.std.proofs.lemmas.Nat.{same_from_place, mul-add-lt}
+use Rattle.pathspec_glob.specs.GlobCells.{further}
+use Rattle.pathspec_glob.specs.BitVecs.{holds}
+use Rattle.pathspec_glob_set.specs.declared.moves.Moves.{Moves}
+use Rattle.pathspec_glob_set.specs.Moves.{entered_by, HoldsNone, IsLost, IsStep, LeadsNowhere, LeadsTo, takes_of}
+use Rattle.pathspec_glob_set.specs.Moves.LeadsTo.{byte, empty}
+use Rattle.pathspec_glob_set.specs.Rows.{leads_on, taken_of}
+use Rattle.pathspec_glob_set.specs.Sizes.{row_at, IsFirst}
+use Rattle.pathspec_glob_set.specs.declared.table.Table.{Table}
+use Rattle.pathspec_glob_set.specs.Tables.{cell_of, most_misses, nowhere, row_of, unknown, AddsSpare, AreCells, AreFewSteps, AreRows, IsRight, IsTable}
+
+-- ---- rows
+
+row-same : (rows : List (List Bool)) (i : ℕ) (row : List Bool) → i < length rows → row_at (set rows i row) i ≡ row
+row-same rows i row h = get_or-set_same rows i row [] h
+
+row-other : (rows : List (List Bool)) (i r : ℕ) (row : List Bool) → (r ≡ i → ⊥) → row_at (set rows i row) r ≡ row_at rows r
+row-other rows i r row n = get_or-set_other rows i r row [] n
+
+-- one row more
+pub more-rows : (moves : Moves) (rows : List (List Bool)) (firsts : List ℕ) (used first : ℕ) (row : List Bool) → AreRows moves rows firsts used → used < length rows
+    → length row ≡ length moves.wide → IsFirst moves.ends.items row 0 first → AreRows moves (set rows used row) (set firsts used first) (used + 1)
+more-rows moves rows firsts used first row are room size is_first =
+    let long : length (set rows used row) ≡ length rows = length-set rows used row in
+    let others : (r : ℕ) → (r ≡ used → ⊥) → row_at (set rows used row) r ≡ row_at rows r = λ r n. row-other rows used r row n in
+    record {
+      sizes = λ r h. elim (cases_eq r used) [
+        | inl e ↦ ap length (ap (row_at (set rows used row)) e ∙ row-same rows used row room) ∙ size
+        | inr n ↦ ap length (others r n) ∙ are.sizes r (omega (arith, h, long))
+      ];
+      few = omega (arith, long, are.few);
+      many = omega (arith, long, are.many);
+      within = omega (arith, long, room);
+      some = omega arith;
+      first = others 0 (λ e. omega (arith, e, are.some)) ∙ are.first;
+      alike = length-set firsts used first ∙ are.alike ∙ sym long;
+      globs = λ r h. elim (cases_eq r used) [
+        | inl e ↦
+            let at : row_at (set rows used row) r ≡ row = ap (row_at (set rows used row)) e ∙ row-same rows used row room in
+            let found : get_or (set firsts used first) r 0 ≡ first = ap (λ k. get_or (set firsts used first) k 0) e ∙ get_or-set_same firsts used first 0 (omega (arith, room, are.alike)) in
+            subst (λ x. IsFirst moves.ends.items x 0 (get_or (set firsts used first) r 0)) (sym at) (subst (λ x. IsFirst moves.ends.items row 0 x) (sym found) is_first)
+        | inr n ↦
+            subst (λ x. IsFirst moves.ends.items x 0 (get_or (set firsts used first) r 0)) (sym (others r n))
+            (subst (λ x. IsFirst moves.ends.items (row_at rows r) 0 x) (sym (get_or-set_other firsts used r first 0 n)) (are.globs r (omega (arith, h, n))))
+      ];
+    }
+
+-- the first row alone
+pub one-row : (moves : Moves) (rows : List (List Bool)) (firsts : List ℕ) (used : ℕ) → AreRows moves rows firsts used → AreRows moves rows firsts 1
+one-row moves rows firsts used are = record {
+  sizes = are.sizes;
+  few = are.few;
+  many = are.many;
+  within = omega (arith, are.many);
+  some = omega arith;
+  first = are.first;
+  alike = are.alike;
+  globs = λ r h. are.globs r (omega (arith, h, are.some));
+}
+
+-- ---- cells
+
+-- a cell's place is one of the cells
+pub cell-within : (moves : Moves) (rows : List (List Bool)) (used : ℕ) (cells : List ℕ) (r c : ℕ) → AreCells moves rows used cells → r < length rows → c < length moves.takes.items
+    → r * length moves.takes.items + c < length cells
+cell-within moves rows used cells r c are low small =
+    omega (arith, mul-add-lt r (length moves.takes.items) c (length rows) low small, are.size, mul-turned (length rows) (length moves.takes.items))
+  where
+    mul-turned : (a b : ℕ) → a * b ≡ b * a
+    mul-turned a b = omega arith
+
+-- what a cell that is filled says stays right
+pub put-cell : (moves : Moves) (rows : List (List Bool)) (used : ℕ) (cells : List ℕ) (row class cell : ℕ) → AreCells moves rows used cells → row < used → used ≤ length rows
+    → class < length moves.takes.items → IsRight moves rows used (row_at moves.takes.items class) (row_at rows row) cell
+    → AreCells moves rows used (set cells (row * length moves.takes.items + class) cell)
+put-cell moves rows used cells row class cell are low within small right =
+    let width = length moves.takes.items in
+    let at = row * width + class in
+    let there : at < length cells = cell-within moves rows used cells row class are (omega (arith, low, within)) small in
+    record {
+      size = length-set cells at cell ∙ are.size;
+      filled = λ r c h known. elim (cases_eq (r * width + c) at) [
+        | inl e ↦
+            let same = same_from_place r c row class width h small e in
+            let read : get_or (set cells at cell) (r * width + c) unknown ≡ cell = ap (λ k. get_or (set cells at cell) k unknown) e ∙ get_or-set_same cells at cell unknown there in (
+              subst (λ k. k < used) (sym same.0) low,
+              subst (λ k. IsRight moves rows used (row_at moves.takes.items c) (row_at rows r) k) (sym read)
+                  (subst (λ k. IsRight moves rows used (row_at moves.takes.items k) (row_at rows r) cell) (sym same.1)
+                  (subst (λ k. IsRight moves rows used (row_at moves.takes.items class) (row_at rows k) cell) (sym same.0) right)),
+            )
+        | inr n ↦
+            let read : get_or (set cells at cell) (r * width + c) unknown ≡ get_or cells (r * width + c) unknown = get_or-set_other cells at (r * width + c) cell unknown n in
+            let was = are.filled r c h (λ none. known (read ∙ none)) in
+            (was.0, subst (λ k. IsRight moves rows used (row_at moves.takes.items c) (row_at rows r) k) (sym read) was.1)
+      ];
+    }
+
+-- cells stay right with one row more
+pub more-cells : (moves : Moves) (rows : List (List Bool)) (used : ℕ) (cells : List ℕ) (row : List Bool) → AreCells moves rows used cells → AreCells moves (set rows used row) (used + 1) cells
+more-cells moves rows used cells row are = record {
+  size = are.size ∙ ap (λ k. k * length moves.takes.items) (sym (length-set rows used row));
+  filled = λ r c h known.
+      let was = are.filled r c h known in
+      let width = length moves.takes.items in
+      let cell = cell_of moves cells r c in
+      let from : row_at (set rows used row) r ≡ row_at rows r = row-other rows used r row (λ e. omega (arith, e, was.0)) in (
+        omega (arith, was.0),
+        record {
+          lost = λ e. subst (λ x. IsLost moves (row_at moves.takes.items c) x) (sym from) (was.1.lost e);
+          within = λ n. omega (arith, was.1.within n);
+          leads = λ n.
+              let to : row_at (set rows used row) cell ≡ row_at rows cell = row-other rows used cell row (λ e. omega (arith, e, was.1.within n)) in
+              subst (λ x. IsStep moves (row_at moves.takes.items c) x (row_at (set rows used row) cell)) (sym from)
+              (subst (λ x. IsStep moves (row_at moves.takes.items c) (row_at rows r) x) (sym to) (was.1.leads n));
+        },
+      );
+}
+
+-- cells of which none is filled
+pub unknown-cells : (moves : Moves) (rows : List (List Bool)) (used size : ℕ) → size ≡ length rows * length moves.takes.items → AreCells moves rows used (replicate size unknown)
+unknown-cells moves rows used size e = record {
+  size = length-replicate size unknown ∙ e;
+  filled = λ r c h known. absurd (known (none (r * length moves.takes.items + c)));
+}
+  where
+    none : (k : ℕ) → get_or (replicate size unknown) k unknown ≡ unknown
+    none k = elim (cases_lt k size) [
+      | inl l ↦ get_or-replicate size k unknown unknown l
+      | inr g ↦ get_or_past (replicate size unknown) k unknown (omega (arith, g, length-replicate size unknown))
+    ]
+
+-- cells that are all forgotten
+pub no-cells : (moves : Moves) (rows : List (List Bool)) (used new : ℕ) (cells : List ℕ) → AreCells moves rows used cells → AreCells moves rows new (replicate (length cells) unknown)
+no-cells moves rows used new cells are = unknown-cells moves rows new (length cells) are.size
+
+-- rows that are all that of the empty text, the first of which is in use
+pub new-rows : (moves : Moves) (rows : List (List Bool)) (firsts : List ℕ) (count first : ℕ) → 2 ≤ count → count ≤ nowhere → length rows ≡ count
+    → ((r : ℕ) → r < count → row_at rows r ≡ moves.start) → firsts ≡ replicate count first → IsFirst moves.ends.items moves.start 0 first → AreRows moves rows firsts 1
+new-rows moves rows firsts count first many few len alike are is = record {
+  sizes = λ r h. ap length (alike r (omega (arith, h, len))) ∙ moves.sizes.start_alike;
+  few = omega (arith, few, len);
+  many = omega (arith, many, len);
+  within = omega (arith, many, len);
+  some = omega arith;
+  first = alike 0 (omega (arith, many));
+  alike = ap length are ∙ length-replicate count first ∙ sym len;
+  globs = λ r h.
+      let found : get_or firsts r 0 ≡ first = ap (λ k. get_or k r 0) are ∙ get_or-replicate count r first 0 (omega (arith, h, many)) in
+      subst (λ x. IsFirst moves.ends.items x 0 (get_or firsts r 0)) (sym (alike r (omega (arith, h, many)))) (subst (λ x. IsFirst moves.ends.items moves.start 0 x) (sym found) is);
+}
+
+-- ---- texts that lead to no place
+
+further-off : (f : ℕ → Bool) (k : ℕ) → ((j : ℕ) → f j ≡ false) → further false f k ≡ false
+further-off f zero none = refl
+further-off f (suc k) none = none k
+
+all-off : {a t s z : Bool} (w : Bool) → a ≡ false → t ≡ false → s ≡ false → z ≡ false → ((a || (t && w)) || (s || z)) ≡ false
+all-off w p q r u = rw (p, q, r, u) refl
+
+both-off : {a b : Bool} → a ≡ false → b ≡ false → (a || b) ≡ false
+both-off p q = rw (p, q) refl
+
+first-off : (a b : Bool) → (a || b) ≡ false → a ≡ false
+first-off true b e = e
+first-off false b e = refl
+
+-- from a row without a place each byte leads to it
+pub stays-lost : (moves : Moves) (takes row : List Bool) → length row ≡ length moves.wide → HoldsNone row → IsStep moves takes row row
+stays-lost moves takes row size none = record {
+  size = size;
+  places = λ i h.
+      let off : (f : ℕ → Bool) (j : ℕ) → (holds row j && f j) ≡ false = λ f j. ap (λ x. x && f j) (none j) in
+      none i
+      ∙ sym (all-off (holds moves.wide i) (further-off (taken_of takes row) i (off (holds takes))) (off (holds takes) i) (further-off (λ j. holds row j && holds moves.wide j) i (off (holds moves.wide)))
+      (further-off (further false (λ j. holds row j && holds moves.over j)) i (λ j. further-off (λ k. holds row k && holds moves.over k) j (off (holds moves.over)))));
+}
+
+leads-size : (moves : Moves) (text : List ℕ) (row : List Bool) → LeadsTo moves text row → length row ≡ length moves.wide
+leads-size moves [] row empty = moves.sizes.start_alike
+leads-size moves (b ∷ text) row (byte fits from step) = step.size
+
+-- where a text leads to no place, it does with a byte before it
+lost-more : (moves : Moves) (b : ℕ) (text : List ℕ) → b < 256 → LeadsNowhere moves text → LeadsNowhere moves (b ∷ text)
+lost-more moves b text fits nowhere =
+    (nowhere.0, (byte fits nowhere.1.0 (stays-lost moves (takes_of moves b) nowhere.0 (leads-size moves text nowhere.0 nowhere.1.0) nowhere.1.1), nowhere.1.1))
+
+-- where the end of a text leads to no place, the text does
+pub lost-front : (moves : Moves) (k : ℕ) (text : List ℕ) → ((i : ℕ) → get_or text i 0 < 256) → LeadsNowhere moves (drop k text) → LeadsNowhere moves text
+lost-front moves zero text fits nowhere = nowhere
+lost-front moves (suc k) [] fits nowhere = nowhere
+lost-front moves (suc k) (b ∷ text) fits nowhere = lost-more moves b text (fits 0) (lost-front moves k text (λ i. fits (suc i)) nowhere)
+
+-- ---- a walk
+
+-- a byte before those that were read
+pub before-read : (text : List ℕ) (back : ℕ) → back < length text → drop (length text - (back + 1)) text ≡ get_or text (length text - 1 - back) 0 ∷ drop (length text - back) text
+before-read text back within =
+    let i = length text - 1 - back in
+    let here : length text - (back + 1) ≡ i = omega arith in
+    let next : i + 1 ≡ length text - back = omega (arith, within) in
+    ap (λ k. drop k text) here ∙ drop_more text i 0 (omega (arith, within)) ∙ ap (λ k. get_or text i 0 ∷ drop k text) next
+
+-- a byte more leads to the next row
+pub leads-more : (old new : Moves) (text : List ℕ) (b : ℕ) (row next : List Bool) → new ≡ old → b < 256 → LeadsTo old text row → IsStep new (takes_of old b) row next → LeadsTo new (b ∷ text) next
+leads-more old new text b row next e fits leads step =
+    byte fits (subst (λ m. LeadsTo m text row) (sym e) leads) (subst (λ m. IsStep new (takes_of m b) row next) (sym e) step)
+
+no-place : (n i : ℕ) → holds (replicate n false) i ≡ false
+no-place n i = elim (cases_lt i n) [
+  | inl l ↦ get_or-replicate n i false false l
+  | inr g ↦ get_or_past (replicate n false) i false (omega (arith, g, length-replicate n false))
+]
+
+-- where nothing is entered, the byte leads to the row without a place
+lost-row : (moves : Moves) (takes row : List Bool) → IsLost moves takes row → IsStep moves takes row (replicate (length moves.wide) false)
+lost-row moves takes row lost = record {
+  size = length-replicate (length moves.wide) false;
+  places = λ i h.
+      let none = replicate (length moves.wide) false in
+      let off : (f : ℕ → Bool) (j : ℕ) → (holds none j && f j) ≡ false = λ f j. ap (λ x. x && f j) (no-place (length moves.wide) j) in
+      no-place (length moves.wide) i
+      ∙ sym (both-off (lost i h) (both-off (further-off (λ j. holds none j && holds moves.wide j) i (off (holds moves.wide)))
+      (further-off (further false (λ j. holds none j && holds moves.over j)) i (λ j. further-off (λ k. holds none k && holds moves.over k) j (off (holds moves.over))))));
+}
+
+-- a byte more leads to no place
+pub lost-step : (old new : Moves) (text : List ℕ) (b : ℕ) (row : List Bool) → new ≡ old → b < 256 → LeadsTo old text row → IsLost new (takes_of old b) row → LeadsNowhere new (b ∷ text)
+lost-step old new text b row e fits leads lost =
+    (replicate (length new.wide) false, (leads-more old new text b row (replicate (length new.wide) false) e fits leads (lost-row new (takes_of old b) row lost), no-place (length new.wide)))
+
+-- the steps of a byte more
+pub counts-more : (s t m n back w v : ℕ) → w ≡ v → s ≡ back + m * (w + 1) → t + m * (v + 1) ≡ s + 1 + n * (v + 1) → t ≡ back + 1 + n * (w + 1)
+counts-more s t m n back w v e was counted = subst (λ k. t ≡ back + 1 + n * (k + 1)) (sym e) (more (subst (λ k. s ≡ back + m * (k + 1)) e was))
+  where
+    more : s ≡ back + m * (v + 1) → t ≡ back + 1 + n * (v + 1)
+    more same = omega (arith, same, counted)
+
+-- the steps fit
+pub steps-fit : (s m back w : ℕ) → s ≡ back + m * (w + 1) → m ≤ 8 → w < 2 ^ 62 → back < 2 ^ 64 → s < 2 ^ 127
+steps-fit s m back w e few small short = omega (arith, e, small, short, mul-le-mul_right (w + 1) few)
+
+-- no steps are counted at the begin of a text
+pub begun-steps : (s m w : ℕ) → s ≡ 0 → m ≡ 0 → s ≡ 0 + m * (w + 1)
+begun-steps s m w none nil =
+    let product : m * (w + 1) ≡ 0 * (w + 1) = ap (λ k. k * (w + 1)) nil in
+    omega (arith, none, product)
+
+-- the steps of a text, of which so many bytes were read
+pub few-steps : (places bytes back : ℕ) (table : Table) → table.steps ≡ back + table.misses * (places + 1) → table.misses ≤ back → table.misses ≤ most_misses → back ≤ bytes → AreFewSteps places bytes table
+few-steps places bytes back table e filled few within = record {
+  filled = omega (arith, filled, within);
+  few = few;
+  steps = omega (arith, e, within);
+  bound = omega (arith, e, within, mul-le-mul_right {m = table.misses} {n = bytes} (places + 1) (omega (arith, filled, within)));
+}
+
+-- ---- a table
+
+-- a cell's place is one of the cells
+pub place-within : (table : Table) (r c : ℕ) → IsTable table → r < table.used → c < length table.moves.takes.items → r * length table.moves.takes.items + c < length table.cells.items
+place-within table r c is low small = cell-within table.moves table.rows.items table.used table.cells.items r c is.cells (omega (arith, low, is.rows.within)) small
+
+-- a cell that is filled tells where its class leads
+pub lead-row : (table : Table) (r c cell : ℕ) → IsTable table → c < length table.moves.takes.items → cell ≡ cell_of table.moves table.cells.items r c → cell ≢ unknown → cell ≢ nowhere
+    → (cell < table.used) × IsStep table.moves (row_at table.moves.takes.items c) (row_of table r) (row_of table cell)
+lead-row table r c cell is small e known some =
+    let right = (is.cells.filled r c small (λ none. known (e ∙ none))).1 in
+    let there : cell_of table.moves table.cells.items r c ≢ nowhere = λ lost. some (e ∙ lost) in
+    (omega (arith, e, right.within there), subst (λ k. IsStep table.moves (row_at table.moves.takes.items c) (row_of table r) (row_of table k)) (sym e) (right.leads there))
+
+pub lead-nowhere : (table : Table) (r c cell : ℕ) → IsTable table → c < length table.moves.takes.items → cell ≡ cell_of table.moves table.cells.items r c → cell ≢ unknown → cell ≡ nowhere
+    → IsLost table.moves (row_at table.moves.takes.items c) (row_of table r)
+lead-nowhere table r c cell is small e known lost = (is.cells.filled r c small (λ none. known (e ∙ none))).1.lost (sym e ∙ lost)
+
+-- what a cell that leads to a row says
+pub right-row : (moves : Moves) (rows : List (List Bool)) (used : ℕ) (takes row : List Bool) (cell : ℕ) → used ≤ nowhere → cell < used → IsStep moves takes row (row_at rows cell) → IsRight moves rows used takes row cell
+right-row moves rows used takes row cell few low step = record {
+  lost = λ e. absurd (let no : ⊥ = omega (arith, few, low, e) in no);
+  within = λ n. low;
+  leads = λ n. step;
+}
+
+-- what a cell that leads to no place says
+pub right-nowhere : (moves : Moves) (rows : List (List Bool)) (used : ℕ) (takes row lost : List Bool) → IsStep moves takes row lost → HoldsNone lost → IsRight moves rows used takes row nowhere
+right-nowhere moves rows used takes row lost step none = record {
+  lost = λ e i h. first-off (entered_by moves takes row i) (leads_on (holds moves.wide) (holds moves.over) (holds lost) i) (sym (step.places i h) ∙ none i);
+  within = λ n. absurd (n refl);
+  leads = λ n. absurd (n refl);
+}
+
+-- ---- a cell that is filled
+
+-- the cells, of which one is filled more
+pub fill-cells : (table : Table) (row class cell at : ℕ) (cells : List ℕ) → IsTable table → row < table.used → class < length table.moves.takes.items
+    → at ≡ row * length table.moves.takes.items + class → IsRight table.moves table.rows.items table.used (row_at table.moves.takes.items class) (row_of table row) cell
+    → cells ≡ set table.cells.items at cell → AreCells table.moves table.rows.items table.used cells
+fill-cells table row class cell at cells is low small place right filled =
+    subst (AreCells table.moves table.rows.items table.used) (sym (filled ∙ ap (λ k. set table.cells.items k cell) place))
+    (put-cell table.moves table.rows.items table.used table.cells.items row class cell is.cells low is.rows.within small right)
+
+-- the row that was added is the spare one
+added-row : {old new : Table} {added : ℕ} → AddsSpare old new added → old.used < length old.rows.items → row_of new added ≡ old.spare
+added-row {old = old} {new = new} {added = added} adds room =
+    ap (λ rows. row_at rows added) adds.rows ∙ ap (λ k. row_at (set old.rows.items old.used old.spare) k) adds.row ∙ row-same old.rows.items old.used old.spare room
+
+-- where the spare row is a step, the row that was added is
+pub added-leads : {old new : Table} {added : ℕ} (takes row : List Bool) → AddsSpare old new added → old.used < length old.rows.items → IsStep old.moves takes row old.spare
+    → (added < new.used) × IsStep new.moves takes row (row_of new added)
+added-leads {old = old} {new = new} {added = added} takes row adds room step = (
+  omega (arith, adds.row, adds.used),
+  subst (λ m. IsStep m takes row (row_of new added)) (sym adds.moves) (subst (λ k. IsStep old.moves takes row k) (sym (added-row adds room)) step),
+)
+
+-- so a cell may say so, of a row that was there before
+pub added-right : {old new : Table} {added : ℕ} (row class : ℕ) → AddsSpare old new added → IsTable new → old.used < length old.rows.items → row < old.used
+    → IsStep old.moves (row_at old.moves.takes.items class) (row_of old row) old.spare
+    → IsRight new.moves new.rows.items new.used (row_at new.moves.takes.items class) (row_of new row) added
+added-right {old = old} {new = new} {added = added} row class adds is room low step =
+    let stays : row_of new row ≡ row_of old row = ap (λ rows. row_at rows row) adds.rows ∙ row-other old.rows.items old.used row old.spare (λ e. omega (arith, e, low)) in
+    let takes : row_at new.moves.takes.items class ≡ row_at old.moves.takes.items class = ap (λ m. row_at m.takes.items class) adds.moves in
+    let leads = added-leads (row_at old.moves.takes.items class) (row_of old row) adds room step in
+    right-row new.moves new.rows.items new.used (row_at new.moves.takes.items class) (row_of new row) added (omega (arith, is.rows.within, is.rows.few)) leads.0
+    (subst (λ t. IsStep new.moves t (row_of new row) (row_of new added)) (sym takes) (subst (λ r. IsStep new.moves (row_at old.moves.takes.items class) r (row_of new added)) (sym stays) leads.1))

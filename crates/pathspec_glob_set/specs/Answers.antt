@@ -1,0 +1,55 @@
+-- What a set of globs says of a text.
+use Rattle.std.specs.Prelude.{◌≡◌, ◌+◌, ◌-◌, ◌<◌, ◌≤◌, ◌⊎◌, ◌==◌, ℕ, Bool, true, false, List, IsTrue, IsFalse, Option, Some, None, length, if◌then◌else◌}
+use Rattle.pathspec_glob.specs.GlobRelation.{Matches}
+use Rattle.pathspec_glob_set.specs.declared.set.GlobSet.{GlobSet}
+use Rattle.pathspec_glob_set.specs.declared.set.SetScratch.{SetScratch}
+use Rattle.pathspec_glob_set.specs.declared.table.Lead.{Lead}
+use Rattle.pathspec_glob_set.specs.declared.member.Member.{Member}
+use Rattle.pathspec_glob_set.specs.Sets.{member_matches, AreMovesOf, IsAt}
+use Rattle.pathspec_glob_set.specs.Sizes.{most_losses}
+use Rattle.pathspec_glob_set.specs.Tables.{most_misses, IsKnown}
+
+-- The set is that of the globs.
+abbrev pub IsSetOf : List Member → GlobSet → Type 0
+IsSetOf globs set = AreMovesOf globs set.moves
+
+-- the glob matches the text, by the relation of all globs
+abbrev pub MemberMatches : Member → List ℕ → Type 0
+MemberMatches glob text = Matches glob.tokens.mode glob.case glob.tokens.tokens text
+
+-- a glob that comes no sooner than what was found, if anything was
+abbrev pub ComesBy : Option ℕ → ℕ → Type 0
+ComesBy None g = ⊥
+ComesBy (Some found) g = found ≤ g
+
+-- No glob from a number on that matches the text comes before what was found.
+abbrev pub LeavesOutNone : GlobSet → List ℕ → ℕ → Option ℕ → Type 0
+LeavesOutNone set text from found = (globs : List Member) → IsSetOf globs set
+    → (g : ℕ) (glob : Member) → IsAt globs g glob → from ≤ g → MemberMatches glob text → ComesBy found g
+
+-- The glob with this number matches the text, unless the search gave up.
+abbrev pub IsMatch : GlobSet → List ℕ → Bool → ℕ → Type 0
+IsMatch set text gave_up found = IsFalse gave_up → (globs : List Member) → IsSetOf globs set
+    → (glob : Member) → IsAt globs found glob → MemberMatches glob text
+
+-- a number of a glob, from one on
+pub record IsNumber (set : GlobSet) (from found : ℕ) : Type 0 where
+  pub behind : from ≤ found
+  pub within : found < length set.moves.ends.items
+
+-- The first glob from a number on that matches the text, or their count; where it isn't known where the text leads, it may be one before.
+pub record IsFound (set : GlobSet) (text : List ℕ) (from : ℕ) (lead : Lead) (found : ℕ) : Type 0 where
+  pub behind : from ≤ found
+  pub within : found ≤ length set.moves.ends.items
+  pub none : (globs : List Member) → IsSetOf globs set → (g : ℕ) (glob : Member) → IsAt globs g glob → from ≤ g → g < found → member_matches glob text ≡ false
+  pub match_there : IsKnown lead → (globs : List Member) → IsSetOf globs set → (glob : Member) → IsAt globs found glob → member_matches glob text ≡ true
+
+-- the losses after a search: one more where it gave up, and one less where it didn't; those of a spent scratch stay
+abbrev pub losses_after : Bool → ℕ → ℕ
+losses_after true losses = if losses == most_losses then losses else losses + 1
+losses_after false losses = losses - 1
+
+-- A search gives up with a spent scratch, where it reads nothing, and else only where it filled too many cells.
+pub record GivesUp (old new : SetScratch) : Type 0 where
+  pub spent : old.losses ≡ most_losses → IsTrue new.gave_up × (new.table.steps ≡ 0)
+  pub reason : IsTrue new.gave_up → (old.losses ≡ most_losses) ⊎ (new.table.misses ≡ most_misses)

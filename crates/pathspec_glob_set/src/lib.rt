@@ -1,0 +1,14 @@
+//! Many globs at once: a set of globs tells which of them match a text, in one pass over the text from its end.
+#![tactic(auto)]
+
+mod building;
+mod columns;
+mod member;
+mod moves;
+mod row;
+mod set;
+mod table;
+mod walk;
+
+pub use member::Member;
+pub use set::{GlobSet, SetScratch};

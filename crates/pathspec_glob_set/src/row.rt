@@ -1,0 +1,83 @@
+//! Rows of places, one bit each, and how a byte leads from one row to the next.
+ghost use Rattle.std.specs.Prelude.{◌≡◌, ◌<◌, ◌*◌, ◌&&◌, ◌||◌, ℕ, suc, false, length};
+ghost use Rattle.pathspec_glob.specs.BitVecs.{holds};
+ghost use Rattle.pathspec_glob.specs.GlobCells.{further, has};
+ghost use Rattle.pathspec_glob_set.specs.Rows.{leads_on, IsCarriedWord, IsClosedRow, IsEntered};
+
+use pathspec_glob::BitVec;
+
+/// Adds to a row all places that its own lead to without a byte.
+pub fn close(row: &mut BitVec, wide: &BitVec, over: &BitVec)
+    requires wide { length wide.now ≡ length row.old }
+    requires over { length over.now ≡ length row.old }
+    ensures closed { IsClosedRow wide.now over.now row.old row.new }
+    ensures len { length row.new ≡ length row.old }
+{
+    let mut carry = 0;
+    for index in 0..row.len() / 64 + 1 {
+        let own = row.word(index);
+        let widens = wide.word(index);
+        let passes = over.word(index);
+        let closed = closed_word(own | carry, widens, passes);
+        row.set_word(index, closed);
+        carry = carried(closed, widens, passes);
+    }
+}
+
+/// Makes a row of the places that a byte leads to from another. `takes` holds those whose token takes the byte.
+pub fn enter(row: &mut BitVec, wide: &BitVec, takes: &BitVec, old: &BitVec)
+    requires row { length row.old ≡ length old.now }
+    requires wide { length wide.now ≡ length old.now }
+    requires takes { length takes.now ≡ length old.now }
+    ensures entered { IsEntered wide.now takes.now old.now row.new }
+    ensures len { length row.new ≡ length row.old }
+{
+    let mut carry = 0;
+    for index in 0..old.len() / 64 + 1 {
+        let held = old.word(index);
+        let takers = takes.word(index);
+        let widens = wide.word(index);
+        let entered = entered_word(held & takers, widens, carry);
+        row.set_word(index, entered);
+        carry = (held & takers) >> 63;
+    }
+}
+
+/// The places of a word that its taken ones lead to, and the first where the word before leads to it.
+fn entered_word(taken: u64, wide: u64, carry: u64) -> u64
+    ensures { (i : ℕ) → i < 64 → has result i
+        ≡ ((further false (has taken) i || has carry i) || (has taken i && has wide i)) }
+{
+    (taken << 1) | carry | (taken & wide)
+}
+
+/// The places of a word, and all those of it that they lead to without a byte. Each round settles at least one place more.
+fn closed_word(entered: u64, wide: u64, over: u64) -> u64
+    ensures { (i : ℕ) → i < 64 → has result i
+        ≡ (has entered i || leads_on (has wide) (has over) (has result) i) }
+{
+    let mut row = entered;
+    for _round in 0..64usize {
+        let next = follow(entered, row, wide, over);
+        if next == row {
+            return row;
+        }
+        row = next;
+    }
+    row
+}
+
+/// The places that were entered, and those that a row's lead to at once.
+fn follow(entered: u64, row: u64, wide: u64, over: u64) -> u64
+    ensures { (i : ℕ) → i < 64 → has result i
+        ≡ (has entered i || leads_on (has wide) (has over) (has row) i) }
+{
+    entered | (((row & wide) << 1) | (((row & over) << 1) << 1))
+}
+
+/// The places of the next word that those of a word lead to.
+fn carried(row: u64, wide: u64, over: u64) -> u64
+    ensures { IsCarriedWord row wide over result }
+{
+    ((row & wide) >> 63) | ((row & over) >> 62)
+}

@@ -1,0 +1,191 @@
+//! Many globs at once: which of them match a text, in one pass over the text from its end.
+ghost use Rattle.std.specs.Prelude.{◌≡◌, ◌+◌, ◌%◌, ◌<◌, ◌≤◌, ◌^◌, ◌↔◌, ℕ, List, length, IfOk, IfSome, IsTrue};
+ghost use Rattle.pathspec_glob_set.specs.Moves.{AreAlike};
+ghost use Rattle.pathspec_glob_set.specs.Tables.{is_unknown, AreFewSteps, Finds, IsInUse, IsKnown, IsTable};
+ghost use Rattle.pathspec_glob_set.specs.Sizes.{most_losses};
+
+use crate::building::moves_of;
+use crate::member::Member;
+use crate::moves::Moves;
+use crate::table::{Lead, Table};
+use std::alloc::{AllocError, Global};
+
+/// How many more searches give up than not, before a scratch is spent.
+const MOST_LOSSES: usize = 256;
+
+/// Many globs, each by its number in the list that the set was made of.
+#[derive(Drop)]
+pub struct GlobSet {
+    moves: Moves,
+}
+
+/// The room that searches of a set work in, with the count of their steps.
+#[derive(Drop)]
+pub struct SetScratch {
+    table: Table,
+    /// Whether the last search gave up, and so left out no glob.
+    gave_up: bool,
+    /// How many more searches gave up than not; one that didn't, where there are none, counts for nothing.
+    losses: usize,
+    /// The steps of all searches, modulo 2^128.
+    total: u128,
+    ghost right: { IsTable table },
+    ghost few: { losses ≤ most_losses },
+}
+
+impl GlobSet {
+    ghost use Rattle.pathspec_glob_set.specs.Answers.{losses_after, GivesUp, IsFound, IsMatch, IsNumber, IsSetOf, LeavesOutNone};
+
+    /// Makes the set of some globs. Each token is asked of each byte, and the memory is a bit for each place and class of bytes.
+    ///
+    /// # Errors
+    /// Memory runs out.
+    pub fn new(alloc: Global, globs: &[Member]) -> Result<GlobSet, AllocError>
+        ensures { IfOk result (λ set. IsSetOf globs.now set) }
+    {
+        Ok(GlobSet {
+            moves: moves_of(alloc, globs)?,
+        })
+    }
+
+    /// The count of globs.
+    pub fn len(&self) -> usize
+        ensures { result ≡ length self.now.moves.ends.items }
+    {
+        self.moves.ends.len()
+    }
+
+    /// Makes room to search the set in, of 1,024 rows, or 4,096 where it has 256 globs or more.
+    ///
+    /// # Errors
+    /// Memory runs out.
+    pub fn new_scratch(&self, alloc: Global) -> Result<SetScratch, AllocError>
+        ensures { IfOk result (λ scratch. AreAlike scratch.table.moves self.now.moves) }
+    {
+        let moves = self.moves.copy(alloc)?;
+        let rows = if self.len() < 256 { 1024 } else { 4096 };
+        Ok(SetScratch {
+            table: Table::new(alloc, moves, rows)?,
+            gave_up: false,
+            losses: 0,
+            total: 0,
+        })
+    }
+
+    /// Whether a scratch is room for this set. One that the set made is; the call compares all moves.
+    pub fn fits(&self, scratch: &SetScratch) -> bool
+        ensures { IsTrue result → AreAlike scratch.now.table.moves self.now.moves }
+    {
+        scratch.table.moves().is_same(&self.moves)
+    }
+
+    /// The first glob from a number on that matches a text. A search that gives up leaves out none.
+    ///
+    /// The call counts a step for each byte that it reads, and all places of the globs and one more for each cell that it fills,
+    /// which are at most eight. Then it looks at a place of each glob from the number on. It takes no memory.
+    pub fn next(&self, text: &[u8], from: usize, scratch: &mut SetScratch) -> Option<usize>
+        requires fits { AreAlike scratch.old.table.moves self.now.moves }
+        requires from { from ≤ length self.now.moves.ends.items }
+        ensures no_other { LeavesOutNone self.now text.now from result }
+        ensures matches { IfSome result (IsMatch self.now text.now scratch.new.gave_up) }
+        ensures number { IfSome result (IsNumber self.now from) }
+        ensures gives_up { GivesUp scratch.old scratch.new }
+        ensures losses { scratch.new.losses ≡ losses_after scratch.new.gave_up scratch.old.losses }
+        ensures steps { AreFewSteps (length self.now.moves.wide) (length text.now)
+            scratch.new.table }
+        ensures total { scratch.new.total
+            ≡ (scratch.old.total + scratch.new.table.steps) % 2 ^ 128 }
+        ensures room { scratch.new.table.moves ≡ scratch.old.table.moves }
+    {
+        let lead = scratch.walk(text);
+        let found = self.first_after(lead, &scratch.table, from);
+        if found < self.len() {
+            Some(found)
+        } else {
+            None
+        }
+    }
+
+    /// The first glob from a number on that matches a text of which a walk told this, or the count of globs.
+    fn first_after(&self, lead: Lead, table: &Table, from: usize) -> usize
+        requires fits { AreAlike table.now.moves self.now.moves }
+        requires table { IsTable table.now }
+        requires row { IsInUse table.now lead }
+        requires from { from ≤ length self.now.moves.ends.items }
+        ensures { (text : List ℕ) → (IsKnown lead → Finds table.now text lead)
+            → IsFound self.now text from lead result }
+    {
+        match lead {
+            Lead::Row(row) => table.first_of(row, from),
+            Lead::Nowhere => self.len(),
+            Lead::Unknown => from,
+        }
+    }
+}
+
+impl SetScratch {
+    ghost use Rattle.pathspec_glob_set.specs.Answers.{losses_after, GivesUp};
+
+    /// Whether the last search gave up: then what it found is only a glob that may match.
+    pub fn gave_up(&self) -> bool
+        ensures { result ≡ self.now.gave_up }
+    {
+        self.gave_up
+    }
+
+    /// Whether so many searches gave up that all that follow will, without a step.
+    pub fn is_spent(&self) -> bool
+        ensures { IsTrue result ↔ (self.now.losses ≡ most_losses) }
+    {
+        self.losses == MOST_LOSSES
+    }
+
+    /// The steps of the last search: one for each byte that it read, and all places and one more for each cell that it filled.
+    pub fn last_steps(&self) -> u128
+        ensures { result ≡ self.now.table.steps }
+    {
+        self.table.steps()
+    }
+
+    /// The steps of all searches together, modulo 2^128.
+    pub fn total_steps(&self) -> u128
+        ensures { result ≡ self.now.total }
+    {
+        self.total
+    }
+
+    /// Finds where a text leads, unless the scratch is spent.
+    fn walk(&mut self, text: &[u8]) -> Lead
+        ensures row { IsInUse self.new.table result }
+        ensures found { IsKnown result → Finds self.new.table text.now result }
+        ensures gave_up { self.new.gave_up ≡ is_unknown result }
+        ensures gives_up { GivesUp self.old self.new }
+        ensures losses { self.new.losses ≡ losses_after self.new.gave_up self.old.losses }
+        ensures steps { AreFewSteps (length self.old.table.moves.wide) (length text.now)
+            self.new.table }
+        ensures total { self.new.total ≡ (self.old.total + self.new.table.steps) % 2 ^ 128 }
+        ensures room { self.new.table.moves ≡ self.old.table.moves }
+    {
+        if self.losses == MOST_LOSSES {
+            self.table.begin();
+            self.gave_up = true;
+            return Lead::Unknown;
+        }
+        let lead = self.table.walk(text);
+        self.total = self.total.wrapping_add(self.table.steps());
+        self.gave_up = is_unknown(lead);
+        if self.gave_up {
+            self.losses += 1;
+        } else {
+            self.losses = self.losses.saturating_sub(1);
+        }
+        lead
+    }
+}
+
+/// Whether it isn't known where a text leads.
+fn is_unknown(lead: Lead) -> bool
+    ensures { result ≡ is_unknown lead }
+{
+    matches!(lead, Lead::Unknown)
+}

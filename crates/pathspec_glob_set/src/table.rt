@@ -1,0 +1,317 @@
+//! Rows that texts led to, with a cell for each class of bytes: where it leads, once that was asked.
+ghost use Rattle.std.specs.Prelude.{◌≡◌, ◌+◌, ◌*◌, ◌-◌, ◌<◌, ◌≤◌, ◌^◌, ℕ, length, get_or, set, replicate, IfOk, IfSome, IsTrue};
+ghost use Rattle.pathspec_glob_set.specs.Moves.{takes_of};
+ghost use Rattle.pathspec_glob_set.specs.Sizes.{row_at, IsFirst};
+ghost use Rattle.pathspec_glob_set.specs.Tables.{nowhere, unknown, AddsSpare, BeginsText, Counts, IsKnown, IsSpare, IsTable, KeepsRoom, Leads};
+
+use crate::moves::Moves;
+use pathspec_glob::BitVec;
+use std::alloc::{AllocError, Global};
+
+/// A cell that was not asked.
+const UNKNOWN: u16 = u16::MAX;
+
+/// A cell whose bytes lead to no place.
+const NOWHERE: u16 = u16::MAX - 1;
+
+/// How many cells are filled in one text, before its walk gives up.
+const MOST_MISSES: usize = 8;
+
+/// How many places of the index are looked at for a row.
+const PROBES: usize = 8;
+
+/// Where a byte leads from a row.
+#[derive(Clone, Copy)]
+pub enum Lead {
+    /// To this row.
+    Row(usize),
+    /// To no place.
+    Nowhere,
+    /// It isn't known, and too many cells were filled in this text.
+    Unknown,
+}
+
+/// Rows that texts led to, with a cell for each class of bytes. Its only question is where a byte leads, and each is counted.
+#[derive(Drop)]
+pub struct Table {
+    moves: Moves,
+    rows: Vec<BitVec>,
+    /// For each row the first glob that a text matches which leads there.
+    firsts: Vec<usize>,
+    cells: Vec<u16>,
+    /// The count of rows in use. The first is that of the empty text.
+    used: usize,
+    /// Rows by what their places hash to. A number that stands for no such row does no harm.
+    index: Vec<u16>,
+    /// Where a step is worked out.
+    spare: BitVec,
+    /// The cells that were filled in this text.
+    misses: usize,
+    /// The steps of this text: one a question, and all places and one more where a cell was filled.
+    steps: u128,
+}
+
+impl Table {
+    /// Makes a table of `count` rows, of which one is in use. Nothing else of it takes memory later.
+    ///
+    /// # Errors
+    /// Memory runs out.
+    pub fn new(alloc: Global, moves: Moves, count: usize) -> Result<Table, AllocError>
+        requires many { 2 ≤ count }
+        requires few { count ≤ nowhere }
+        ensures table { IfOk result IsTable }
+        ensures moves { IfOk result (λ table. table.moves ≡ moves) }
+    {
+        let rows = copies_of(alloc, &moves.start, count)?;
+        let spare = moves.start.copy(alloc)?;
+        let first = first_from(&moves.ends, &moves.start, 0);
+        let Some(size) = count.checked_mul(moves.width()) else {
+            return Err(AllocError);
+        };
+        let firsts = vec![in alloc; first; count]?;
+        let cells = vec![in alloc; UNKNOWN; size]?;
+        let index = vec![in alloc; UNKNOWN; 2 * count]?;
+        Ok(Table {
+            moves,
+            rows,
+            firsts,
+            cells,
+            used: 1,
+            index,
+            spare,
+            misses: 0,
+            steps: 0,
+        })
+    }
+
+    /// How bytes lead from one row to another.
+    pub fn moves(&self) -> &Moves
+        ensures { result.now ≡ self.now.moves }
+    {
+        &self.moves
+    }
+
+    /// The steps of this text.
+    pub fn steps(&self) -> u128
+        ensures { result ≡ self.now.steps }
+    {
+        self.steps
+    }
+
+    /// Begins a text: none of its steps are counted yet, and none of its cells filled.
+    pub fn begin(&mut self)
+        requires { IsTable self.old }
+        ensures table { IsTable self.new }
+        ensures begun { BeginsText self.new }
+        ensures room { KeepsRoom self.old self.new }
+    {
+        self.steps = 0;
+        self.misses = 0;
+    }
+
+    /// Asks where a byte leads from a row.
+    #[inline(always)]
+    pub fn lead(&mut self, row: usize, byte: u8) -> Lead
+        requires table { IsTable self.old }
+        requires row { row < self.old.used }
+        requires steps { self.old.steps < 2 ^ 127 }
+        ensures table { IsTable self.new }
+        ensures leads { Leads (takes_of self.old.moves byte) (row_at self.old.rows.items row)
+            self.new result }
+        ensures counted { Counts 1 self.old self.new }
+        ensures room { KeepsRoom self.old self.new }
+    {
+        self.steps += 1;
+        let class = self.moves.class(byte);
+        let next = self.cells[self.place(row, class)];
+        if next == UNKNOWN {
+            self.miss(row, class)
+        } else if next == NOWHERE {
+            Lead::Nowhere
+        } else {
+            Lead::Row(next as usize)
+        }
+    }
+
+    /// The place of the cell of a row and a class.
+    #[inline(always)]
+    fn place(&self, row: usize, class: usize) -> usize
+        requires table { IsTable self.now }
+        requires row { row < self.now.used }
+        requires class { class < length self.now.moves.takes.items }
+        ensures place { result ≡ row * length self.now.moves.takes.items + class }
+        ensures within { result < length self.now.cells.items }
+    {
+        row * self.moves.width() + class
+    }
+
+    /// The first glob from one on that a text matches which leads to a row, or the count of globs.
+    pub fn first_of(&self, row: usize, from: usize) -> usize
+        requires table { IsTable self.now }
+        requires row { row < self.now.used }
+        requires from { from ≤ length self.now.moves.ends.items }
+        ensures { IsFirst self.now.moves.ends.items (row_at self.now.rows.items row) from result }
+    {
+        let first = self.firsts[row];
+        if from <= first {
+            first
+        } else {
+            first_from(&self.moves.ends, &self.rows[row], from)
+        }
+    }
+
+    /// Fills the cell of a row and a class, unless too many were filled in this text.
+    #[inline(never)]
+    fn miss(&mut self, row: usize, class: usize) -> Lead
+        requires table { IsTable self.old }
+        requires row { row < self.old.used }
+        requires class { class < length self.old.moves.takes.items }
+        requires steps { self.old.steps ≤ 2 ^ 127 }
+        ensures table { IsTable self.new }
+        ensures leads { Leads (row_at self.old.moves.takes.items class)
+            (row_at self.old.rows.items row) self.new result }
+        ensures counted { Counts 0 self.old self.new }
+        ensures room { KeepsRoom self.old self.new }
+    {
+        if self.misses == MOST_MISSES {
+            return Lead::Unknown;
+        }
+        self.misses += 1;
+        self.steps += self.moves.places() as u128 + 1;
+        self.fill(row, class)
+    }
+
+    /// Fills the cell of a row and a class. A table without room for one row more is cleared, and then the cell stays.
+    fn fill(&mut self, row: usize, class: usize) -> Lead
+        requires table { IsTable self.old }
+        requires row { row < self.old.used }
+        requires class { class < length self.old.moves.takes.items }
+        ensures table { IsTable self.new }
+        ensures leads { Leads (row_at self.old.moves.takes.items class)
+            (row_at self.old.rows.items row) self.new result }
+        ensures known { IsKnown result }
+        ensures steps { self.new.steps ≡ self.old.steps }
+        ensures misses { self.new.misses ≡ self.old.misses }
+        ensures room { KeepsRoom self.old self.new }
+    {
+        let at = self.place(row, class);
+        self.moves.step(class, &self.rows[row], &mut self.spare);
+        if self.spare.holds_none() {
+            put(&mut self.cells, at, NOWHERE);
+            return Lead::Nowhere;
+        }
+        if let Some(found) = self.find() {
+            put(&mut self.cells, at, found as u16);
+            return Lead::Row(found);
+        }
+        if self.used == self.rows.len() {
+            clear(&mut self.cells);
+            self.used = 1;
+            return Lead::Row(self.add());
+        }
+        let added = self.add();
+        put(&mut self.cells, at, added as u16);
+        Lead::Row(added)
+    }
+
+    /// A row in use with the places of the spare one.
+    fn find(&self) -> Option<usize>
+        requires rows { self.now.used ≤ length self.now.rows.items }
+        requires index { 0 < length self.now.index.items }
+        ensures { IfSome result (λ found. IsSpare self.now found) }
+    {
+        let digest = self.spare.digest();
+        for probe in 0..PROBES {
+            let found = self.index[slot(digest, probe, self.index.len())] as usize;
+            if found < self.used && self.rows[found].is_same(&self.spare) {
+                return Some(found);
+            }
+        }
+        None
+    }
+
+    /// Adds the spare row to those in use.
+    fn add(&mut self) -> usize
+        requires table { IsTable self.old }
+        requires room { self.old.used < length self.old.rows.items }
+        ensures table { IsTable self.new }
+        ensures added { AddsSpare self.old self.new result }
+    {
+        let added = self.used;
+        self.rows[added].copy_from(&self.spare);
+        let moves = &self.moves;
+        let first = first_from(&moves.ends, &self.spare, 0);
+        self.firsts[added] = first;
+        self.used += 1;
+        remember(&mut self.index, self.spare.digest(), added);
+        added
+    }
+}
+
+/// Copies a row so many times.
+fn copies_of(alloc: Global, row: &BitVec, count: usize) -> Result<Vec<BitVec>, AllocError>
+    ensures len { IfOk result (λ rows. length rows.items ≡ count) }
+    ensures rows { IfOk result (λ rows. (r : ℕ) → r < count → row_at rows.items r ≡ row.now) }
+{
+    let mut rows = Vec::with_capacity(alloc, count)?;
+    for _index in 0..count {
+        rows.push(row.copy(alloc)?)?;
+    }
+    Ok(rows)
+}
+
+/// Puts a row into the index, where a number that is no row's stands, and else in place of the first.
+fn remember(index: &mut Vec<u16>, digest: u64, row: usize)
+    requires index { 0 < length index.old.items }
+    requires row { row < nowhere }
+    ensures { length index.new.items ≡ length index.old.items }
+{
+    let len = index.len();
+    let mut at = slot(digest, 0, len);
+    for probe in 0..PROBES {
+        let place = slot(digest, probe, len);
+        if index[place] as usize >= row {
+            at = place;
+            break;
+        }
+    }
+    index[at] = row as u16;
+}
+
+/// The place of the index at which a row is looked for.
+fn slot(digest: u64, probe: usize, len: usize) -> usize
+    requires { 0 < len }
+    ensures { result < len }
+{
+    (digest as usize).wrapping_add(probe) % len
+}
+
+/// The least glob from one on whose last place stands in a row, or their count.
+pub fn first_from(ends: &[usize], row: &BitVec, from: usize) -> usize
+    requires from { from ≤ length ends.now }
+    requires ends { (g : ℕ) → g < length ends.now → get_or ends.now g 0 < length row.now }
+    ensures first { IsFirst ends.now row.now from result }
+    ensures within { from ≤ result }
+{
+    for glob in from..ends.len() {
+        if row.holds(ends[glob]) {
+            return glob;
+        }
+    }
+    ends.len()
+}
+
+/// Writes a cell.
+fn put(cells: &mut Vec<u16>, at: usize, cell: u16)
+    requires { at < length cells.old.items }
+    ensures { cells.new.items ≡ set cells.old.items at cell }
+{
+    cells[at] = cell;
+}
+
+/// Forgets all cells.
+fn clear(cells: &mut Vec<u16>)
+    ensures { cells.new.items ≡ replicate (length cells.old.items) unknown }
+{
+    cells.fill(UNKNOWN);
+}

@@ -1,0 +1,9 @@
+//! The command line of the program `pathspec`: its commands with their options, and what words ask for.
+#![tactic(auto)]
+
+mod commands;
+mod options;
+mod pages;
+
+pub use commands::command;
+pub use options::{ExplainOptions, FilterOptions, Modes, Options, SpecOptions, Task};

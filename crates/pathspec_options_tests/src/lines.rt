@@ -1,0 +1,235 @@
+//! What words ask for.
+use pathspec_options::{Options, Task};
+use std::alloc::{AllocError, Global};
+use std::test::Fail;
+
+/// Adds a list of texts, if it has any.
+fn add(line: &mut String, name: &str, texts: &[&str]) -> Result<(), AllocError> {
+    for text in texts {
+        line.push_str(" ")?;
+        line.push_str(name)?;
+        line.push_str("=")?;
+        line.push_str(text)?;
+    }
+    Ok(())
+}
+
+/// Adds the names of the flags that are set.
+fn add_flags(line: &mut String, flags: &[(&str, bool)]) -> Result<(), AllocError> {
+    for (name, is_set) in flags {
+        if *is_set {
+            line.push_str(" ")?;
+            line.push_str(name)?;
+        }
+    }
+    Ok(())
+}
+
+/// Adds a command and its own options.
+fn add_task(line: &mut String, task: &Task<'_>) -> Result<(), AllocError> {
+    match task {
+        Task::Filter(asked) => {
+            line.push_str("filter")?;
+            let flags = [
+                ("null", asked.null),
+                ("verbatim", asked.verbatim),
+                ("invert", asked.invert),
+                ("count", asked.count),
+            ];
+            add_flags(line, flags.as_slice())?;
+            let more = [
+                ("quiet", asked.quiet),
+                ("error-unmatch", asked.error_unmatch),
+                ("stats", asked.stats),
+            ];
+            add_flags(line, more.as_slice())
+        }
+        Task::Explain(asked) => {
+            line.push_str("explain")?;
+            add_flags(
+                line,
+                [
+                    ("null", asked.null),
+                    ("all", asked.all),
+                    ("json", asked.json),
+                ]
+                .as_slice(),
+            )?;
+            add(line, "path", asked.paths.as_slice())
+        }
+        Task::Show => line.push_str("show"),
+    }
+}
+
+/// Adds the specs and what they are read with.
+fn add_specs(line: &mut String, options: &Options<'_>) -> Result<(), AllocError> {
+    let specs = &options.specs;
+    let modes = specs.modes;
+    let flags = [
+        ("icase", modes.icase),
+        ("glob", modes.glob),
+        ("noglob", modes.noglob),
+        ("literal", modes.literal),
+    ];
+    add_flags(line, flags.as_slice())?;
+    add(line, "prefix", [specs.prefix].as_slice())?;
+    add(line, "root", [specs.root].as_slice())?;
+    for (path, list) in &specs.attributes {
+        add(line, "attr", [*path, *list].as_slice())?;
+    }
+    add(line, "attr-from", specs.attribute_files.as_slice())?;
+    if let Some(directory) = specs.attribute_directory {
+        add(line, "attributes", [directory].as_slice())?;
+    }
+    add(line, "from", specs.files.as_slice())?;
+    add(line, "spec", specs.words.as_slice())
+}
+
+/// What a command line asks for, in a line; or its exit status and the first line of its message.
+fn told(alloc: Global, words: &[&str]) -> Result<String, AllocError> {
+    let mut line = String::new(alloc);
+    match Options::from_words(alloc, words, "1 (2)") {
+        Ok(options) => {
+            add_task(&mut line, &options.task)?;
+            add_specs(&mut line, &options)?;
+        }
+        Err(error) => {
+            let code = error.exit_code();
+            let text = format!(in alloc; "{code} {error}")?;
+            let (first, _) = text.as_str().split_once('\n').unwrap_or(("", ""));
+            line.push_str(first)?;
+        }
+    }
+    Ok(line)
+}
+
+/// Words behind the program's name, and what they ask for.
+struct Row(&'static [&'static str], &'static str);
+
+const ROWS: &[Row] = &[
+    Row(&["pathspec", "filter"], "filter prefix= root="),
+    Row(
+        &["pathspec", "explain", "a", "--attributes", "."],
+        "explain prefix= root= attributes=. spec=a",
+    ),
+    Row(
+        &["pathspec", "filter", ":!src", "-z", "--prefix=src", "b"],
+        "filter null prefix=src root= spec=:!src spec=b",
+    ),
+    Row(
+        &["pathspec", "filter", "-vc", "a", "--", "-z"],
+        "filter invert count prefix= root= spec=a spec=-z",
+    ),
+    Row(
+        &[
+            "pathspec",
+            "filter",
+            "--specs-from",
+            "x",
+            "--specs-from",
+            "-",
+            "-",
+        ],
+        "filter prefix= root= from=x from=- spec=-",
+    ),
+    Row(
+        &[
+            "pathspec",
+            "filter",
+            "--attr",
+            "a/b",
+            "-text x=1",
+            "--attr",
+            "c",
+            "!y",
+            "d",
+        ],
+        "filter prefix= root= attr=a/b attr=-text x=1 attr=c attr=!y spec=d",
+    ),
+    Row(
+        &[
+            "pathspec",
+            "filter",
+            "-q",
+            "-q",
+            "--root",
+            "/r",
+            "--root=/s",
+        ],
+        "filter quiet prefix= root=/s",
+    ),
+    Row(
+        &[
+            "pathspec",
+            "filter",
+            "--error-unmatch",
+            "--stats",
+            "--verbatim",
+            "--icase",
+            "--literal",
+            "--attr-from",
+            "f",
+        ],
+        "filter verbatim error-unmatch stats icase literal prefix= root= attr-from=f",
+    ),
+    Row(
+        &[
+            "pathspec",
+            "explain",
+            "a",
+            "--path",
+            "x/",
+            "--all",
+            "--path=-y",
+            "--json",
+            "b",
+        ],
+        "explain all json path=x/ path=-y prefix= root= spec=a spec=b",
+    ),
+    Row(
+        &["pathspec", "show", ":(icase)readme*"],
+        "show prefix= root= spec=:(icase)readme*",
+    ),
+    // mistakes, and what is asked for
+    Row(
+        &["pathspec", "filter", "--glob", "--noglob"],
+        "2 error: the argument '--glob' cannot be used with '--noglob'",
+    ),
+    Row(
+        &["pathspec", "filter", "--attr", "a"],
+        "2 error: 2 values required for '--attr <PATH> <LIST>' but 1 was provided",
+    ),
+    Row(
+        &["pathspec", "explian"],
+        "2 error: unrecognized subcommand 'explian'",
+    ),
+    Row(
+        &["pathspec"],
+        "2 error: 'pathspec' requires a subcommand but one was not provided",
+    ),
+    Row(&["pathspec", "--version"], "0 pathspec 1 (2)"),
+    Row(&["pathspec", "filter", "--help"], "0 Examples:"),
+];
+
+#[test]
+fn words_ask_for_what_they_say(rt: HostRuntime) -> Result<(), Fail> {
+    for Row(words, line) in ROWS {
+        assert_eq!(rt; told(rt.alloc(), words)?.as_str(), *line);
+    }
+    Ok(())
+}
+
+#[test]
+fn help_fits_in_80_columns(rt: HostRuntime) -> Result<(), Fail> {
+    for name in ["filter", "explain", "show"] {
+        let words = ["pathspec", name, "--help"];
+        let Err(error) = Options::from_words(rt.alloc(), words.as_slice(), "1") else {
+            return Err(Fail::from(AllocError));
+        };
+        let text = format!(in rt.alloc(); "{error}")?;
+        for line in text.as_str().lines() {
+            assert!(rt; line.len() <= 80, "{name}: {line}");
+        }
+    }
+    Ok(())
+}
