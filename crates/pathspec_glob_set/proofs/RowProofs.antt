@@ -1,13 +1,13 @@
 -- Rows of places, word by word.
-use Rattle.std.proofs.Common.{◌≡◌, ℕ, zero, suc, ◌+◌, ◌-◌, ◌*◌, ◌^◌, ◌%◌, ◌/◌, ◌<◌, ◌≤◌, Bool, true, false, ◌&&◌, ◌||◌, ◌==◌, refl, sym, ◌∙◌, ap, subst, arith, bit_and, bit_or, inl, inr, List, length}
+use Rattle.std.proofs.Common.{◌≡◌, ℕ, zero, suc, ◌+◌, ◌-◌, ◌*◌, ◌^◌, ◌%◌, ◌/◌, ◌<◌, ◌≤◌, Bool, true, false, ◌&&◌, ◌||◌, ◌==◌, refl, sym, ◌∙◌, ap, subst, arith, bit_and, bit_or, inl, inr, List, length, get_or}
 use Rattle.std.proofs.Math.Bool.{or_assoc, or-false, and-false}
-use Rattle.std.proofs.lemmas.Bool.{cases_lt}
+use Rattle.std.proofs.lemmas.Bool.{cases_lt, true≢false}
 use Rattle.std.proofs.lemmas.Nat.Bits.{bit_at_above}
 use Rattle.pathspec_glob.specs.GlobCells.{has, further}
 use Rattle.pathspec_glob.specs.BitVecs.{holds}
 use Rattle.pathspec_glob.proofs.BitProofs.{has-and, has-or, has_further, has-shr, has-zero}
 use Rattle.pathspec_glob.proofs.ClosureProofs.{further-same}
-use Rattle.pathspec_glob_set.specs.Rows.{leads_on, IsCarried, IsCarriedWord}
+use Rattle.pathspec_glob_set.specs.Rows.{is_settled, leads_on, IsCarried, IsCarriedWord, IsUncut}
 
 -- rows that are one below a place lead to the same there
 pub leads-same : (wide over f g : ℕ → Bool) (i : ℕ) → ((j : ℕ) → j < i → f j ≡ g j) → leads_on wide over f i ≡ leads_on wide over g i
@@ -201,3 +201,20 @@ shifted-last held takers fits = (
   λ k. has-shr (bit_and held takers) 63 (suc k) ∙ has-and held takers (63 + suc k)
       ∙ ap (λ x. x && has takers (63 + suc k)) (has-above held (63 + suc k) fits (omega arith)),
 )
+
+-- ---- the cut
+
+-- what isn't cut off behind a place isn't before it
+pub uncut-before : (cuts : List Bool) (ends : List ℕ) (row : List Bool) (j i : ℕ) → j ≤ i → IsUncut cuts ends row i → IsUncut cuts ends row j
+uncut-before cuts ends row j i low uncut g within less = uncut g within (omega (arith, low, less))
+
+-- what is left out stands behind a glob that is settled, and stays so
+pub cut-kept : (cuts : List Bool) (ends : List ℕ) (old new : List Bool) (settled : ℕ) → settled < length ends
+    → is_settled cuts old (get_or ends settled 0) ≡ true → ((i : ℕ) → i ≤ get_or ends settled 0 → holds new i ≡ holds old i)
+    → (i : ℕ) → IsUncut cuts ends new i → holds new i ≡ holds old i
+cut-kept cuts ends old new settled within is kept i uncut = elim (cases_lt (get_or ends settled 0) i) [
+  | inr n ↦ kept i n
+  | inl l ↦
+      let end = get_or ends settled 0 in
+      absurd (true≢false (sym is ∙ ap (λ x. x && holds cuts (end - 1)) (sym (kept (end - 1) (omega arith))) ∙ uncut settled within l))
+]

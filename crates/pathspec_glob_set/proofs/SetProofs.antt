@@ -13,10 +13,9 @@ use Rattle.pathspec_glob.specs.BitVecs.{holds}
 use Rattle.pathspec_glob_set.specs.declared.moves.Moves.{Moves}
 use Rattle.pathspec_glob_set.specs.declared.member.Member.{Member}
 use Rattle.pathspec_glob_set.specs.Meanings.{is_over_before, is_wide_before, stands, takes_before}
-use Rattle.pathspec_glob_set.specs.Rows.{taken_of}
-use Rattle.pathspec_glob_set.specs.Moves.{takes_of, IsStep, LeadsTo}
-use Rattle.pathspec_glob_set.specs.Moves.LeadsTo.{empty, byte}
-use Rattle.pathspec_glob_set.specs.Sets.{member_matches, size_of, AreEnds, AreMovesOf, IsAt, IsColumn, IsRowOf}
+use Rattle.pathspec_glob_set.specs.Rows.{taken_of, IsUncut}
+use Rattle.pathspec_glob_set.specs.Moves.{takes_of, IsStep}
+use Rattle.pathspec_glob_set.specs.Sets.{size_of, AreEnds, AreMovesOf, IsAt, IsColumn, SaysOf}
 use Rattle.pathspec_glob_set.proofs.MeaningProofs.{matches-step, stands-step, took}
 
 -- ---- what leads to the first place of a glob
@@ -102,16 +101,21 @@ first-rearranged false true = refl
 first-rearranged false false = refl
 
 module _ (globs : List Member) (moves : Moves) (are : AreMovesOf globs moves) (b : ℕ) (fits : b < 256) (text : List ℕ) (old new : List Bool)
-    (was : IsRowOf globs moves.ends.items text old) (step : IsStep moves (takes_of moves b) old new) (g : ℕ) (glob : Member) (at : IsAt globs g glob) where
+    (g : ℕ) (glob : Member) (at : IsAt globs g glob) (was : SaysOf moves.ends.items text old g glob) (step : IsStep moves (takes_of moves b) old new)
+    (uncut : IsUncut moves.cuts moves.ends.items new (get_or moves.ends.items g 0)) where
   abbrev end : ℕ
   end = get_or moves.ends.items g 0
 
   ends-within : end < length moves.wide
   ends-within = moves.sizes.each_glob g (omega (arith, at.within, are.ends.len))
 
+  -- no place of the glob stands behind one that is settled
+  uncut-at : (k : ℕ) → k ≤ end → IsUncut moves.cuts moves.ends.items new k
+  uncut-at k low c within earlier = uncut c within (omega (arith, low, earlier))
+
   -- what was taken at a place
   taken-at : (i k : ℕ) → i ≤ size_of glob → k + i ≡ end → taken_of (takes_of moves b) old k ≡ took glob.tokens glob.case b text i
-  taken-at i k low e = and-same (was g glob i k at low e) (are.takes b fits g glob i k at low e)
+  taken-at i k low e = and-same (was i k low e) (are.takes b fits g glob i k at low e)
 
   -- nothing leads to the first place of a glob
   none-taken : (k : ℕ) → k + size_of glob ≡ end → further false (taken_of (takes_of moves b) old) k ≡ false
@@ -142,7 +146,7 @@ module _ (globs : List Member) (moves : Moves) (are : AreMovesOf globs moves) (b
   stands-next i k low e next second =
       let here : k + suc i ≡ end = omega (arith, e) in
       let within : suc k < length moves.wide = omega (arith, e, ends-within) in
-      step.places (suc k) within
+      step.places (suc k) within (uncut-at (suc k) (omega (arith, e)))
       ∙ or-same (or-same (taken-at (suc i) k low here) (and-same (taken-at i (suc k) (omega (arith, low)) e) (are.wide g glob i (suc k) at (omega (arith, low)) e)))
       (or-same (and-same next (are.wide g glob (suc i) k at low here)) second)
       ∙ rearranged (took glob.tokens glob.case b text (suc i)) (took glob.tokens glob.case b text i) (is_wide_before glob.tokens i)
@@ -156,7 +160,7 @@ module _ (globs : List Member) (moves : Moves) (are : AreMovesOf globs moves) (b
       let first : k + size_of glob ≡ end = omega (arith, all, e) in
       let place : i ≡ size_of glob = omega (arith, all) in
       let within : k < length moves.wide = omega (arith, e, ends-within) in
-      step.places k within
+      step.places k within (uncut-at k (omega (arith, e)))
       ∙ or-same (or-same (none-taken k first) (and-same (taken-at i k (omega (arith, all)) e) (are.wide g glob i k at (omega (arith, all)) e))) (or-same (none-wide k first) (none-second k first))
       ∙ first-rearranged (took glob.tokens glob.case b text i) (is_wide_before glob.tokens i)
       ∙ ap (λ x. (is_wide_before glob.tokens i && took glob.tokens glob.case b text i) || x)
@@ -173,18 +177,9 @@ module _ (globs : List Member) (moves : Moves) (are : AreMovesOf globs moves) (b
       stands-next i (suc k) (omega (arith, all)) e (stands-all (suc p) (suc i) (suc k) (omega (arith, all)) (omega (arith, e)))
       (and-same (stands-all p (suc (suc i)) k (omega (arith, all)) second) (are.over g glob (suc (suc i)) k at (omega (arith, all)) second))
 
--- A row that says what stands of a text leads to one that says it of the byte and the text.
+-- A row that says what stands of a text at the places of a glob leads to one that says it of the byte and the text, where the glob isn't cut off.
 pub stepped : (globs : List Member) (moves : Moves) → AreMovesOf globs moves → (b : ℕ) → b < 256 → (text : List ℕ) (old new : List Bool)
-    → IsRowOf globs moves.ends.items text old → IsStep moves (takes_of moves b) old new → IsRowOf globs moves.ends.items (b ∷ text) new
-stepped globs moves are b fits text old new was step g glob i k at low e =
-    stands-all globs moves are b fits text old new was step g glob at (size_of glob - i) i k (omega (arith, low)) e
-
--- The row that a text leads to says what stands of it.
-pub says : (globs : List Member) (moves : Moves) → AreMovesOf globs moves → (text : List ℕ) (row : List Bool) → LeadsTo moves text row → IsRowOf globs moves.ends.items text row
-says globs moves are [] row empty = are.start
-says globs moves are (b ∷ text) new (byte {old = old} fits from step) = stepped globs moves are b fits text old new (says globs moves are text old from) step
-
--- so it says of each glob whether it matches
-pub says-matches : (globs : List Member) (moves : Moves) → AreMovesOf globs moves → (text : List ℕ) (row : List Bool) → LeadsTo moves text row
-    → (g : ℕ) (glob : Member) → IsAt globs g glob → holds row (get_or moves.ends.items g 0) ≡ member_matches glob text
-says-matches globs moves are text row leads g glob at = says globs moves are text row leads g glob 0 (get_or moves.ends.items g 0) at (omega arith) (omega arith)
+    → (g : ℕ) (glob : Member) → IsAt globs g glob → SaysOf moves.ends.items text old g glob → IsStep moves (takes_of moves b) old new
+    → IsUncut moves.cuts moves.ends.items new (get_or moves.ends.items g 0) → SaysOf moves.ends.items (b ∷ text) new g glob
+stepped globs moves are b fits text old new g glob at was step uncut i k low e =
+    stands-all globs moves are b fits text old new g glob at was step uncut (size_of glob - i) i k (omega (arith, low)) e

@@ -89,22 +89,22 @@ takes-where-held = refl
 
 -- `*`, `?`, `**/a`, `A` in any case, and a bracket that isn't closed
 abbrev lone : Member
-lone = record { tokens = record { mode = Shell; tokens = Deep ∷ [] }; case = Sensitive }
+lone = record { tokens = record { mode = Shell; tokens = Deep ∷ [] }; case = Sensitive; cuts = false }
 
 abbrev any_name : Member
-any_name = record { tokens = record { mode = PathAware; tokens = Star ∷ [] }; case = Sensitive }
+any_name = record { tokens = record { mode = PathAware; tokens = Star ∷ [] }; case = Sensitive; cuts = false }
 
 abbrev below_all : Member
-below_all = record { tokens = below; case = Fold }
+below_all = record { tokens = below; case = Fold; cuts = true }
 
 abbrev folded : Member
-folded = record { tokens = record { mode = Shell; tokens = One (Byte 65) ∷ [] }; case = Fold }
+folded = record { tokens = record { mode = Shell; tokens = One (Byte 65) ∷ [] }; case = Fold; cuts = true }
 
 abbrev dead : Member
-dead = record { tokens = record { mode = PathAware; tokens = One Dead ∷ [] }; case = Fold }
+dead = record { tokens = record { mode = PathAware; tokens = One Dead ∷ [] }; case = Fold; cuts = true }
 
 abbrev nothing : Member
-nothing = record { tokens = record { mode = Shell; tokens = [] }; case = Sensitive }
+nothing = record { tokens = record { mode = Shell; tokens = [] }; case = Sensitive; cuts = false }
 
 abbrev mixed : List Member
 mixed = lone ∷ any_name ∷ below_all ∷ folded ∷ dead ∷ nothing ∷ []

@@ -174,7 +174,7 @@ first-off false b e = refl
 pub stays-lost : (moves : Moves) (takes row : List Bool) → length row ≡ length moves.wide → HoldsNone row → IsStep moves takes row row
 stays-lost moves takes row size none = record {
   size = size;
-  places = λ i h.
+  places = λ i h uncut.
       let off : (f : ℕ → Bool) (j : ℕ) → (holds row j && f j) ≡ false = λ f j. ap (λ x. x && f j) (none j) in
       none i
       ∙ sym (all-off (holds moves.wide i) (further-off (taken_of takes row) i (off (holds takes))) (off (holds takes) i) (further-off (λ j. holds row j && holds moves.wide j) i (off (holds moves.wide)))
@@ -221,7 +221,7 @@ no-place n i = elim (cases_lt i n) [
 lost-row : (moves : Moves) (takes row : List Bool) → IsLost moves takes row → IsStep moves takes row (replicate (length moves.wide) false)
 lost-row moves takes row lost = record {
   size = length-replicate (length moves.wide) false;
-  places = λ i h.
+  places = λ i h uncut.
       let none = replicate (length moves.wide) false in
       let off : (f : ℕ → Bool) (j : ℕ) → (holds none j && f j) ≡ false = λ f j. ap (λ x. x && f j) (no-place (length moves.wide) j) in
       no-place (length moves.wide) i
@@ -289,7 +289,7 @@ right-row moves rows used takes row cell few low step = record {
 -- what a cell that leads to no place says
 pub right-nowhere : (moves : Moves) (rows : List (List Bool)) (used : ℕ) (takes row lost : List Bool) → IsStep moves takes row lost → HoldsNone lost → IsRight moves rows used takes row nowhere
 right-nowhere moves rows used takes row lost step none = record {
-  lost = λ e i h. first-off (entered_by moves takes row i) (leads_on (holds moves.wide) (holds moves.over) (holds lost) i) (sym (step.places i h) ∙ none i);
+  lost = λ e i h. first-off (entered_by moves takes row i) (leads_on (holds moves.wide) (holds moves.over) (holds lost) i) (sym (step.places i h (λ g low before. ap (λ x. x && holds moves.cuts (get_or moves.ends.items g 0 - 1)) (none (get_or moves.ends.items g 0 - 1)))) ∙ none i);
   within = λ n. absurd (n refl);
   leads = λ n. absurd (n refl);
 }

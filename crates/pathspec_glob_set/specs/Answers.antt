@@ -22,14 +22,18 @@ abbrev pub ComesBy : Option ℕ → ℕ → Type 0
 ComesBy None g = ⊥
 ComesBy (Some found) g = found ≤ g
 
--- No glob from a number on that matches the text comes before what was found.
+-- no glob before a number cuts and matches the text
+abbrev pub NoneCuts : List Member → List ℕ → ℕ → Type 0
+NoneCuts globs text from = (c : ℕ) (cutter : Member) → c < from → IsAt globs c cutter → IsTrue cutter.cuts → MemberMatches cutter text → ⊥
+
+-- Where no glob before a number cuts, no glob from there on that matches the text comes before what was found.
 abbrev pub LeavesOutNone : GlobSet → List ℕ → ℕ → Option ℕ → Type 0
-LeavesOutNone set text from found = (globs : List Member) → IsSetOf globs set
+LeavesOutNone set text from found = (globs : List Member) → IsSetOf globs set → NoneCuts globs text from
     → (g : ℕ) (glob : Member) → IsAt globs g glob → from ≤ g → MemberMatches glob text → ComesBy found g
 
--- The glob with this number matches the text, unless the search gave up.
-abbrev pub IsMatch : GlobSet → List ℕ → Bool → ℕ → Type 0
-IsMatch set text gave_up found = IsFalse gave_up → (globs : List Member) → IsSetOf globs set
+-- Where no glob before a number cuts, the one found from there on matches the text, unless the search gave up.
+abbrev pub IsMatch : GlobSet → List ℕ → ℕ → Bool → ℕ → Type 0
+IsMatch set text from gave_up found = IsFalse gave_up → (globs : List Member) → IsSetOf globs set → NoneCuts globs text from
     → (glob : Member) → IsAt globs found glob → MemberMatches glob text
 
 -- a number of a glob, from one on
@@ -41,8 +45,8 @@ pub record IsNumber (set : GlobSet) (from found : ℕ) : Type 0 where
 pub record IsFound (set : GlobSet) (text : List ℕ) (from : ℕ) (lead : Lead) (found : ℕ) : Type 0 where
   pub behind : from ≤ found
   pub within : found ≤ length set.moves.ends.items
-  pub none : (globs : List Member) → IsSetOf globs set → (g : ℕ) (glob : Member) → IsAt globs g glob → from ≤ g → g < found → member_matches glob text ≡ false
-  pub match_there : IsKnown lead → (globs : List Member) → IsSetOf globs set → (glob : Member) → IsAt globs found glob → member_matches glob text ≡ true
+  pub none : (globs : List Member) → IsSetOf globs set → NoneCuts globs text from → (g : ℕ) (glob : Member) → IsAt globs g glob → from ≤ g → g < found → member_matches glob text ≡ false
+  pub match_there : IsKnown lead → (globs : List Member) → IsSetOf globs set → NoneCuts globs text from → (glob : Member) → IsAt globs found glob → member_matches glob text ≡ true
 
 -- the losses after a search: one more where it gave up, and one less where it didn't; those of a spent scratch stay
 abbrev pub losses_after : Bool → ℕ → ℕ

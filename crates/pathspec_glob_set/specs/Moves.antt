@@ -3,7 +3,7 @@ use Rattle.std.specs.Prelude.{◌≡◌, ◌<◌, ℕ, Bool, false, ◌||◌, �
 use Rattle.pathspec_glob.specs.GlobCells.{further}
 use Rattle.pathspec_glob.specs.BitVecs.{holds}
 use Rattle.pathspec_glob_set.specs.declared.moves.Moves.{Moves}
-use Rattle.pathspec_glob_set.specs.Rows.{leads_on, taken_of}
+use Rattle.pathspec_glob_set.specs.Rows.{leads_on, taken_of, IsUncut}
 use Rattle.pathspec_glob_set.specs.Sizes.{row_at}
 
 -- the class of a byte
@@ -18,10 +18,10 @@ takes_of moves b = row_at moves.takes.items (class_of moves b)
 abbrev pub entered_by : Moves → List Bool → List Bool → ℕ → Bool
 entered_by moves takes old i = further false (taken_of takes old) i || (taken_of takes old i && holds moves.wide i)
 
--- A byte leads from one row to another, where these places take it.
+-- A byte leads from one row to another, where these places take it. Nothing is said of places behind a glob that is settled.
 pub record IsStep (moves : Moves) (takes old new : List Bool) : Type 0 where
   pub size : length new ≡ length moves.wide
-  pub places : (i : ℕ) → i < length moves.wide → holds new i ≡ (entered_by moves takes old i || leads_on (holds moves.wide) (holds moves.over) (holds new) i)
+  pub places : (i : ℕ) → i < length moves.wide → IsUncut moves.cuts moves.ends.items new i → holds new i ≡ (entered_by moves takes old i || leads_on (holds moves.wide) (holds moves.over) (holds new) i)
 
 -- A text, read from its end, leads to a row.
 pub data LeadsTo (moves : Moves) : List ℕ → List Bool → Type 0 where
@@ -44,6 +44,7 @@ IsLost moves takes old = (i : ℕ) → i < length moves.wide → entered_by move
 pub record AreAlike (some others : Moves) : Type 0 where
   pub wide : some.wide ≡ others.wide
   pub over : some.over ≡ others.over
+  pub cuts : some.cuts ≡ others.cuts
   pub start : some.start ≡ others.start
   pub classes : some.classes ≡ others.classes
   pub takes : some.takes.items ≡ others.takes.items

@@ -1,9 +1,9 @@
 -- What is asked of the places of globs when a set is made.
 use Rattle.std.specs.Prelude.{◌≡◌, ◌<◌, ◌≤◌, ◌+◌, ℕ, Bool, List, length, get_or, ◌==◌}
 use Rattle.pathspec_glob_set.specs.declared.columns.Question.{Question}
-use Rattle.pathspec_glob_set.specs.declared.columns.Question.TheVariants.{Wide, Over, Takes, Behind}
+use Rattle.pathspec_glob_set.specs.declared.columns.Question.TheVariants.{Wide, Over, Takes, Behind, Cuts}
 use Rattle.pathspec_glob_set.specs.declared.member.Member.{Member}
-use Rattle.pathspec_glob_set.specs.Meanings.{is_over_before, is_wide_before, takes_before}
+use Rattle.pathspec_glob_set.specs.Meanings.{is_over_before, is_wide_before, may_cut, takes_before}
 use Rattle.pathspec_glob_set.specs.declared.building.Classes.{Classes}
 use Rattle.pathspec_glob_set.specs.Sizes.{row_at}
 use Rattle.pathspec_glob_set.specs.Sets.{size_of, IsColumn}
@@ -14,6 +14,7 @@ answer_of Wide glob i = is_wide_before glob.tokens i
 answer_of Over glob i = is_over_before glob.tokens i
 answer_of (Takes b) glob i = takes_before glob.tokens glob.case i b
 answer_of Behind glob i = i == size_of glob
+answer_of Cuts glob i = may_cut glob i
 
 -- The first so many bytes have a class each, whose places are those that take the byte.
 pub record AreClasses (globs : List Member) (ends : List ℕ) (places bytes : ℕ) (classes : Classes) : Type 0 where

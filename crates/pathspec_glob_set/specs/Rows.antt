@@ -1,5 +1,5 @@
 -- Rows of places as truth values, and what places lead to.
-use Rattle.std.specs.Prelude.{◌≡◌, ◌<◌, ℕ, suc, Bool, false, ◌&&◌, ◌||◌, List, length}
+use Rattle.std.specs.Prelude.{◌≡◌, ◌<◌, ◌-◌, ℕ, suc, Bool, false, ◌&&◌, ◌||◌, List, length, get_or}
 use Rattle.pathspec_glob.specs.GlobCells.{has, further}
 use Rattle.pathspec_glob.specs.BitVecs.{holds}
 
@@ -20,6 +20,14 @@ taken_of takes row i = holds row i && holds takes i
 abbrev pub IsEntered : List Bool → List Bool → List Bool → List Bool → Type 0
 IsEntered wide takes old row =
     (i : ℕ) → i < length old → holds row i ≡ (further false (taken_of takes old) i || (taken_of takes old i && holds wide i))
+
+-- a glob with this last place has matched whatever stands before: its place behind its first token stands, and cuts
+abbrev pub is_settled : List Bool → List Bool → ℕ → Bool
+is_settled cuts row end = holds row (end - 1) && holds cuts (end - 1)
+
+-- no glob that ends before a place is settled
+abbrev pub IsUncut : List Bool → List ℕ → List Bool → ℕ → Type 0
+IsUncut cuts ends row i = (g : ℕ) → g < length ends → get_or ends g 0 < i → is_settled cuts row (get_or ends g 0) ≡ false
 
 -- what the words before lead to, as a word that begins at a place holds it
 pub record IsCarried (wide over row : ℕ → Bool) (from carry : ℕ) : Type 0 where

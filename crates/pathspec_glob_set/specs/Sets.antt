@@ -1,11 +1,11 @@
 -- Sets of globs, and which of them match a text.
-use Rattle.std.specs.Prelude.{◌≡◌, ◌+◌, ◌<◌, ◌≤◌, ℕ, suc, Bool, List, [], length, get_or}
+use Rattle.std.specs.Prelude.{◌≡◌, ◌+◌, ◌<◌, ◌≤◌, ℕ, suc, Bool, false, List, [], length, get_or}
 use Rattle.std.specs.List.{sum_by}
 use Rattle.pathspec_glob.specs.GlobRelation.{matches}
 use Rattle.pathspec_glob.specs.BitVecs.{holds}
 use Rattle.pathspec_glob_set.specs.declared.moves.Moves.{Moves}
 use Rattle.pathspec_glob_set.specs.declared.member.Member.{Member}
-use Rattle.pathspec_glob_set.specs.Meanings.{is_over_before, is_wide_before, stands, takes_before}
+use Rattle.pathspec_glob_set.specs.Meanings.{is_over_before, is_settled_by, is_wide_before, may_cut, stands, takes_before}
 use Rattle.pathspec_glob_set.specs.Moves.{takes_of}
 
 -- the count of a glob's tokens
@@ -41,9 +41,14 @@ pub record AreMovesOf (globs : List Member) (moves : Moves) : Type 0 where
   pub places : length moves.wide ≡ count_places globs
   pub wide : IsColumn globs moves.ends.items (λ glob i. is_wide_before glob.tokens i) moves.wide
   pub over : IsColumn globs moves.ends.items (λ glob i. is_over_before glob.tokens i) moves.over
+  pub cuts : IsColumn globs moves.ends.items may_cut moves.cuts
   pub takes : (b : ℕ) → b < 256 → IsColumn globs moves.ends.items (λ glob i. takes_before glob.tokens glob.case i b) (takes_of moves b)
   pub start : IsColumn globs moves.ends.items (λ glob i. stands glob.tokens glob.case i []) moves.start
 
--- A row says of each place of each glob what stands there of a text.
-abbrev pub IsRowOf : List Member → List ℕ → List ℕ → List Bool → Type 0
-IsRowOf globs ends text row = IsColumn globs ends (λ glob i. stands glob.tokens glob.case i text) row
+-- A row says of each place of a glob what stands there of a text.
+abbrev pub SaysOf : List ℕ → List ℕ → List Bool → ℕ → Member → Type 0
+SaysOf ends text row g glob = (i k : ℕ) → i ≤ size_of glob → k + i ≡ get_or ends g 0 → holds row k ≡ stands glob.tokens glob.case i text
+
+-- no glob before a number cuts and matches whatever stands before a text
+abbrev pub IsUnsettled : List Member → List ℕ → ℕ → Type 0
+IsUnsettled globs text g = (c : ℕ) (cutter : Member) → c < g → IsAt globs c cutter → is_settled_by cutter text ≡ false

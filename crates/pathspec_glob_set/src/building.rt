@@ -1,7 +1,9 @@
 //! A set of globs is made: its places, the classes of bytes, and the row of the empty text.
-ghost use Rattle.std.specs.Prelude.{◌≡◌, ◌<◌, ◌≤◌, ℕ, length, get_or, IfOk};
+ghost use Rattle.std.specs.Prelude.{◌≡◌, ◌<◌, ◌≤◌, ℕ, length, get_or, IfOk, IsFalse};
 ghost use Rattle.pathspec_glob_set.specs.Questions.{AddsClass, AreClasses};
-ghost use Rattle.pathspec_glob_set.specs.Sets.{AreEnds, AreMovesOf};
+ghost use Rattle.pathspec_glob_set.specs.Sets.{count_places, AreEnds, AreMovesOf};
+ghost use Rattle.pathspec_glob_set.specs.Sizes.{most_places};
+ghost use Rattle.pathspec_glob_set.specs.Tables.{nowhere};
 
 use crate::columns::{Question, column, ends_of, place_of, places_of};
 use crate::member::Member;
@@ -9,6 +11,12 @@ use crate::moves::Moves;
 use crate::row;
 use pathspec_glob::BitVec;
 use std::alloc::{AllocError, Global};
+
+/// How many places the globs of a set have at most.
+const MOST_PLACES: usize = 131_072;
+
+/// How many bytes the rows of a scratch take at most.
+const MOST_BYTES: usize = 6 << 20;
 
 /// Classes of bytes.
 #[derive(Drop)]
@@ -30,6 +38,7 @@ pub fn moves_of(alloc: Global, globs: &[Member]) -> Result<Moves, AllocError>
     let places = places_of(&ends);
     let wide = column(alloc, globs, &ends, places, Question::Wide)?;
     let over = column(alloc, globs, &ends, places, Question::Over)?;
+    let cuts = column(alloc, globs, &ends, places, Question::Cuts)?;
     let mut start = column(alloc, globs, &ends, places, Question::Behind)?;
     row::close(&mut start, &wide, &over);
     let classes = classes_of(alloc, globs, &ends, places)?;
@@ -37,11 +46,40 @@ pub fn moves_of(alloc: Global, globs: &[Member]) -> Result<Moves, AllocError>
     Ok(Moves {
         wide,
         over,
+        cuts,
         start,
         classes: of_byte,
         takes,
         ends,
     })
+}
+
+/// Whether globs have few enough places for a set.
+pub fn are_few(globs: &[Member]) -> bool
+    ensures { IsFalse result → most_places < count_places globs.now }
+{
+    let mut places = 0;
+    for glob in globs {
+        let size = glob.tokens.len();
+        if size >= MOST_PLACES - places {
+            return false;
+        }
+        places += size + 1;
+    }
+    true
+}
+
+/// How many rows a scratch has: 1,024, or 4,096 from 256 globs on, and fewer where they would take more than 6 MiB.
+pub fn rows_for(moves: &Moves) -> usize
+    ensures many { 2 ≤ result }
+    ensures few { result ≤ nowhere }
+{
+    let most = if moves.ends.len() < 256 { 1024 } else { 4096 };
+    // A bit for each place, two bytes for each class, and some sixty more.
+    let bytes = (moves.places() / 8)
+        .saturating_add(moves.width().saturating_mul(2))
+        .saturating_add(64);
+    MOST_BYTES.checked_div(bytes).unwrap_or(2).max(2).min(most)
 }
 
 /// Sorts bytes into classes: those of one class are taken by the same tokens.

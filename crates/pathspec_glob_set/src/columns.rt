@@ -1,6 +1,6 @@
 //! The places of globs, and what is asked of each, when a set is made.
 ghost use Rattle.std.specs.Prelude.{◌≡◌, ◌+◌, ◌<◌, ◌≤◌, ◌^◌, ℕ, suc, length, get_or, IfOk, OnOk};
-ghost use Rattle.pathspec_glob_set.specs.Meanings.{is_over_before, is_wide_before, takes_before};
+ghost use Rattle.pathspec_glob_set.specs.Meanings.{is_over_before, is_wide_before, may_cut, takes_before};
 ghost use Rattle.pathspec_glob.specs.BitVecs.{holds};
 ghost use Rattle.pathspec_glob_set.specs.Questions.{answer_of};
 ghost use Rattle.pathspec_glob_set.specs.Sets.{size_of, AreEnds, IsColumn};
@@ -20,6 +20,8 @@ pub enum Question {
     Takes(u8),
     /// Whether it stands behind all tokens.
     Behind,
+    /// Whether it stands behind the first token, which takes any bytes, of a glob that cuts.
+    Cuts,
 }
 
 /// The last place of each glob, where they stand one behind the other. A glob has a place for each token and one more.
@@ -95,6 +97,7 @@ fn ask(glob: &Member, place: usize, question: Question) -> bool
         Question::Over => may_pass_over(glob, place),
         Question::Takes(byte) => takes(glob, place, byte),
         Question::Behind => place == glob.tokens.len(),
+        Question::Cuts => may_cut(glob, place),
     }
 }
 
@@ -118,6 +121,15 @@ fn may_pass_over(glob: &Member, place: usize) -> bool
         return false;
     }
     glob.tokens.may_pass_over(place - 2)
+}
+
+/// Whether a place stands behind the first token of a glob that cuts, and that token takes any bytes.
+fn may_cut(glob: &Member, place: usize) -> bool
+    requires { place ≤ size_of glob.now }
+    ensures { result ≡ may_cut glob.now place }
+{
+    // A token that takes any number of bytes, and a slash, takes any bytes.
+    place == 1 && glob.cuts && is_wide(glob, place) && takes(glob, place, b'/')
 }
 
 /// Whether the token before a place takes a byte.

@@ -8,4 +8,6 @@ pub struct Member {
     pub tokens: Tokens,
     /// Whether case counts.
     pub case: Case,
+    /// Whether it decides where it matches: then globs with higher numbers may be left out.
+    pub cuts: bool,
 }

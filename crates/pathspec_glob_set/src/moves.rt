@@ -1,5 +1,5 @@
 //! How bytes lead from one row of places to another.
-ghost use Rattle.std.specs.Prelude.{◌≡◌, ◌<◌, length, IfOk, IsTrue};
+ghost use Rattle.std.specs.Prelude.{◌≡◌, ◌+◌, ◌<◌, ◌≤◌, ◌^◌, length, IfOk, IsTrue};
 ghost use Rattle.pathspec_glob_set.specs.Sizes.{row_at, HaveSizes};
 
 use crate::row;
@@ -14,6 +14,8 @@ pub struct Moves {
     pub(crate) wide: BitVec,
     /// The places whose next two tokens may stand for nothing.
     pub(crate) over: BitVec,
+    /// The places at which a glob that cuts matches whatever stands before.
+    pub(crate) cuts: BitVec,
     /// The row of the empty text.
     pub(crate) start: BitVec,
     /// The class of each byte. Bytes of a class are taken by the same tokens.
@@ -22,7 +24,7 @@ pub struct Moves {
     pub(crate) takes: Vec<BitVec>,
     /// The last place of each glob.
     pub(crate) ends: Vec<usize>,
-    ghost sizes: { HaveSizes over start wide classes takes.items ends.items },
+    ghost sizes: { HaveSizes over cuts start wide classes takes.items ends.items },
 }
 
 impl Moves {
@@ -52,15 +54,19 @@ impl Moves {
         self.classes[byte as usize] as usize
     }
 
-    /// Makes the row that the bytes of a class lead to from another.
-    pub fn step(&self, class: usize, old: &BitVec, row: &mut BitVec)
+    /// Makes the row that the bytes of a class lead to from another. The call counts all places and one more.
+    pub fn step(&self, class: usize, old: &BitVec, row: &mut BitVec, steps: &mut u128)
         requires class { class < length self.now.takes.items }
         requires old { length old.now ≡ length self.now.wide }
         requires row { length row.old ≡ length self.now.wide }
-        ensures { IsStep self.now (row_at self.now.takes.items class) old.now row.new }
+        requires steps { steps.old ≤ 2 ^ 127 }
+        ensures row { IsStep self.now (row_at self.now.takes.items class) old.now row.new }
+        ensures steps { steps.new ≡ steps.old + length self.now.wide + 1 }
     {
+        *steps += self.places() as u128 + 1;
         row::enter(row, &self.wide, &self.takes[class], old);
         row::close(row, &self.wide, &self.over);
+        row::cut(row, &self.cuts, &self.ends);
     }
 
     /// Whether others are the same. Copies are, and others may be said not to be.
@@ -70,7 +76,10 @@ impl Moves {
         if !self.wide.is_same(&others.wide) || !self.over.is_same(&others.over) {
             return false;
         }
-        if !self.start.is_same(&others.start) || self.classes != others.classes {
+        if !self.start.is_same(&others.start) || !self.cuts.is_same(&others.cuts) {
+            return false;
+        }
+        if self.classes != others.classes {
             return false;
         }
         self.ends == others.ends && are_same(&self.takes, &others.takes)
@@ -89,11 +98,13 @@ impl Moves {
         }
         let wide = self.wide.copy(alloc)?;
         let over = self.over.copy(alloc)?;
+        let cuts = self.cuts.copy(alloc)?;
         let start = self.start.copy(alloc)?;
         let ends = Vec::from_slice(alloc, &self.ends)?;
         Ok(Moves {
             wide,
             over,
+            cuts,
             start,
             classes: self.classes,
             takes,

@@ -1,8 +1,8 @@
 //! Rows of places, one bit each, and how a byte leads from one row to the next.
-ghost use Rattle.std.specs.Prelude.{◌≡◌, ◌<◌, ◌*◌, ◌&&◌, ◌||◌, ℕ, suc, false, length};
+ghost use Rattle.std.specs.Prelude.{◌≡◌, ◌<◌, ◌≤◌, ◌*◌, ◌&&◌, ◌||◌, ℕ, suc, false, true, length, get_or};
 ghost use Rattle.pathspec_glob.specs.BitVecs.{holds};
 ghost use Rattle.pathspec_glob.specs.GlobCells.{further, has};
-ghost use Rattle.pathspec_glob_set.specs.Rows.{leads_on, IsCarriedWord, IsClosedRow, IsEntered};
+ghost use Rattle.pathspec_glob_set.specs.Rows.{is_settled, leads_on, IsCarriedWord, IsClosedRow, IsEntered, IsUncut};
 
 use pathspec_glob::BitVec;
 
@@ -40,6 +40,62 @@ pub fn enter(row: &mut BitVec, wide: &BitVec, takes: &BitVec, old: &BitVec)
         let entered = entered_word(held & takers, widens, carry);
         row.set_word(index, entered);
         carry = (held & takers) >> 63;
+    }
+}
+
+/// Leaves out all places behind the first glob that cuts and matches whatever stands before.
+pub fn cut(row: &mut BitVec, cuts: &BitVec, ends: &[usize])
+    requires cuts { length cuts.now ≡ length row.old }
+    requires ends { (g : ℕ) → g < length ends.now → get_or ends.now g 0 < length row.old }
+    ensures kept { (i : ℕ) → IsUncut cuts.now ends.now row.new i
+        → holds row.new i ≡ holds row.old i }
+    ensures len { length row.new ≡ length row.old }
+{
+    let settled = first_settled(row, cuts, ends);
+    if settled < ends.len() {
+        forget_behind(row, ends[settled]);
+    }
+}
+
+/// The first glob that cuts and matches whatever stands before, or their count.
+fn first_settled(row: &BitVec, cuts: &BitVec, ends: &[usize]) -> usize
+    requires cuts { length cuts.now ≡ length row.now }
+    requires ends { (g : ℕ) → g < length ends.now → get_or ends.now g 0 < length row.now }
+    ensures within { result ≤ length ends.now }
+    ensures settled { result < length ends.now
+        → is_settled cuts.now row.now (get_or ends.now result 0) ≡ true }
+{
+    for glob in 0..ends.len() {
+        let place = ends[glob].saturating_sub(1);
+        if row.holds(place) && cuts.holds(place) {
+            return glob;
+        }
+    }
+    ends.len()
+}
+
+/// Leaves out all places behind one.
+fn forget_behind(row: &mut BitVec, last: usize)
+    requires { last < length row.old }
+    ensures kept { (i : ℕ) → i ≤ last → holds row.new i ≡ holds row.old i }
+    ensures len { length row.new ≡ length row.old }
+{
+    let next = last / 64 + 1;
+    forget(row, last, next.saturating_mul(64));
+    for index in next..row.len() / 64 + 1 {
+        row.set_word(index, 0);
+    }
+}
+
+/// Leaves out the places behind one, up to another.
+fn forget(row: &mut BitVec, last: usize, until: usize)
+    requires { last < length row.old }
+    ensures kept { (i : ℕ) → i ≤ last → holds row.new i ≡ holds row.old i }
+    ensures len { length row.new ≡ length row.old }
+{
+    let until = until.min(row.len());
+    for place in last + 1..until {
+        row.set(place, false);
     }
 }
 

@@ -1,10 +1,11 @@
 //! Many globs at once: which of them match a text, in one pass over the text from its end.
-ghost use Rattle.std.specs.Prelude.{◌≡◌, ◌+◌, ◌%◌, ◌<◌, ◌≤◌, ◌^◌, ◌↔◌, ℕ, List, length, IfOk, IfSome, IsTrue};
+ghost use Rattle.std.specs.Prelude.{◌≡◌, ◌+◌, ◌%◌, ◌<◌, ◌≤◌, ◌^◌, ◌↔◌, ℕ, List, length, None, IfOk, IfSome, IsTrue};
 ghost use Rattle.pathspec_glob_set.specs.Moves.{AreAlike};
 ghost use Rattle.pathspec_glob_set.specs.Tables.{is_unknown, AreFewSteps, Finds, IsInUse, IsKnown, IsTable};
-ghost use Rattle.pathspec_glob_set.specs.Sizes.{most_losses};
+ghost use Rattle.pathspec_glob_set.specs.Sizes.{most_losses, most_places};
+ghost use Rattle.pathspec_glob_set.specs.Sets.{count_places};
 
-use crate::building::moves_of;
+use crate::building::{are_few, moves_of, rows_for};
 use crate::member::Member;
 use crate::moves::Moves;
 use crate::table::{Lead, Table};
@@ -36,16 +37,21 @@ pub struct SetScratch {
 impl GlobSet {
     ghost use Rattle.pathspec_glob_set.specs.Answers.{losses_after, GivesUp, IsFound, IsMatch, IsNumber, IsSetOf, LeavesOutNone};
 
-    /// Makes the set of some globs. Each token is asked of each byte, and the memory is a bit for each place and class of bytes.
+    /// Makes the set of some globs; none where they have more than 2^17 places, one for each token and one more for each glob.
+    ///
+    /// Each token is asked of each byte, and the memory is a bit for each place and class of bytes: at most 4 MiB.
     ///
     /// # Errors
     /// Memory runs out.
-    pub fn new(alloc: Global, globs: &[Member]) -> Result<GlobSet, AllocError>
-        ensures { IfOk result (λ set. IsSetOf globs.now set) }
+    pub fn new(alloc: Global, globs: &[Member]) -> Result<Option<GlobSet>, AllocError>
+        ensures set { IfOk result (λ made. IfSome made (IsSetOf globs.now)) }
+        ensures none { IfOk result (λ made. made ≡ None → most_places < count_places globs.now) }
     {
-        Ok(GlobSet {
-            moves: moves_of(alloc, globs)?,
-        })
+        if !are_few(globs) {
+            return Ok(None);
+        }
+        let moves = moves_of(alloc, globs)?;
+        Ok(Some(GlobSet { moves }))
     }
 
     /// The count of globs.
@@ -55,7 +61,8 @@ impl GlobSet {
         self.moves.ends.len()
     }
 
-    /// Makes room to search the set in, of 1,024 rows, or 4,096 where it has 256 globs or more.
+    /// Makes room to search the set in, of 1,024 rows, or 4,096 where it has 256 globs or more. Rows take at most 6 MiB, so a set
+    /// of many places has fewer.
     ///
     /// # Errors
     /// Memory runs out.
@@ -63,7 +70,7 @@ impl GlobSet {
         ensures { IfOk result (λ scratch. AreAlike scratch.table.moves self.now.moves) }
     {
         let moves = self.moves.copy(alloc)?;
-        let rows = if self.len() < 256 { 1024 } else { 4096 };
+        let rows = rows_for(&moves);
         Ok(SetScratch {
             table: Table::new(alloc, moves, rows)?,
             gave_up: false,
@@ -79,7 +86,8 @@ impl GlobSet {
         scratch.table.moves().is_same(&self.moves)
     }
 
-    /// The first glob from a number on that matches a text. A search that gives up leaves out none.
+    /// The first glob from a number on that matches a text, if no glob before it cuts and matches. A search that gives up leaves
+    /// out none.
     ///
     /// The call counts a step for each byte that it reads, and all places of the globs and one more for each cell that it fills,
     /// which are at most eight. Then it looks at a place of each glob from the number on. It takes no memory.
@@ -87,7 +95,7 @@ impl GlobSet {
         requires fits { AreAlike scratch.old.table.moves self.now.moves }
         requires from { from ≤ length self.now.moves.ends.items }
         ensures no_other { LeavesOutNone self.now text.now from result }
-        ensures matches { IfSome result (IsMatch self.now text.now scratch.new.gave_up) }
+        ensures matches { IfSome result (IsMatch self.now text.now from scratch.new.gave_up) }
         ensures number { IfSome result (IsNumber self.now from) }
         ensures gives_up { GivesUp scratch.old scratch.new }
         ensures losses { scratch.new.losses ≡ losses_after scratch.new.gave_up scratch.old.losses }

@@ -177,7 +177,6 @@ impl Table {
             return Lead::Unknown;
         }
         self.misses += 1;
-        self.steps += self.moves.places() as u128 + 1;
         self.fill(row, class)
     }
 
@@ -186,16 +185,19 @@ impl Table {
         requires table { IsTable self.old }
         requires row { row < self.old.used }
         requires class { class < length self.old.moves.takes.items }
+        requires steps { self.old.steps ≤ 2 ^ 127 }
         ensures table { IsTable self.new }
         ensures leads { Leads (row_at self.old.moves.takes.items class)
             (row_at self.old.rows.items row) self.new result }
         ensures known { IsKnown result }
-        ensures steps { self.new.steps ≡ self.old.steps }
+        ensures steps { self.new.steps ≡ self.old.steps + length self.old.moves.wide + 1 }
         ensures misses { self.new.misses ≡ self.old.misses }
         ensures room { KeepsRoom self.old self.new }
     {
         let at = self.place(row, class);
-        self.moves.step(class, &self.rows[row], &mut self.spare);
+        let steps = &mut self.steps;
+        self.moves
+            .step(class, &self.rows[row], &mut self.spare, steps);
         if self.spare.holds_none() {
             put(&mut self.cells, at, NOWHERE);
             return Lead::Nowhere;

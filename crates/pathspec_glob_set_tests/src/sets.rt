@@ -13,22 +13,35 @@ use pathspec_glob_set::{GlobSet, Member, SetScratch};
 use std::alloc::{AllocError, Global};
 use std::test::Fail;
 
+/// How many random sets there are of each size. `bench/glob_sets cases` has more.
+const SETS: usize = 4;
+
+/// How many texts each of them is asked about.
+const TEXTS: usize = 12;
+
 /// A glob, with what it was made of.
 #[derive(Drop)]
 pub struct Written {
     pattern: Vec<u8>,
     mode: Mode,
     case: Case,
+    cuts: bool,
     glob: Glob,
 }
 
 impl Written {
-    fn new(alloc: Global, pattern: Vec<u8>, mode: Mode, case: Case) -> Result<Written, AllocError> {
+    pub fn new(
+        alloc: Global,
+        pattern: Vec<u8>,
+        mode: Mode,
+        case: Case,
+    ) -> Result<Written, AllocError> {
         let glob = Glob::compile(alloc, &pattern, mode)?;
         Ok(Written {
             pattern,
             mode,
             case,
+            cuts: false,
             glob,
         })
     }
@@ -48,9 +61,12 @@ pub fn made(alloc: Global, written: &[Written]) -> Result<Box<Searched>, AllocEr
         globs.push(Member {
             tokens: Tokens::of_pattern(alloc, &one.pattern, one.mode)?,
             case: one.case,
+            cuts: one.cuts,
         })?;
     }
-    let set = GlobSet::new(alloc, &globs)?;
+    let Some(set) = GlobSet::new(alloc, &globs)? else {
+        return Err(AllocError);
+    };
     let scratch = set.new_scratch(alloc)?;
     Ok(Box::new(alloc, Searched { set, scratch })?)
 }
@@ -98,12 +114,21 @@ fn patterns(
         } else {
             Sensitive
         };
-        written.push(Written::new(alloc, pattern, mode, case)?)?;
+        let mut one = Written::new(alloc, pattern, mode, case)?;
+        one.cuts = numbers.below(4) == 0;
+        written.push(one)?;
     }
     Ok(written)
 }
 
-/// Whether a set finds each glob that matches a text, and no other where it doesn't give up.
+/// Lets all globs cut.
+pub fn cutting(written: &mut [Written]) {
+    for one in written {
+        one.cuts = true;
+    }
+}
+
+/// Whether a set finds each glob that matches a text, and no other where it doesn't give up, up to one that cuts and matches.
 pub fn is_right(
     alloc: Global,
     written: &[Written],
@@ -115,6 +140,9 @@ pub fn is_right(
         let is_wanted = is_match(alloc, one, text)?;
         if is_found != is_wanted && (is_wanted || !searched.scratch.gave_up()) {
             return Ok(false);
+        }
+        if is_wanted && one.cuts {
+            return Ok(true);
         }
     }
     Ok(next(searched, text, written.len(), written.len()).is_none())
@@ -139,10 +167,10 @@ pub fn listed(
 fn a_set_finds_what_its_globs_match(rt: HostRuntime) -> Result<(), Fail> {
     let mut numbers = Numbers(1);
     for count in [0, 1, 2, 5, 12, 31, 63, 64, 65] {
-        for _set in 0..4 {
+        for _set in 0..SETS {
             let written = patterns(rt.alloc(), &mut numbers, count)?;
             let mut searched = made(rt.alloc(), &written)?;
-            for _text in 0..12 {
+            for _text in 0..TEXTS {
                 let text = numbers.text(rt.alloc(), 24)?;
                 assert!(rt;
                     is_right(rt.alloc(), &written, &mut searched, &text)?,

@@ -11,4 +11,4 @@ none-comes (Some x) g e h = true≢false e
 
 pub returns-clause-none : goal.returns-clause-none
 returns-clause-none c h globs is g glob at matched =
-    none-comes c.next.result g (sym c.is_some.ensures ∙ h) (c.next.ensures.no_other globs is g glob at (omega arith) matched)
+    none-comes c.next.result g (sym c.is_some.ensures ∙ h) (c.next.ensures.no_other globs is (λ k cutter less _ _ _. let no : ⊥ = omega (arith, less) in no) g glob at (omega arith) matched)

@@ -12,7 +12,7 @@ returns-then-holds_none-clause-table c =
     let was = c.requires.table in
     let takes = row_at table.moves.takes.items c.args.class in
     let here : c.index.result.now ≡ row_of table c.args.row = c.index.ensures ∙ get_or_default table.rows.items c.args.row _ [] (omega (arith, c.requires.row, was.rows.within)) in
-    let step : IsStep table.moves takes (row_of table c.args.row) c.step.new.row = subst (λ r. IsStep table.moves takes r c.step.new.row) here c.step.ensures in
+    let step : IsStep table.moves takes (row_of table c.args.row) c.step.new.row = subst (λ r. IsStep table.moves takes r c.step.new.row) here c.step.ensures.row in
     record {
       rows = was.rows;
       cells = fill-cells table c.args.row c.args.class nowhere c.place-at.result c.put.new.cells.items was c.requires.row c.requires.class c.place-at.ensures.place
@@ -28,7 +28,7 @@ returns-then-holds_none-clause-leads c =
     let was = c.requires.table in
     let takes = row_at table.moves.takes.items c.args.class in
     let here : c.index.result.now ≡ row_of table c.args.row = c.index.ensures ∙ get_or_default table.rows.items c.args.row _ [] (omega (arith, c.requires.row, was.rows.within)) in
-    let step : IsStep table.moves takes (row_of table c.args.row) c.step.new.row = subst (λ r. IsStep table.moves takes r c.step.new.row) here c.step.ensures in
+    let step : IsStep table.moves takes (row_of table c.args.row) c.step.new.row = subst (λ r. IsStep table.moves takes r c.step.new.row) here c.step.ensures.row in
     let right = right-nowhere table.moves table.rows.items table.used takes (row_of table c.args.row) c.step.new.row step (c.if-holds_none.ensures refl) in
     right.lost refl
 
@@ -40,7 +40,7 @@ returns-in-Some-clause-table c =
     let takes = row_at table.moves.takes.items c.args.class in
     let is : (found < table.used) × (row_of table found ≡ c.step.new.row) = c.in-Some.ensures in
     let here : c.index.result.now ≡ row_of table c.args.row = c.index.ensures ∙ get_or_default table.rows.items c.args.row _ [] (omega (arith, c.requires.row, was.rows.within)) in
-    let step : IsStep table.moves takes (row_of table c.args.row) c.step.new.row = subst (λ r. IsStep table.moves takes r c.step.new.row) here c.step.ensures in
+    let step : IsStep table.moves takes (row_of table c.args.row) c.step.new.row = subst (λ r. IsStep table.moves takes r c.step.new.row) here c.step.ensures.row in
     let leads : IsStep table.moves takes (row_of table c.args.row) (row_of table found) = subst (λ r. IsStep table.moves takes (row_of table c.args.row) r) (sym is.1) step in
     record {
       rows = was.rows;
@@ -58,7 +58,7 @@ add-requires-clause-table c =
     record {
       rows = one-row table.moves table.rows.items table.firsts.items table.used was.rows;
       cells = subst (AreCells table.moves table.rows.items 1) (sym c.clear.ensures) (no-cells table.moves table.rows.items table.used 1 table.cells.items was.cells);
-      spare = c.step.ensures.size;
+      spare = c.step.ensures.row.size;
       index = was.index;
       misses = was.misses;
     }
@@ -74,7 +74,7 @@ returns-clause-table c =
     let row = c.args.row in
     let takes = row_at table.moves.takes.items class in
     let here : c.index.result.now ≡ row_of table row = c.index.ensures ∙ get_or_default table.rows.items row _ [] (omega (arith, c.requires.row, was.rows.within)) in
-    let step : IsStep table.moves takes (row_of table row) c.step.new.row = subst (λ r. IsStep table.moves takes r c.step.new.row) here c.step.ensures in
+    let step : IsStep table.moves takes (row_of table row) c.step.new.row = subst (λ r. IsStep table.moves takes r c.step.new.row) here c.step.ensures.row in
     let room : table.used < length table.rows.items = omega (arith, was.rows.within, c.if-self-len.false, c.len.ensures) in
     record {
       rows = is.rows;
