@@ -1,0 +1,4 @@
+pub mod PendingProofs
+pub mod CourseProofs
+pub mod VisitProofs
+pub mod StepProofs
