@@ -1,5 +1,5 @@
 -- What all files decide of a path, one after another.
-use Rattle.std.proofs.Common.{◌≡◌, ◌∙◌, ℕ, Bool, ◌||◌, ap, subst, List, [], ◌++◌, reverse, true}
+use Rattle.std.proofs.Common.{◌≡◌, ◌∙◌, ℕ, Bool, false, ◌||◌, refl, ap, subst, List, [], ◌++◌, reverse, true}
 use Rattle.std.proofs.Math.Path.{fun_ext}
 use Rattle.std.specs.List.{flat_map}
 use Rattle.pathspec_glob.specs.declared.Case.{Case}
@@ -7,26 +7,32 @@ use Rattle.pathspec_parts.specs.Attributes.{Assignment}
 use Rattle.pathspec_parts.specs.Outcomes.{NamedState, apply_assignments, names_of, reset_states, reply_of}
 use Rattle.pathspec_parts.specs.Paths.{ends_with_slash, without_last_slash}
 use Rattle.pathspec_parts.proofs.OutcomeProofs.{reset_places}
-use Rattle.pathspec_attributes.specs.Deciding.{Macro, Decides, decided_by}
+use Rattle.pathspec_attributes.specs.Deciding.{Macro, decided_by}
 use Rattle.pathspec_attributes.specs.Files.{AttributeFile, Files, decided, directories_of, file_at, macros_of, said, said_by_file, table_of}
-use Rattle.pathspec_attributes.proofs.DecidingProofs.{decides-append, decides_once}
+use Rattle.pathspec_attributes.specs.Leading.{Leads}
+use Rattle.pathspec_attributes.proofs.LeadingProofs.{leads-all, leads-behind}
 
 -- the macros in the order in which they count
 pub same-macros : (info top global own info' top' global' own' : List Macro) → info ≡ info' → top ≡ top' → global ≡ global' → own ≡ own' → reverse info ++ (reverse top ++ (reverse global ++ reverse own)) ≡ reverse info' ++ (reverse top' ++ (reverse global' ++ reverse own'))
 same-macros info top global own info' top' global' own' i t g o = cc
 
-module _ (files : Files) (macros : List Macro) (look : List ℕ → AttributeFile) (path : List ℕ) (is_dir : Bool) where
-  pub answered : (first second third : List Assignment) → macros ≡ macros_of files → ((base : List ℕ) → look base ≡ file_at files.directories base)
-      → Decides macros (said_by_file files.case path is_dir [] files.info) [] first
-      → Decides macros (flat_map (λ base. said_by_file files.case path is_dir base (look base)) (directories_of path)) first second
-      → Decides macros (said_by_file files.case path is_dir [] files.global) second third
-      → third ≡ decided files path is_dir
-  answered first second third m same info between global =
+module _ (files : Files) (macros : List Macro) (look : List ℕ → AttributeFile) (path : List ℕ) (is_dir : Bool) (m0 m1 m2 m3 : List ℕ → Bool) (out0 out1 out2 out3 : List NamedState) where
+  -- what the files of the path's directories say
+  abbrev between : (List ℕ → AttributeFile) → List Assignment
+  between files_at = flat_map (λ base. said_by_file files.case path is_dir base (files_at base)) (directories_of path)
+
+  pub answered : macros ≡ macros_of files → ((base : List ℕ) → look base ≡ file_at files.directories base) → ((name : List ℕ) → m0 name ≡ false)
+      → Leads macros (said_by_file files.case path is_dir [] files.info) m0 out0 [] m1 out1
+      → Leads macros (between look) m1 out1 [] m2 out2
+      → Leads macros (said_by_file files.case path is_dir [] files.global) m2 out2 [] m3 out3
+      → out3 ≡ apply_assignments out0 (decided files path is_dir)
+  answered m same none info middle global =
       let held : look ≡ file_at files.directories = fun_ext same in
-      let middle = subst (λ (f : List ℕ → AttributeFile). Decides macros (flat_map (λ base. said_by_file files.case path is_dir base (f base)) (directories_of path)) first second) held between in
-      let rest = decides-append macros (said_by_file files.case path is_dir [] files.global) middle global in
-      let whole : Decides macros (said files path is_dir) [] third = decides-append macros (flat_map (λ base. said_by_file files.case path is_dir base (file_at files.directories base)) (directories_of path) ++ said_by_file files.case path is_dir [] files.global) info rest in
-      decides_once.one macros (said files path is_dir) [] third whole ∙ ap (λ (ms : List Macro). decided_by ms (said files path is_dir) []) m
+      let all : Leads macros (said files path is_dir) m0 out0 [] m3 out3 =
+      leads-behind macros (said files path is_dir) refl info
+      (leads-behind macros (between (file_at files.directories) ++ said_by_file files.case path is_dir [] files.global) refl
+      (subst (λ (f : List ℕ → AttributeFile). Leads macros (between f) m1 out1 [] m2 out2) held middle) global) in
+      leads-all macros (said files path is_dir) m0 m3 out0 out3 none all ∙ ap (λ (ms : List Macro). apply_assignments out0 (decided_by ms (said files path is_dir) [])) m
 
 -- an outcome that was reset replies as the table says
 pub replied : (given files : Files) (given_path text path : List ℕ) (given_dir is_dir : Bool) (case : Case) (places new : List NamedState) → new ≡ apply_assignments places (decided given given_path given_dir)

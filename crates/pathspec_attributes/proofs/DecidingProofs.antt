@@ -1,12 +1,11 @@
 -- Assignments decide attributes in one way alone.
-use Rattle.std.proofs.Common.{◌≡◌, ℕ, zero, suc, ◌+◌, ◌≤◌, Bool, true, false, ◌||◌, cond, refl, sym, ◌∙◌, ap, subst, List, [], ◌∷◌, ◌++◌, length, map, arith, append_assoc}
-use Rattle.std.proofs.lemmas.List.{length-append, length-reverse, reverse-append}
-use Rattle.std.specs.Prelude.{bytes_eq, Option, Some, None, unwrap_or, reverse, ◌<◌}
-use Rattle.std.specs.List.{list_any}
+use Rattle.std.proofs.Common.{◌≡◌, ℕ, zero, suc, ◌+◌, ◌≤◌, Bool, true, false, ◌||◌, cond, refl, sym, ◌∙◌, ap, subst, List, [], ◌∷◌, ◌++◌, length, arith, append_assoc}
+use Rattle.std.proofs.lemmas.List.{length-append, length-reverse}
+use Rattle.std.specs.Prelude.{bytes_eq, Option, Some, None, unwrap_or}
 use Rattle.std.specs.Cmp.Lexicographic.{bytes_decides}
 use Rattle.pathspec_parts.specs.Attributes.{State, Assignment}
 use Rattle.pathspec_parts.specs.Attributes.State.{Set, Unset, Value, Unspecified}
-use Rattle.pathspec_attributes.specs.Deciding.{Macro, knows, body_of, body_in, brought_by, brought, expansion, Decides, room, decided_after, DecidesOnce}
+use Rattle.pathspec_attributes.specs.Deciding.{Macro, knows, body_of, body_in, brought_by, brought, expansion, Decides, room, decided_after, decided_by, DecidesOnce}
 use Rattle.pathspec_attributes.specs.Deciding.Decides.{ends, passes, takes}
 
 -- ---- the room left falls with each name that is decided
@@ -21,7 +20,7 @@ share-or true false n = omega arith
 share-or false true n = omega arith
 share-or false false n = omega arith
 
-knows-more : (decided : List Assignment) (a : Assignment) (name : List ℕ) → knows (decided ++ a ∷ []) name ≡ (bytes_eq a.name name || knows decided name)
+pub knows-more : (decided : List Assignment) (a : Assignment) (name : List ℕ) → knows (decided ++ a ∷ []) name ≡ (bytes_eq a.name name || knows decided name)
 knows-more [] a name = refl
 knows-more (d ∷ decided) a name = ap (λ b. bytes_eq d.name name || b) (knows-more decided a name) ∙ swapped (bytes_eq d.name name) (bytes_eq a.name name) (knows decided name)
   where
@@ -114,28 +113,15 @@ decides-append macros others (passes h first) after = passes h (decides-append m
 decides-append macros others {new = new} (takes {a = a} {said = said} {decided = decided} h first) after =
     takes h (subst (λ list. Decides macros list (more decided a) new) (append_assoc (expansion macros a) said others) (decides-append macros others first after))
 
--- ---- as the code decides: what is pending stands in a list, the first last
-
--- one that is decided already
-pub decide-passes : (macros : List Macro) (before after decided : List Assignment) (a : Assignment) → before ≡ after ++ a ∷ [] → knows decided a.name ≡ true → (new : List Assignment) → Decides macros (reverse after) decided new → Decides macros (reverse before) decided new
-decide-passes macros before after decided a b known new d =
-    let whole : reverse before ≡ a ∷ reverse after = ap reverse b ∙ reverse-append after (a ∷ []) in
-    subst (λ list. Decides macros list decided new) (sym whole) (passes known d)
-
--- another one
-pub decide-takes : (macros : List Macro) (before after grown decided : List Assignment) (a : Assignment) → before ≡ after ++ a ∷ [] → grown ≡ after ++ brought macros a → knows decided a.name ≡ false → (new : List Assignment) → Decides macros (reverse grown) (decided ++ a ∷ []) new → Decides macros (reverse before) decided new
-decide-takes macros before after grown decided a b g unknown new d =
-    let whole : reverse before ≡ a ∷ reverse after = ap reverse b ∙ reverse-append after (a ∷ []) in
-    let next : reverse grown ≡ expansion macros a ++ reverse after = ap reverse g ∙ reverse-append after (brought macros a) in
-    subst (λ list. Decides macros list decided new) (sym whole) (takes unknown (subst (λ list. Decides macros list (more decided a) new) next d))
-
--- what is left gets less
-pub decide-smaller : (macros : List Macro) (before after grown decided : List Assignment) (a : Assignment) → before ≡ after ++ a ∷ [] → grown ≡ after ++ brought macros a → knows decided a.name ≡ false → length grown + room macros (decided ++ a ∷ []) < length before + room macros decided
-decide-smaller macros before after grown decided a b g unknown =
-    let share : length (brought macros a) + room macros (more decided a) ≤ room macros decided = brought-room macros a decided unknown a.state in
-    let all : length before ≡ length after + 1 = ap length b ∙ length-append after (a ∷ []) in
-    let more_left : length grown ≡ length after + length (brought macros a) = ap length g ∙ length-append after (brought macros a) in
-    omega (arith, share, all, more_left)
+-- what is decided after the first of two lists decides the rest
+pub decides-rest : (macros : List Macro) (first rest decided new : List Assignment) → Decides macros (first ++ rest) decided new → Decides macros rest (decided_by macros first decided) new
+decides-rest macros first rest decided new d =
+    let middle : List Assignment = decided_by macros first decided in
+    let here : Decides macros first decided middle = decides_once.some macros first decided in
+    let behind : Decides macros rest middle (decided_by macros rest middle) = decides_once.some macros rest middle in
+    let whole : Decides macros (first ++ rest) decided (decided_by macros rest middle) = decides-append macros rest here behind in
+    let same : decided_by macros rest middle ≡ new = decides_once.one macros (first ++ rest) decided (decided_by macros rest middle) whole ∙ sym (decides_once.one macros (first ++ rest) decided new d) in
+    subst (λ list. Decides macros rest middle list) same behind
 
 -- ---- the macro of a name, in one list after another
 
@@ -158,15 +144,11 @@ body-second (m ∷ xs) ys name h = by (bytes_eq name m.name) h (body-second xs y
 -- in the four lists of macros, as the code asks them one after another
 module _ (info top global built_in : List Macro) (name : List ℕ) where
   -- what all of them say
-  abbrev said_by_all : Option (List Assignment)
+  abbrev pub said_by_all : Option (List Assignment)
   said_by_all = body_of (info ++ (top ++ (global ++ built_in))) name
 
-  -- the body that is found
-  or_nothing : (said : Option (List Assignment)) → said_by_all ≡ said → unwrap_or said [] ≡ body_in (info ++ (top ++ (global ++ built_in))) name
-  or_nothing said e = sym (ap (λ (o : Option (List Assignment)). unwrap_or o []) e)
-
-  pub in-first : (body : List Assignment) → Some body ≡ body_of info name → body ≡ body_in (info ++ (top ++ (global ++ built_in))) name
-  in-first body h = or_nothing (Some body) (body-first info (top ++ (global ++ built_in)) name body (sym h))
+  pub in-first : (body : List Assignment) → Some body ≡ body_of info name → Some body ≡ said_by_all
+  in-first body h = sym (body-first info (top ++ (global ++ built_in)) name body (sym h))
 
   -- behind the first
   second : None ≡ body_of info name → said_by_all ≡ body_of (top ++ (global ++ built_in)) name
@@ -175,23 +157,11 @@ module _ (info top global built_in : List Macro) (name : List ℕ) where
   third : None ≡ body_of info name → None ≡ body_of top name → said_by_all ≡ body_of (global ++ built_in) name
   third n m = second n ∙ body-second top (global ++ built_in) name (sym m)
 
-  fourth : None ≡ body_of info name → None ≡ body_of top name → None ≡ body_of global name → said_by_all ≡ body_of built_in name
+  pub fourth : None ≡ body_of info name → None ≡ body_of top name → None ≡ body_of global name → said_by_all ≡ body_of built_in name
   fourth n m k = third n m ∙ body-second global built_in name (sym k)
 
-  pub in-second : (body : List Assignment) → None ≡ body_of info name → Some body ≡ body_of top name → body ≡ body_in (info ++ (top ++ (global ++ built_in))) name
-  in-second body n h = or_nothing (Some body) (second n ∙ body-first top (global ++ built_in) name body (sym h))
+  pub in-second : (body : List Assignment) → None ≡ body_of info name → Some body ≡ body_of top name → Some body ≡ said_by_all
+  in-second body n h = sym (second n ∙ body-first top (global ++ built_in) name body (sym h))
 
-  pub in-third : (body : List Assignment) → None ≡ body_of info name → None ≡ body_of top name → Some body ≡ body_of global name → body ≡ body_in (info ++ (top ++ (global ++ built_in))) name
-  in-third body n m h = or_nothing (Some body) (third n m ∙ body-first global built_in name body (sym h))
-
-  pub in-fourth : (body : List Assignment) → None ≡ body_of info name → None ≡ body_of top name → None ≡ body_of global name → Some body ≡ body_of built_in name → body ≡ body_in (info ++ (top ++ (global ++ built_in))) name
-  in-fourth body n m k h = or_nothing (Some body) (fourth n m k ∙ sym h)
-
-  pub in-none : None ≡ body_of info name → None ≡ body_of top name → None ≡ body_of global name → None ≡ body_of built_in name → [] ≡ body_in (info ++ (top ++ (global ++ built_in))) name
-  in-none n m k h = or_nothing None (fourth n m k ∙ sym h)
-
--- ---- what is decided, in references
-
-pub knows-map : {X : Type 0} (view : X → Assignment) (xs : List X) (name : List ℕ) → knows (map view xs) name ≡ list_any (λ x. bytes_eq (view x).name name) xs
-knows-map view [] name = refl
-knows-map view (x ∷ xs) name = ap (λ b. bytes_eq (view x).name name || b) (knows-map view xs name)
+  pub in-third : (body : List Assignment) → None ≡ body_of info name → None ≡ body_of top name → Some body ≡ body_of global name → Some body ≡ said_by_all
+  in-third body n m h = sym (third n m ∙ body-first global built_in name body (sym h))

@@ -1,45 +1,18 @@
 -- The file of each directory, once one is put or removed.
-use Rattle.std.proofs.Common.{◌≡◌, ◌∙◌, refl, sym, ap, subst, true, false, cond, Bool, ℕ, List, [], ◌∷◌, map, Vec, Ordering, Option, Some, ⊎_elim}
-use Rattle.std.proofs.lemmas.Bool.{cases_Bool, cond-true, cond-false}
+use Rattle.std.proofs.Common.{◌≡◌, ◌∙◌, refl, sym, ap, true, false, cond, Bool, ℕ, List, [], ◌∷◌, map, Vec, Option, Some}
 use Rattle.std.proofs.lemmas.Map.Text.{is_eq-slice_cmp}
 use Rattle.std.specs.Prelude.{bytes_eq}
 use Rattle.std.specs.Option.{option_map_or}
-use Rattle.std.specs.Ordering.{nat_cmp, is_eq, eq_by_cmp}
-use Rattle.std.specs.Cmp.{eq_by_cmp_equiv}
-use Rattle.std.specs.Cmp.Lexicographic.{slice_cmp, bytes_decides, nat_list_cmp_total, nat_list_eq_equiv}
+use Rattle.std.specs.Ordering.{nat_cmp, is_eq}
+use Rattle.std.specs.Cmp.Lexicographic.{slice_cmp}
 use Rattle.std.specs.Global.{Global}
-use Rattle.std.specs.BTreeMap.{get_by, UpdatesBy}
-use Rattle.std.specs.Map.{lookup, KeepsOthers}
+use Rattle.std.specs.BTreeMap.{UpdatesBy}
+use Rattle.std.specs.Map.{lookup}
 use Rattle.pathspec_attributes.specs.declared.file.File.{File}
 use Rattle.pathspec_attributes.specs.Files.{AttributeFile, Directory, empty_file, file_at}
 use Rattle.pathspec_attributes.specs.Places.{PutsIn}
 use Rattle.pathspec_attributes.specs.Views.{Directories, directories_view, file_in, file_view}
-
--- keys in the order of their bytes
-abbrev pub key_cmp : Vec ℕ Global → Vec ℕ Global → Ordering
-key_cmp x y = slice_cmp nat_cmp x.items y.items
-
--- what the map has at these bytes
-abbrev value_at : Directories → List ℕ → Option File
-value_at directories path = get_by (λ key. slice_cmp nat_cmp path key.items) directories
-
-apart : (path other key : List ℕ) → bytes_eq path other ≡ false → is_eq (slice_cmp nat_cmp path key) ≡ true → is_eq (slice_cmp nat_cmp other key) ≡ false
-apart path other key n y =
-    let at : bytes_eq path key ≡ true = sym (is_eq-slice_cmp path key) ∙ y in
-    is_eq-slice_cmp other key ∙ (nat_list_eq_equiv.symm other key ∙ (sym (nat_list_eq_equiv.congr path key other at) ∙ n))
-
-other_values : (old new : List (Vec ℕ Global × File)) (path other : List ℕ) → KeepsOthers (eq_by_cmp key_cmp) (λ key. is_eq (slice_cmp nat_cmp path key.items)) old new → bytes_eq path other ≡ false
-    → lookup (λ key. is_eq (slice_cmp nat_cmp other key.items)) new ≡ lookup (λ key. is_eq (slice_cmp nat_cmp other key.items)) old
-unfolding KeepsOthers
-other_values old new path other h n = h (λ key. is_eq (slice_cmp nat_cmp other key.items)) (λ x y. (eq_by_cmp_equiv nat_list_cmp_total).congr other x.items y.items) (λ key. apart path other key.items n)
-
--- after a change at a path
-value-updates : (old new : Directories) (path : List ℕ) (w : Option File) → UpdatesBy key_cmp (λ key. slice_cmp nat_cmp path key.items) old new w → (other : List ℕ) → value_at new other ≡ cond (bytes_eq path other) w (value_at old other)
-value-updates old new path w h other =
-    ⊎_elim
-    (λ y. subst (λ l. value_at new l ≡ w) ((bytes_decides path other).0 y) h.1 ∙ sym (cond-true (bytes_eq path other) w (value_at old other) y))
-    (λ n. other_values old.entries new.entries path other h.3 n ∙ sym (cond-false (bytes_eq path other) w (value_at old other) n))
-    (cases_Bool (bytes_eq path other))
+use Rattle.pathspec_attributes.proofs.KeyProofs.{key_cmp, value_at, value-updates}
 
 -- the file that a value is
 abbrev pub file_of_value : Option File → AttributeFile
@@ -73,7 +46,3 @@ view-updates old new path w h other =
     by : (b : Bool) (o : Option File) → file_of_value (cond b w o) ≡ cond b (file_of_value w) (file_of_value o)
     by true o = refl
     by false o = refl
-
--- a map with the same entries holds the same directories
-pub view-stays : (old new : Directories) → new.entries ≡ old.entries → directories_view new ≡ directories_view old
-view-stays old new e = ap (map entry_view) e

@@ -4,6 +4,8 @@ pub mod QuotingProofs
 mod ReadingRows
 pub mod RuleProofs
 pub mod DecidingProofs
+pub mod LeadingProofs
+pub mod KeyProofs
 pub mod AskingProofs
 pub mod FileProofs
 pub mod PathProofs

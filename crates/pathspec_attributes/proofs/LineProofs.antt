@@ -1,6 +1,6 @@
 -- The lines of a text, line after line.
-use Rattle.std.proofs.Common.{◌≡◌, ℕ, ◌+◌, ◌-◌, ◌<◌, Bool, true, false, cond, inl, inr, refl, sym, ◌∙◌, ap, List, [], ◌∷◌, length, take, drop, ◌==◌, Some, None, arith}
-use Rattle.std.proofs.lemmas.Bool.{cases_Bool, or_parts, ne_eqb, false≢true}
+use Rattle.std.proofs.Common.{◌≡◌, ℕ, ◌+◌, ◌-◌, ◌<◌, Bool, false, cond, inl, inr, refl, sym, ◌∙◌, ap, List, [], ◌∷◌, length, take, drop, ◌==◌, Some, None, arith}
+use Rattle.std.proofs.lemmas.Bool.{cases_Bool, or_parts, false≢true}
 use Rattle.std.proofs.lemmas.List.{length-drop, take_all}
 use Rattle.std.proofs.lemmas.List.Splits.{slice_split_first}
 use Rattle.std.proofs.Math.Numerals.{one-add}
@@ -65,11 +65,6 @@ pub lines-last : (text : List ℕ) → position is_end text ≡ None → (length
 lines-last text none some =
     let nowhere : list_any is_end text ≡ false = sym (position_any is_end text) ∙ ap is_some none in
     ap lines_of_parts (split-none text nowhere) ∙ rw some refl
-
--- the empty text has no line
-pub lines-empty : (text : List ℕ) → (length text == 0) ≡ true → lines text ≡ []
-lines-empty [] none = refl
-lines-empty (b ∷ bs) none = absurd (false≢true (sym (ne_eqb (length (b ∷ bs)) 0 (λ e. omega (arith, e))) ∙ none))
 
 pub line-last : (text : List ℕ) → position is_end text ≡ None → (length text == 0) ≡ false → (lines text ≡ text ∷ lines []) × (length {A = ℕ} [] < length text)
 line-last text none some = (lines-last text none some, filled text some)

@@ -1,7 +1,6 @@
 -- The words of a line, and the assignments that they write, word after word.
-use Rattle.std.proofs.Common.{◌≡◌, ℕ, true, false, not, cond, inl, inr, refl, sym, ◌∙◌, ap, List, [], ◌∷◌, ◌++◌, length, map, filter, ◌==◌, Option, Some, None, append_assoc, arith}
-use Rattle.std.proofs.lemmas.Bool.{cases_Bool, ne_eqb, false≢true}
-use Rattle.std.proofs.lemmas.List.{append-nil}
+use Rattle.std.proofs.Common.{◌≡◌, ℕ, false, not, cond, inl, inr, refl, sym, ◌∙◌, ap, List, [], ◌∷◌, ◌++◌, length, map, filter, ◌==◌, Option, Some, None, append_assoc, arith}
+use Rattle.std.proofs.lemmas.Bool.{cases_Bool, ne_eqb}
 use Rattle.std.proofs.Math.Numerals.{one-add, add-one}
 use Rattle.std.specs.List.{slice_split, onto_first, before_first, after_first}
 use Rattle.std.specs.Option.{option_map}
@@ -35,10 +34,6 @@ others-words (b ∷ bs) = elim (cases_Bool (is_blank b)) [
 words-first : (text : List ℕ) → is_empty (before_first is_blank text) ≡ false → words text ≡ before_first is_blank text ∷ words (after_first is_blank text)
 words-first text h = ap (filter (λ word. not (is_empty word))) (split-first text) ∙ (rw h (ap (λ more. before_first is_blank text ∷ more) (others-words text)))
 
--- and a blank in front
-words-skip : (text : List ℕ) → is_empty (before_first is_blank text) ≡ true → words text ≡ words (after_first is_blank text)
-words-skip text h = ap (filter (λ word. not (is_empty word))) (split-first text) ∙ (rw h (others-words text))
-
 -- the test for emptiness that the code makes
 pub emptiness : (text : List ℕ) → is_empty text ≡ (length text == 0)
 emptiness [] = refl
@@ -54,16 +49,8 @@ front-more : (made : List Assignment) (a : Assignment) (coming : Option (List As
 front-more made a None = refl
 front-more made a (Some more) = ap Some (sym (append_assoc made (a ∷ []) more))
 
--- nothing is read yet
-pub front-begins : (coming : Option (List Assignment)) → coming ≡ in_front [] coming
-front-begins None = refl
-front-begins (Some more) = refl
-
 -- the whole, by what is read and the first word of the rest
 module _ (whole : Option (List Assignment)) (made : List Assignment) (rest word after : List ℕ) (h : whole ≡ in_front made (assignments_of rest)) (is_word : word ≡ before_first is_blank rest) (is_after : after ≡ after_first is_blank rest) where
-  pub words-skips : (length word == 0) ≡ true → whole ≡ in_front made (assignments_of after)
-  words-skips none = h ∙ rw (words-skip rest (rw is_word at (emptiness word ∙ none)), is_after) refl
-
   counted : (length word == 0) ≡ false → assignments_of rest ≡ all_some (assignment_of word ∷ map assignment_of (words after))
   counted some = rw (words-first rest (rw is_word at (emptiness word ∙ some)), is_word, is_after) refl
 
@@ -75,8 +62,3 @@ module _ (whole : Option (List Assignment)) (made : List Assignment) (rest word 
 
   pub words-refuses : (length word == 0) ≡ false → assignment_of word ≡ None → whole ≡ None
   words-refuses some said = h ∙ ap (in_front made) (refused some said)
-
--- no word is left
-pub words-end : (whole : Option (List Assignment)) (made : List Assignment) (rest : List ℕ) → whole ≡ in_front made (assignments_of rest) → (length rest == 0) ≡ true → whole ≡ Some made
-words-end whole made [] h none = h ∙ ap Some (append-nil made)
-words-end whole made (b ∷ bs) h none = absurd (false≢true (emptiness (b ∷ bs) ∙ none))

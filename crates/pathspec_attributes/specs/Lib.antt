@@ -6,4 +6,6 @@ pub mod Deciding
 pub mod Files
 pub mod Places
 pub mod Views
+pub mod Marks
+pub mod Leading
 pub mod Laws

@@ -1,24 +1,24 @@
 -- What a clause reads of the values that lines are read into.
-use Rattle.std.specs.Prelude.{ℕ, List, [], ◌∷◌, ◌++◌, Vec, map, reverse}
+use Rattle.std.specs.Prelude.{ℕ, Bool, List, [], ◌∷◌, ◌++◌, Vec, map, reverse}
 use Rattle.std.specs.Option.{option_map_or}
 use Rattle.std.specs.Ordering.{nat_cmp}
 use Rattle.std.specs.Cmp.Lexicographic.{slice_cmp}
 use Rattle.std.specs.BTreeMap.{BTreeMap, get_by}
 use Rattle.std.specs.Borrow.{Bor}
 use Rattle.std.specs.Global.{Global}
-use Rattle.pathspec_parts.specs.declared.attributes.state.Assignment.{Assignment as Whole}
-use Rattle.pathspec_parts.specs.Attributes.{Assignment}
 use Rattle.pathspec_parts.specs.AttributeNames.{name_bytes}
 use Rattle.pathspec_parts.specs.AttributeStates.{assignment_view}
 use Rattle.pathspec_attributes.specs.declared.asking.Asked.{Asked}
 use Rattle.pathspec_attributes.specs.declared.deciding.Macros.{Macros}
 use Rattle.pathspec_attributes.specs.declared.file.File.{File}
+use Rattle.pathspec_attributes.specs.declared.marks.Marks.{Marks}
 use Rattle.pathspec_attributes.specs.declared.reading.Macro.{Macro as Own}
 use Rattle.pathspec_attributes.specs.declared.reading.Reading.{Reading as Read}
 use Rattle.pathspec_attributes.specs.declared.reading.Reading.TheVariants as read
 use Rattle.pathspec_attributes.specs.declared.reasons.LeftOut.{LeftOut as Told}
 use Rattle.pathspec_attributes.specs.Deciding.{Macro}
 use Rattle.pathspec_attributes.specs.Files.{AttributeFile, Directory, Files, LeftOut, empty_file}
+use Rattle.pathspec_attributes.specs.Marks.{has_number}
 use Rattle.pathspec_attributes.specs.Quoting.{Quoted}
 use Rattle.pathspec_attributes.specs.Readings.{Reading}
 use Rattle.pathspec_attributes.specs.Readings.Reading.{Nothing, Ruling, Defining, Refused}
@@ -26,10 +26,6 @@ use Rattle.pathspec_attributes.specs.Readings.Reading.{Nothing, Ruling, Defining
 -- what bytes and a rest are
 abbrev pub quoted_view : Vec ℕ Global × Bor (List ℕ) → Quoted
 quoted_view pair = record { text = pair.0.items; rest = pair.1.now }
-
--- the assignments that references lead to
-abbrev pub assignments_in : List (Bor Whole) → List Assignment
-assignments_in references = map (λ r. assignment_view r.now) references
 
 -- the macro that a `Macro` is
 abbrev pub macro_view : Own → Macro
@@ -65,6 +61,10 @@ directories_view directories = map (λ (entry : Vec ℕ Global × File). record 
 -- the file that it has for a path, or one that says nothing
 abbrev pub file_in : Directories → List ℕ → AttributeFile
 file_in directories path = option_map_or file_view (get_by (λ key. slice_cmp nat_cmp path key.items) directories) empty_file
+
+-- whether a name is marked
+abbrev pub marked : Marks → List ℕ → Bool
+marked marks name = has_number marks.numbers marks.number name
 
 -- the files that a question is asked of
 abbrev pub asked_files : Asked → AttributeFile → List Directory → AttributeFile → Files

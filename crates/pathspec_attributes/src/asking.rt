@@ -1,15 +1,17 @@
 //! What the files that are held say of a path: from the file that counts most to the one that counts least.
-ghost use Rattle.std.specs.Prelude.{◌≡◌, ◌≤◌, length, map, OnOk, IfOk};
+ghost use Rattle.std.specs.Prelude.{◌≡◌, [], OnOk};
 ghost use Rattle.std.specs.List.{flat_map};
-ghost use Rattle.pathspec_attributes.specs.Deciding.{Decides};
+ghost use Rattle.pathspec_parts.specs.Outcomes.{names_of};
 ghost use Rattle.pathspec_attributes.specs.Files.{directories_of, said_by_file};
 ghost use Rattle.pathspec_attributes.specs.Rules.{IsBaseOf};
-ghost use Rattle.pathspec_attributes.specs.Views.{assignments_in, file_in, file_view, macros_view};
+ghost use Rattle.pathspec_attributes.specs.Leading.{Leads};
+ghost use Rattle.pathspec_attributes.specs.Views.{file_in, file_view, macros_view, marked};
 
 use crate::deciding::{Macros, decide};
 use crate::file::File;
-use pathspec_glob::{Case, Scratch};
-use pathspec_parts::attributes::Assignment;
+use crate::room::Room;
+use pathspec_glob::Case;
+use pathspec_parts::attributes::Outcome;
 use std::alloc::{AllocError, Global};
 use std::collections::BTreeMap;
 
@@ -26,18 +28,19 @@ pub(crate) struct Asked<'p> {
 ///
 /// # Errors
 /// Memory runs out.
-pub(crate) fn ask_file<'a>(
+pub(crate) fn ask_file(
     asked: &Asked<'_>,
-    macros: &Macros<'a>,
+    macros: &Macros<'_>,
     base: &[u8],
-    file: &'a File,
-    decided: &mut Vec<&'a Assignment>,
-    scratch: &mut Scratch,
+    file: &File,
+    room: &mut Room,
+    out: &mut Outcome,
 ) -> Result<(), AllocError>
     requires { IsBaseOf base.now asked.now.path.now }
-    ensures { OnOk result (Decides (macros_view macros.now)
+    ensures leads { OnOk result (Leads (macros_view macros.now)
         (said_by_file asked.now.case asked.now.path.now asked.now.is_dir base.now (file_view file.now))
-        (assignments_in decided.old.items) (assignments_in decided.new.items)) }
+        (marked room.old.marks) out.old [] (marked room.new.marks) out.new) }
+    ensures names { names_of out.new ≡ names_of out.old }
 {
     let mut left = file.rules.len();
     while left > 0 {
@@ -49,9 +52,9 @@ pub(crate) fn ask_file<'a>(
             base,
             asked.path,
             asked.is_dir,
-            scratch,
+            &mut room.scratch,
         )? {
-            decide(asked.alloc, decided, rule.assignments(), macros)?;
+            decide(asked.alloc, macros, rule.assignments(), room, out)?;
         }
     }
     Ok(())
@@ -61,55 +64,50 @@ pub(crate) fn ask_file<'a>(
 ///
 /// # Errors
 /// Memory runs out.
-pub(crate) fn ask_directories<'a>(
+pub(crate) fn ask_directories(
     asked: &Asked<'_>,
-    macros: &Macros<'a>,
-    directories: &'a BTreeMap<Vec<u8>, File>,
-    decided: &mut Vec<&'a Assignment>,
-    scratch: &mut Scratch,
+    macros: &Macros<'_>,
+    directories: &BTreeMap<Vec<u8>, File>,
+    room: &mut Room,
+    out: &mut Outcome,
 ) -> Result<(), AllocError>
-    ensures { OnOk result (Decides (macros_view macros.now)
+    ensures leads { OnOk result (Leads (macros_view macros.now)
         (flat_map (λ base. said_by_file asked.now.case asked.now.path.now asked.now.is_dir base
         (file_in directories.now base)) (directories_of asked.now.path.now))
-        (assignments_in decided.old.items) (assignments_in decided.new.items)) }
+        (marked room.old.marks) out.old [] (marked room.new.marks) out.new) }
+    ensures names { names_of out.new ≡ names_of out.old }
 {
     let mut end = asked.path.len();
     while end > 0 {
         end -= 1;
         if end > 0 && asked.path[end] == b'/' {
-            ask_directory(
-                asked,
-                macros,
-                &asked.path[..end],
-                directories,
-                decided,
-                scratch,
-            )?;
+            ask_directory(asked, macros, &asked.path[..end], directories, room, out)?;
         }
     }
-    ask_directory(asked, macros, &[], directories, decided, scratch)
+    ask_directory(asked, macros, &[], directories, room, out)
 }
 
 /// Decides what the file of a directory says, if one is held.
 ///
 /// # Errors
 /// Memory runs out.
-fn ask_directory<'a>(
+fn ask_directory(
     asked: &Asked<'_>,
-    macros: &Macros<'a>,
+    macros: &Macros<'_>,
     base: &[u8],
-    directories: &'a BTreeMap<Vec<u8>, File>,
-    decided: &mut Vec<&'a Assignment>,
-    scratch: &mut Scratch,
+    directories: &BTreeMap<Vec<u8>, File>,
+    room: &mut Room,
+    out: &mut Outcome,
 ) -> Result<(), AllocError>
     requires { IsBaseOf base.now asked.now.path.now }
-    ensures { OnOk result (Decides (macros_view macros.now)
+    ensures leads { OnOk result (Leads (macros_view macros.now)
         (said_by_file asked.now.case asked.now.path.now asked.now.is_dir base.now
         (file_in directories.now base.now))
-        (assignments_in decided.old.items) (assignments_in decided.new.items)) }
+        (marked room.old.marks) out.old [] (marked room.new.marks) out.new) }
+    ensures names { names_of out.new ≡ names_of out.old }
 {
     match directories.get(base) {
-        Some(file) => ask_file(asked, macros, base, file, decided, scratch),
+        Some(file) => ask_file(asked, macros, base, file, room, out),
         None => Ok(()),
     }
 }

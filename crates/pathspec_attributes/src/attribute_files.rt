@@ -1,12 +1,14 @@
 //! A look-up of attribute files.
-ghost use Rattle.std.specs.Prelude.{◌≡◌, ◌||◌, [], map, IfOk, OnOk, OnErr};
+ghost use Rattle.std.specs.Prelude.{◌≡◌, ◌||◌, [], map, true, IfOk, OnOk, OnErr};
 ghost use Rattle.pathspec_glob.specs.declared.Case.TheVariants.{Sensitive};
 ghost use Rattle.pathspec_parts.specs.Paths.{ends_with_slash, without_last_slash};
-ghost use Rattle.pathspec_parts.specs.Outcomes.{apply_assignments, names_of};
+ghost use Rattle.pathspec_glob.specs.declared.Case.{Case};
+ghost use Rattle.pathspec_parts.specs.Outcomes.{apply_assignments, names_of, question_of, reply_of, IsReset};
+ghost use Rattle.bstr.specs.BStr.{bstr_bytes};
 ghost use Rattle.pathspec_attributes.specs.Laws.{LawsOfFiles};
 ghost use Rattle.pathspec_attributes.specs.Files.{built_in, decided, empty_file, file_of, left_out, table_of};
 ghost use Rattle.pathspec_attributes.specs.Places.{may_define, no_files, PutsFile, PutsIn};
-ghost use Rattle.pathspec_attributes.specs.Views.{asked_files, assignments_in, directories_view, file_in, file_view, left_out_view, macro_view};
+ghost use Rattle.pathspec_attributes.specs.Views.{asked_files, directories_view, file_in, file_view, left_out_view, macro_view};
 
 use crate::asking::{Asked, ask_directories, ask_file};
 use crate::deciding::Macros;
@@ -14,9 +16,10 @@ use crate::file::{File, ReadFile, read_file};
 use crate::place::Place;
 use crate::reading::Macro;
 use crate::reasons::LeftOut;
+use crate::room::{Room, make_room};
 use bstr::BStr;
-use pathspec_glob::{Case, Scratch};
-use pathspec_parts::attributes::{Assignment, LookUp, Outcome};
+use pathspec_glob::Case;
+use pathspec_parts::attributes::{LookUp, Outcome};
 use pathspec_parts::path::strip_last_slash;
 use std::alloc::{AllocError, Global};
 use std::collections::BTreeMap;
@@ -27,7 +30,9 @@ use std::marker::Model;
 /// Of a path speak the file of `info`, then those of the directories that it lies in, its own first, and then the global one.
 /// The file that speaks first of an attribute decides it. The answer doesn't depend on the files of other directories.
 ///
-/// A question looks once at each rule of these files, and compares what it assigns with what is decided. It fails only where
+/// A question looks once at each rule of these files. Each name that a rule which fits assigns is looked up once, among all
+/// names of the files that were held, and compared with those of the outcome; one that is set also with those of the macros.
+/// A question takes no memory but for copies of states: `add` makes the room for the rest, which stays. It fails only where
 /// memory runs out.
 #[derive(Debug, Drop)]
 pub struct AttributeFiles {
@@ -39,7 +44,8 @@ pub struct AttributeFiles {
     global: File,
     /// What git has without any file.
     git_file: File,
-    scratch: Scratch,
+    /// It has room for the names and macros of all files that were held.
+    room: Room,
     failed: u64,
 }
 
@@ -71,19 +77,22 @@ impl AttributeFiles {
     pub fn new(alloc: Global) -> Result<AttributeFiles, AllocError>
         ensures { IfOk result (λ made. made ≡ record { files = no_files Sensitive; failures = 0 }) }
     {
+        let git_file = built_in(alloc)?;
+        let mut room = Room::new(alloc)?;
+        make_room(alloc, &git_file, &mut room)?;
         Ok(AttributeFiles {
             alloc,
             case: Case::Sensitive,
             info: File::new(alloc),
             directories: BTreeMap::new(alloc),
             global: File::new(alloc),
-            git_file: built_in(alloc)?,
-            scratch: Scratch::for_tokens(alloc, 0)?,
+            git_file,
+            room,
             failed: 0,
         })
     }
 
-    /// The same files, with patterns that are compared so, as `core.ignoreCase` asks.
+    /// Gives the look-up back with its files, but compares their patterns as `case` says, which `core.ignoreCase` sets.
     pub fn with_case(mut self, case: Case) -> AttributeFiles
         ensures { result ≡ record self { files = record self.files { case = case } } }
     {
@@ -107,6 +116,7 @@ impl AttributeFiles {
         ensures laws { LawsOfFiles }
     {
         let ReadFile { file, left_out } = read_file(self.alloc, may_define(place), text)?;
+        make_room(self.alloc, &file, &mut self.room)?;
         self.hold(place, file)?;
         Ok(left_out)
     }
@@ -134,6 +144,33 @@ impl AttributeFiles {
         }
     }
 
+    /// Puts what the files say of a path into a reset outcome.
+    ///
+    /// # Errors
+    /// Memory runs out.
+    fn ask(
+        &self,
+        path: BStr<'_>,
+        is_dir: bool,
+        room: &mut Room,
+        out: &mut Outcome,
+    ) -> Result<(), AllocError>
+        ensures ok { (case : Case) → IsReset out.old → OnOk result (reply_of true out.new
+            ≡ table_of self.now.files (question_of (bstr_bytes path.entry) case is_dir out.old)) }
+        ensures names { names_of out.new ≡ names_of out.old }
+    {
+        let asked = question(self.alloc, self.case, path.as_bytes(), is_dir);
+        answer(
+            &asked,
+            &self.info,
+            &self.directories,
+            &self.global,
+            &self.git_file,
+            room,
+            out,
+        )
+    }
+
     /// Removes the file that is held at a place, if there is one. It takes no memory.
     pub fn remove(&mut self, place: Place<'_>)
         ensures files { PutsFile place.entry empty_file self.old.files self.new.files }
@@ -143,6 +180,29 @@ impl AttributeFiles {
             Place::Global => self.global = File::new(self.alloc),
             Place::Directory(path) => remove_file(&mut self.directories, path),
             Place::Info => self.info = File::new(self.alloc),
+        }
+    }
+}
+
+/// Attribute files that are borrowed, as a look-up. They stay as they are while it is asked, so that who adds a file after some
+/// questions knows beside which files it stands.
+#[derive(Debug, Drop)]
+pub struct BorrowedFiles<'f, 'r> {
+    files: &'f AttributeFiles,
+    room: &'r mut Room,
+    failed: u64,
+}
+
+impl<'f, 'r> BorrowedFiles<'f, 'r> {
+    /// Makes a look-up of files. The room grows where a question finds that it isn't made for them.
+    pub fn new(files: &'f AttributeFiles, room: &'r mut Room) -> BorrowedFiles<'f, 'r>
+        ensures files { result.files.now ≡ files.now }
+        ensures failures { result.failed ≡ 0 }
+    {
+        BorrowedFiles {
+            files,
+            room,
+            failed: 0,
         }
     }
 }
@@ -228,13 +288,13 @@ fn question(alloc: Global, case: Case, path: &[u8], is_dir: bool) -> Asked<'_>
 ///
 /// # Errors
 /// Memory runs out.
-fn answer<'a>(
+fn answer(
     asked: &Asked<'_>,
-    info: &'a File,
-    directories: &'a BTreeMap<Vec<u8>, File>,
-    global: &'a File,
-    own: &'a File,
-    scratch: &mut Scratch,
+    info: &File,
+    directories: &BTreeMap<Vec<u8>, File>,
+    global: &File,
+    own: &File,
+    room: &mut Room,
     out: &mut Outcome,
 ) -> Result<(), AllocError>
     requires { file_view own.now ≡ built_in }
@@ -249,25 +309,10 @@ fn answer<'a>(
         global: global.macros.as_slice(),
         built_in: own.macros.as_slice(),
     };
-    let mut decided = Vec::new(asked.alloc);
-    ask_file(asked, &macros, &[], info, &mut decided, scratch)?;
-    ask_directories(asked, &macros, directories, &mut decided, scratch)?;
-    ask_file(asked, &macros, &[], global, &mut decided, scratch)?;
-    apply(&decided, out)
-}
-
-/// Gives each assignment's state to the places with its name.
-///
-/// # Errors
-/// Memory runs out.
-fn apply(assignments: &[&Assignment], out: &mut Outcome) -> Result<(), AllocError>
-    ensures ok { OnOk result (out.new ≡ apply_assignments out.old (assignments_in assignments.now)) }
-    ensures names { names_of out.new ≡ names_of out.old }
-{
-    for own in assignments {
-        out.set(own.name.as_bytes().as_bytes(), own.state.as_ref())?;
-    }
-    Ok(())
+    room.marks.forget(asked.alloc);
+    ask_file(asked, &macros, &[], info, room, out)?;
+    ask_directories(asked, &macros, directories, room, out)?;
+    ask_file(asked, &macros, &[], global, room, out)
 }
 
 impl LookUp for AttributeFiles {
@@ -291,9 +336,33 @@ impl LookUp for AttributeFiles {
             &self.directories,
             &self.global,
             &self.git_file,
-            &mut self.scratch,
+            &mut self.room,
             out,
         ) {
+            Ok(()) => Ok(true),
+            Err(refused) => {
+                self.failed = self.failed.saturating_add(1);
+                Err(refused)
+            }
+        }
+    }
+}
+
+impl LookUp for BorrowedFiles<'_, '_> {
+    type Fault = AllocError;
+
+    ghost table = { λ it. table_of it.files.now.files };
+
+    ghost failures = { λ it. it.failed };
+
+    fn look_up(
+        &mut self,
+        path: BStr<'_>,
+        _case: Case,
+        is_dir: bool,
+        out: &mut Outcome,
+    ) -> Result<bool, AllocError> {
+        match self.files.ask(path, is_dir, self.room, out) {
             Ok(()) => Ok(true),
             Err(refused) => {
                 self.failed = self.failed.saturating_add(1);

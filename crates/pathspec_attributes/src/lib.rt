@@ -7,14 +7,17 @@ mod attribute_files;
 mod deciding;
 mod file;
 mod lines;
+mod marks;
 mod paths;
 mod place;
 mod quoting;
 mod reading;
 mod reasons;
+mod room;
 mod rule;
 
-pub use attribute_files::AttributeFiles;
+pub use attribute_files::{AttributeFiles, BorrowedFiles};
 pub use place::Place;
 pub use quoting::unquote;
 pub use reasons::{LeftOut, Reason};
+pub use room::Room;

@@ -70,6 +70,16 @@ impl Rule {
         self.assignments.as_slice()
     }
 
+    /// Makes a scratch fit for questions of the rule.
+    ///
+    /// # Errors
+    /// Memory runs out.
+    pub fn make_room(&self, alloc: Global, scratch: &mut Scratch) -> Result<(), AllocError>
+        ensures { OnOk result (length (glob_tokens self.now.glob) ≤ scratch.new.tokens) }
+    {
+        make_room(alloc, &self.glob, scratch)
+    }
+
     /// Whether the rule, of a file in the directory `base`, fits a path below that directory. The path has no slash at its end.
     ///
     /// # Errors

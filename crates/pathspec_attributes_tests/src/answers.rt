@@ -118,3 +118,32 @@ fn a_slash_at_the_end_makes_a_directory(rt: HostRuntime) -> Result<(), Fail> {
     }
     Ok(())
 }
+
+#[test]
+fn each_question_expands_macros_anew(rt: HostRuntime) -> Result<(), Fail> {
+    use StateRef::{Set, Unset, Unspecified};
+    const RING: &[u8] = b"[attr]foo bar baz\n[attr]bar foo -merge\na foo\nb bar -baz\n";
+    const ROWS: &[(&str, &[StateRef<'static>])] = &[
+        ("a", &[Set, Set, Set, Unset, Unspecified]),
+        ("b", &[Set, Set, Unset, Unset, Unspecified]),
+        (
+            "c",
+            &[
+                Unspecified,
+                Unspecified,
+                Unspecified,
+                Unspecified,
+                Unspecified,
+            ],
+        ),
+        ("a", &[Set, Set, Set, Unset, Unspecified]),
+    ];
+    let mut files = AttributeFiles::new(rt.alloc())?;
+    files.add(Place::Directory(b""), RING)?;
+    let mut found = outcome(rt.alloc())?;
+    for (path, states) in ROWS {
+        assert!(rt; ask(&mut files, path, &mut found)?);
+        assert!(rt; has_states(&found, states));
+    }
+    Ok(())
+}

@@ -3,7 +3,8 @@ use Rattle.std.specs.Global.{Global}
 use Rattle.std.specs.Ordering.{nat_cmp}
 use Rattle.std.specs.Cmp.Lexicographic.{slice_cmp}
 use Rattle.std.specs.BTreeMap.{UpdatesBy}
-use Rattle.pathspec_attributes.proofs.DirectoryProofs.{key_cmp, view-updates}
+use Rattle.pathspec_attributes.proofs.DirectoryProofs.{view-updates}
+use Rattle.pathspec_attributes.proofs.KeyProofs.{key_cmp}
 use Rattle.pathspec_attributes.proofs.attribute_files.put_file.Goals as goal
 
 pub returns-clause-ok : goal.returns-clause-ok

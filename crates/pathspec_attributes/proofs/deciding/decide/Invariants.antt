@@ -1,14 +1,17 @@
-use Rattle.std.proofs.Common.{◌+◌, List, map, reverse, length}
-use Rattle.pathspec_parts.specs.Attributes.{Assignment}
+use Rattle.std.proofs.Common.{◌≡◌, ◌≤◌, [], length, map, reverse, take}
 use Rattle.pathspec_parts.specs.AttributeStates.{assignment_view}
-use Rattle.pathspec_attributes.specs.Deciding.{room, Decides}
-use Rattle.pathspec_attributes.specs.Views.{assignments_in, macros_view}
+use Rattle.pathspec_parts.specs.Outcomes.{names_of}
+use Rattle.pathspec_attributes.specs.Leading.{Leads}
+use Rattle.pathspec_attributes.specs.Views.{macros_view, marked}
 use Rattle.pathspec_attributes.proofs.deciding.decide.Given as goal
 
-abbrev pub invariant-loop-next : goal.invariant-loop-next
-invariant-loop-next l = (new : List Assignment)
-    → Decides (macros_view l.macros) (reverse (assignments_in l.pending.items)) (assignments_in l.decided.items) new
-    → Decides (macros_view l.macros) (reverse (map assignment_view l.fn.said)) (assignments_in l.fn.decided.items) new
+abbrev pub invariant-loop-left : goal.invariant-loop-left
+invariant-loop-left l = record {
+  within : l.left ≤ length l.said;
+  pending : l.room.pending.items ≡ [];
+  leads : Leads (macros_view l.macros) (reverse (map assignment_view l.said)) (marked l.fn.room.marks) l.fn.out (reverse (take l.left (map assignment_view l.said))) (marked l.room.marks) l.out;
+  names : names_of l.out ≡ names_of l.fn.out;
+}
 
-abbrev pub decreases-loop-next : goal.decreases-loop-next
-decreases-loop-next l = length (assignments_in l.pending.items) + room (macros_view l.macros) (assignments_in l.decided.items)
+abbrev pub decreases-loop-left : goal.decreases-loop-left
+decreases-loop-left l = l.left
