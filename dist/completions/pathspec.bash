@@ -3,7 +3,7 @@
 _pathspec() {
     local word=${COMP_WORDS[COMP_CWORD]} before=${COMP_WORDS[COMP_CWORD - 1]} command= options= place
     local specs='--specs-from --prefix --root --icase --glob --noglob --literal --help'
-    local attributes='--attr --attr-from --attributes'
+    local attributes='--attr --attr-from --attributes --global'
     COMPREPLY=()
     for ((place = 1; place < COMP_CWORD; place++)); do
         case ${COMP_WORDS[place]} in

@@ -1,7 +1,8 @@
 //! The search that a command asks, with what people need to be told of its specs.
-ghost use Rattle.std.specs.Prelude.{IfOk, IsTrue};
+ghost use Rattle.std.specs.Prelude.{◌≡◌, IfOk, IsTrue, length, filter};
 ghost use Rattle.bstr.specs.BStr.{bstr_bytes};
 ghost use Rattle.pathspec_parts.specs.Paths.{is_clean_prefix};
+ghost use Rattle.pathspec_commands.specs.SpecPlaces.{ArePlaces};
 
 use crate::Failure;
 use crate::spec_texts::{SpecText, spec_texts};
@@ -66,20 +67,35 @@ impl Asked<'_> {
 }
 
 /// The places in search order: excludes come first, each group in the order in which it was given.
-fn places_in_search(alloc: Global, excludes: &[bool]) -> Result<Vec<usize>, AllocError> {
+fn places_in_search(alloc: Global, excludes: &[bool]) -> Result<Vec<usize>, AllocError>
+    ensures { IfOk result (λ places. ArePlaces excludes.now places.items) }
+{
     let mut places = Vec::new(alloc);
     let mut excluded = 0usize;
-    let mut included = excludes.iter().filter(|is_exclude| **is_exclude).count();
+    let mut included = count_excludes(excludes);
     for is_exclude in excludes {
         if *is_exclude {
             places.push(excluded)?;
-            excluded = excluded.saturating_add(1);
+            excluded += 1;
         } else {
             places.push(included)?;
-            included = included.saturating_add(1);
+            included += 1;
         }
     }
     Ok(places)
+}
+
+/// How many specs are excludes.
+fn count_excludes(excludes: &[bool]) -> usize
+    ensures { result ≡ length (filter (λ is_exclude. is_exclude) excludes.now) }
+{
+    let mut count = 0;
+    for is_exclude in excludes {
+        if *is_exclude {
+            count += 1;
+        }
+    }
+    count
 }
 
 /// The pattern of a spec.

@@ -1,7 +1,7 @@
 //! The attribute files of a directory, each read when a path comes to its directory.
 use crate::Failure;
 use crate::spec_texts::read_file;
-use crate::telling::{quoted, tell};
+use crate::telling::{quoted, read_fault, tell};
 use bstr::BStr;
 use pathspec_attributes::{AttributeFiles, LeftOut, Place, Reason};
 use pathspec_filter::{Selection, path_in};
@@ -9,8 +9,10 @@ use pathspec_parts::path::{is_clean_prefix, strip_last_slash};
 use pathspec_parts::records::is_bad;
 use std::alloc::AllocError;
 use std::collections::BTreeSet;
+use std::env::{self, VarError};
 use std::fs::{self, Files};
 use std::io::{ErrorKind, Write};
+use std::rt::Env;
 use std::str;
 
 /// Attribute files below a directory.
@@ -42,6 +44,21 @@ impl<'a> AttributeDirectory<'a> {
             files,
             known: BTreeSet::new(rt.alloc()),
         })
+    }
+
+    /// Reads the user's own file, where git looks for it by default (gitattributes, "DESCRIPTION").
+    ///
+    /// # Errors
+    /// The file can't be read, or a variable isn't UTF-8.
+    pub(crate) fn read_global<R: Files + Env + AllocGlobal, T: Write>(
+        &mut self,
+        rt: &R,
+        told: &mut T,
+    ) -> Result<(), Failure> {
+        match global_path(rt)? {
+            Some(file) => add_file(rt, &mut self.files, Place::Global, file.as_str(), told),
+            None => Ok(()),
+        }
     }
 
     /// Reads the files of the directories above a path that weren't read yet.
@@ -115,7 +132,32 @@ impl<'a> AttributeDirectory<'a> {
     }
 }
 
-/// Adds an attribute file, if it is there and no link, and tells of the lines that git leaves out.
+/// The path of the user's own attribute file. An empty `XDG_CONFIG_HOME` counts as none. None where `HOME` isn't set, either.
+fn global_path<R: Env + AllocGlobal>(rt: &R) -> Result<Option<String>, Failure> {
+    if let Some(directory) = variable(rt, "XDG_CONFIG_HOME")? {
+        if !directory.is_empty() {
+            return Ok(Some(format!(in rt.alloc(); "{directory}/git/attributes")?));
+        }
+    }
+    match variable(rt, "HOME")? {
+        Some(home) => Ok(Some(format!(in rt.alloc(); "{home}/.config/git/attributes")?)),
+        None => Ok(None),
+    }
+}
+
+/// A variable of the environment, or None where it isn't set.
+fn variable<R: Env + AllocGlobal>(rt: &R, name: &str) -> Result<Option<String>, Failure> {
+    match env::var(rt, name) {
+        Ok(value) => Ok(Some(value)),
+        Err(VarError::NotPresent) => Ok(None),
+        Err(VarError::NotUnicode) => Err(Failure::Told(format!(in rt.alloc();
+            "error: environment: {name} isn't UTF-8\n"
+        )?)),
+        Err(VarError::OutOfMemory) => Err(Failure::Memory),
+    }
+}
+
+/// Adds an attribute file, if it is there, and tells of the lines that git leaves out.
 fn add_file<R: Files + AllocGlobal, T: Write>(
     rt: &R,
     files: &mut AttributeFiles,
@@ -123,7 +165,7 @@ fn add_file<R: Files + AllocGlobal, T: Write>(
     file: &str,
     told: &mut T,
 ) -> Result<(), Failure> {
-    if !is_there(rt, file)? {
+    if !is_there(rt, place, file)? {
         return Ok(());
     }
     let text = read_file(rt, file)?;
@@ -135,13 +177,17 @@ fn add_file<R: Files + AllocGlobal, T: Write>(
     Ok(())
 }
 
-/// Whether a path is an ordinary file.
-fn is_there<R: Files + AllocGlobal>(rt: &R, file: &str) -> Result<bool, Failure> {
-    match fs::symlink_metadata(rt, file) {
+/// Whether a path is an ordinary file. As in git, a link to one counts but for the file of a directory.
+fn is_there<R: Files + AllocGlobal>(rt: &R, place: Place<'_>, file: &str) -> Result<bool, Failure> {
+    let metadata = match place {
+        Place::Directory(_) => fs::symlink_metadata(rt, file),
+        Place::Global | Place::Info => fs::metadata(rt, file),
+    };
+    match metadata {
         Ok(metadata) => Ok(metadata.is_file()),
         Err(error) => match error.kind() {
             ErrorKind::NotFound | ErrorKind::NotADirectory => Ok(false),
-            _ => Err(Failure::Told(format!(in rt.alloc(); "error: {file}: {error}\n")?)),
+            _ => Err(read_fault(rt.alloc(), file, &error)?),
         },
     }
 }

@@ -6,6 +6,7 @@ use pathspec_options::SpecOptions;
 use pathspec_parts::attributes::Rows;
 use std::fs::Files;
 use std::io::Write;
+use std::rt::Env;
 
 /// The attributes of paths.
 #[derive(Drop)]
@@ -35,14 +36,17 @@ impl Attributes<'_> {
 }
 
 /// The attributes that options give.
-pub(crate) fn attributes_of<'a, D: Files + AllocGlobal, T: Write>(
+pub(crate) fn attributes_of<'a, D: Files + Env + AllocGlobal, T: Write>(
     rt: &D,
     specs: &SpecOptions<'a>,
     told: &mut T,
 ) -> Result<Attributes<'a>, Failure> {
     match specs.attribute_directory {
         Some(directory) => {
-            let directory = AttributeDirectory::open(rt, directory, told)?;
+            let mut directory = AttributeDirectory::open(rt, directory, told)?;
+            if specs.global_attributes {
+                directory.read_global(rt, told)?;
+            }
             Ok(Attributes::Directory(directory))
         }
         None => Ok(Attributes::Rows(attribute_rows(rt, specs)?)),

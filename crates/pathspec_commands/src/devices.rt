@@ -1,4 +1,7 @@
 //! Readers and writers around those of a filter.
+ghost use Rattle.std.specs.Prelude.{Some};
+ghost use Rattle.std.specs.Option.{option_to_list};
+
 use std::io::{self, Error, ErrorKind, Read, Write};
 
 /// How many first bytes of its input a filter remembers.
@@ -29,6 +32,8 @@ impl<'r, R: Read> FrontReader<'r, R> {
 }
 
 impl<R: Read> Read for FrontReader<'_, R> {
+    ghost remaining = { λ f. R.remaining f.reader.now };
+
     fn read(&mut self, buf: &mut [u8]) -> io::Result<usize> {
         let count = self.reader.read(buf)?;
         let from = self.len.min(FRONT);
@@ -39,19 +44,24 @@ impl<R: Read> Read for FrontReader<'_, R> {
     }
 }
 
-/// A writer that refuses the first byte, and tells that there was one.
-#[derive(Drop, Default)]
+/// A writer that takes one byte and refuses the others.
+#[derive(Drop)]
 pub(crate) struct FirstByte {
-    pub(crate) is_met: bool,
+    pub(crate) byte: Option<u8>,
 }
 
 impl Write for FirstByte {
+    ghost contents = { λ f. Some (option_to_list f.byte) };
+
     fn write(&mut self, buf: &[u8]) -> io::Result<usize> {
-        if buf.is_empty() {
+        let [byte, ..] = buf else {
             return Ok(0);
+        };
+        if self.byte.is_some() {
+            return Err(Error::from(ErrorKind::Other));
         }
-        self.is_met = true;
-        Err(Error::from(ErrorKind::Other))
+        self.byte = Some(*byte);
+        Ok(1)
     }
 
     fn flush(&mut self) -> io::Result<()> {

@@ -7,7 +7,7 @@ use crate::asked::{Asked, read_specs};
 use crate::attributes::{Attributes, attributes_of};
 use crate::json::{explanation_object, write_object};
 use crate::reason_texts::reason_text;
-use crate::telling::{bad_path, push_spaces, quoted};
+use crate::telling::{bad_path, push_spaces, quoted, read_fault};
 use bstr::BStr;
 use pathspec_explain::{AskedSpec, Explanation, Reason, Verdict, asked_specs, explain};
 use pathspec_faults::push_shown;
@@ -254,9 +254,7 @@ fn explain_records<D: Files + AllocGlobal, I: Read, W: Write, T: Write>(
         match reader.read_until(separator, &mut record) {
             Ok(0) => break,
             Ok(_) => {}
-            Err(error) => return Err(Failure::Told(format!(in rt.alloc();
-                "error: standard input: {error}\n"
-            )?)),
+            Err(error) => return Err(read_fault(rt.alloc(), "standard input", &error)?),
         }
         let path = record
             .strip_suffix([separator].as_slice())

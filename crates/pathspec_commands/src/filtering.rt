@@ -1,6 +1,6 @@
 //! `pathspec filter`.
-ghost use Rattle.std.specs.Prelude.{◌≡◌, if◌then◌else◌};
-ghost use Rattle.pathspec_filter.specs.declared.selection.LeadingDot.TheVariants.{Kept, Dropped};
+ghost use Rattle.std.specs.Prelude.{◌≡◌, IfOk};
+ghost use Rattle.pathspec_commands.specs.Filters.{separator_of, selection_of, takes_of, WithTable, EndsWriting, TellsFirst};
 
 use crate::Failure;
 use crate::advice::{Situation, advice};
@@ -45,57 +45,81 @@ struct Ended {
 
 impl<D: Files + AllocGlobal, R: Read> Filter<'_, '_, '_, '_, D, R> {
     /// The byte that ends a record.
-    fn separator(&self) -> u8 {
+    fn separator(&self) -> u8
+        ensures { result ≡ separator_of self.now.options }
+    {
         if self.options.null { 0 } else { b'\n' }
     }
 
     /// Writes the selected records.
-    fn write<W: Write, T: Write>(
-        &mut self,
-        writer: &mut W,
-        told: &mut T,
-    ) -> Result<Ended, Failure> {
+    ///
+    /// # Errors
+    /// The first fault. All that is selected before a bad record is written, and at any other fault a beginning of that.
+    fn write<W: Write, T: Write>(&mut self, writer: &mut W, told: &mut T) -> Result<Ended, Failure>
+        ensures ends { WithTable self.old.attributes (λ table. EndsWriting
+            (takes_of self.old.options self.old.search.now.specs table)
+            (separator_of self.old.options) (R.remaining self.old.reader.reader.now)
+            (W.contents writer.old) (W.contents writer.new) result) }
+        ensures status { IfOk result (λ ended. ended.status ≡ DONE) }
+    {
         let (separator, selection) = (self.separator(), selection(&self.options));
-        let counts = match &mut self.attributes {
+        match &mut self.attributes {
             Attributes::Rows(rows) => {
-                let reader = &mut self.reader;
-                let alloc = self.rt.alloc();
-                match filter(
-                    alloc,
+                let ended = filter(
+                    self.rt.alloc(),
                     self.search,
                     separator,
                     selection,
-                    reader,
+                    &mut self.reader,
                     writer,
                     rows,
-                ) {
-                    Ok(counts) => counts,
-                    Err(error) => return Err(failure_of(self.rt.alloc(), error)?),
+                );
+                match ended {
+                    Ok(counts) => Ok(Ended {
+                        counts: Some(counts),
+                        status: DONE,
+                    }),
+                    Err(error) => Err(failure_of(self.rt.alloc(), error)?),
                 }
             }
             Attributes::Directory(directory) => {
                 let asked = (self.search, separator, selection);
-                filter_pieces(self.rt, asked, directory, &mut self.reader, writer, told)?
+                let counts = filter_pieces(
+                    self.rt,
+                    asked,
+                    directory,
+                    &mut self.reader,
+                    writer,
+                    told,
+                )?;
+                Ok(Ended {
+                    counts: Some(counts),
+                    status: DONE,
+                })
             }
-        };
-        Ok(Ended {
-            counts: Some(counts),
-            status: DONE,
-        })
+        }
     }
 
-    /// Ends at the first selected record.
-    fn find_first<T: Write>(&mut self, told: &mut T) -> Result<Ended, Failure> {
-        let mut first = FirstByte::default();
+    /// Ends at the first selected record. The status says whether there is one.
+    ///
+    /// # Errors
+    /// The first fault before it.
+    fn find_first<T: Write>(&mut self, told: &mut T) -> Result<Ended, Failure>
+        ensures { WithTable self.old.attributes (λ table. TellsFirst
+            (takes_of self.old.options self.old.search.now.specs table)
+            (separator_of self.old.options) (R.remaining self.old.reader.reader.now) result) }
+    {
+        let mut first = FirstByte { byte: None };
         let ended = self.write(&mut first, told);
-        if first.is_met {
+        if first.byte.is_some() {
             return Ok(Ended {
                 counts: None,
                 status: DONE,
             });
         }
+        let ended = ended?;
         Ok(Ended {
-            counts: ended?.counts,
+            counts: ended.counts,
             status: NONE_SELECTED,
         })
     }
@@ -121,8 +145,7 @@ impl<D: Files + AllocGlobal, R: Read> Filter<'_, '_, '_, '_, D, R> {
 
 /// Which records options select.
 fn selection(options: &FilterOptions) -> Selection
-    ensures leading_dot { result.leading_dot ≡ (if options.now.verbatim then Kept else Dropped) }
-    ensures inverted { result.is_inverted ≡ options.now.invert }
+    ensures { result ≡ selection_of options.now }
 {
     let leading_dot = if options.verbatim {
         LeadingDot::Kept

@@ -7,6 +7,7 @@ use bstr::BStr;
 use gix_pathspec::attributes::{Assignment, State};
 use gix_pathspec::{MagicSignature, Pattern, Search, SearchMode};
 use pathspec_faults::push_shown;
+use pathspec_glob::first_wildcard;
 use pathspec_options::SpecOptions;
 use std::alloc::{AllocError, Global};
 use std::fs::Files;
@@ -141,11 +142,27 @@ fn walk_text(alloc: Global, pattern: &Pattern) -> Result<String, Failure> {
     let Ok(search) = Search::from_specs(alloc, alone, None, BStr::new(b"")) else {
         return Err(Failure::Memory);
     };
-    match search.longest_common_directory() {
+    match kept_directory(pattern).or(search.longest_common_directory()) {
         Some(directory) => {
             let directory = quoted(alloc, directory.as_bytes())?;
             Ok(format!(in alloc; "enters only {directory} and below")?)
         }
         None => Ok(String::from_str(alloc, "enters any directory")?),
+    }
+}
+
+/// The prefix directory of a spec without case, where each path that it matches lies below. None where a wildcard in the
+/// directory could match another.
+fn kept_directory(pattern: &Pattern) -> Option<BStr<'_>> {
+    let directory = pattern.prefix_directory();
+    let length = directory.as_bytes().len();
+    let path = pattern.path();
+    let path = path.as_bytes();
+    let stem = first_wildcard(path).unwrap_or(path.len());
+    let lies_below = path.get(length) == Some(&b'/') && length < stem;
+    if length > 0 && lies_below && pattern.signature.contains(MagicSignature::ICASE) {
+        Some(directory)
+    } else {
+        None
     }
 }

@@ -1,5 +1,6 @@
 //! The texts of specs, from the words of a command line and from files.
 use crate::Failure;
+use crate::telling::read_fault;
 use bstr::ByteSlice;
 use pathspec_attributes::unquote;
 use pathspec_options::SpecOptions;
@@ -60,7 +61,7 @@ pub(crate) fn spec_texts<'a, R: Files + AllocGlobal>(
 pub(crate) fn read_file<R: Files + AllocGlobal>(rt: &R, file: &str) -> Result<Vec<u8>, Failure> {
     match fs::read(rt, file) {
         Ok(bytes) => Ok(bytes),
-        Err(error) => Err(Failure::Told(format!(in rt.alloc(); "error: {file}: {error}\n")?)),
+        Err(error) => Err(read_fault(rt.alloc(), file, &error)?),
     }
 }
 

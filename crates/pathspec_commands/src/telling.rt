@@ -2,7 +2,7 @@
 use crate::Failure;
 use pathspec_faults::push_shown;
 use std::alloc::{AllocError, Global};
-use std::io::Write;
+use std::io::{self, ErrorKind, Write};
 
 /// Writes to where people are told. Whether they read it changes nothing.
 pub(crate) fn tell<T: Write>(told: &mut T, text: &str) {
@@ -23,6 +23,18 @@ pub(crate) fn push_spaces(line: &mut String, count: usize) -> Result<(), AllocEr
         line.push(' ')?;
     }
     Ok(())
+}
+
+/// The fault of a read of what has a name.
+pub(crate) fn read_fault(
+    alloc: Global,
+    name: &str,
+    error: &io::Error,
+) -> Result<Failure, AllocError> {
+    match error.kind() {
+        ErrorKind::OutOfMemory => Ok(Failure::Memory),
+        _ => Ok(Failure::Told(format!(in alloc; "error: {name}: {error}\n")?)),
+    }
 }
 
 /// The fault of a path that is no record's.

@@ -45,10 +45,6 @@ pub(crate) fn run_over<R: Files + Env + AllocGlobal>(
     let status = match run_words(rt, words, &mut reader, &mut written, &mut told) {
         Ok(status) => status,
         Err(Failure::Told(lines)) => {
-            // So a read says it that finds no memory.
-            if lines.as_str().ends_with("out of memory\n") {
-                return Err(AllocError);
-            }
             told.extend_from_slice(lines.as_bytes())?;
             FAULT
         }

@@ -76,7 +76,13 @@ fn attributes<'a>(alloc: Global, command: Command<'a>) -> Result<Command<'a>, Al
         "Reads the attribute files of this directory",
     );
     let files = files.conflicts_with("attr")?.conflicts_with("attr-from")?;
-    command.arg(pairs)?.arg(triples)?.arg(files)
+    let global = flag(
+        alloc,
+        "global",
+        "Reads your own attribute file, too, as git does",
+    );
+    let global = global.requires_arg("attributes")?;
+    command.arg(pairs)?.arg(triples)?.arg(files)?.arg(global)
 }
 
 /// A command of the program. Of an option that stands twice the last counts, as in git.

@@ -27,6 +27,8 @@ pub struct SpecOptions<'a> {
     pub attribute_files: Vec<&'a str>,
     /// The directory whose attribute files count.
     pub attribute_directory: Option<&'a str>,
+    /// Whether the user's own attribute file counts, too.
+    pub global_attributes: bool,
 }
 
 impl SpecOptions<'_> {
@@ -159,6 +161,7 @@ impl<'a> SpecOptions<'a> {
             attributes: pairs(alloc, inner, "attr")?,
             attribute_files: texts(alloc, inner, "attr-from")?,
             attribute_directory: inner.get_str("attributes"),
+            global_attributes: inner.get_flag("global"),
         })
     }
 }

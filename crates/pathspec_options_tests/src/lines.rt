@@ -81,6 +81,7 @@ fn add_specs(line: &mut String, options: &Options<'_>) -> Result<(), AllocError>
     if let Some(directory) = specs.attribute_directory {
         add(line, "attributes", [directory].as_slice())?;
     }
+    add_flags(line, [("global", specs.global_attributes)].as_slice())?;
     add(line, "from", specs.files.as_slice())?;
     add(line, "spec", specs.words.as_slice())
 }
@@ -111,6 +112,10 @@ const ROWS: &[Row] = &[
     Row(
         &["pathspec", "explain", "a", "--attributes", "."],
         "explain prefix= root= attributes=. spec=a",
+    ),
+    Row(
+        &["pathspec", "filter", "--attributes=d", "--global"],
+        "filter prefix= root= attributes=d global",
     ),
     Row(
         &["pathspec", "filter", ":!src", "-z", "--prefix=src", "b"],
@@ -194,6 +199,10 @@ const ROWS: &[Row] = &[
     Row(
         &["pathspec", "filter", "--glob", "--noglob"],
         "2 error: the argument '--glob' cannot be used with '--noglob'",
+    ),
+    Row(
+        &["pathspec", "filter", "--global"],
+        "2 error: the following required arguments were not provided:",
     ),
     Row(
         &["pathspec", "filter", "--attr", "a"],

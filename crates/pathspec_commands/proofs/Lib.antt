@@ -1,0 +1,2 @@
+pub mod FilterProofs
+pub mod SpecPlaceProofs
