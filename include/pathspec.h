@@ -66,6 +66,13 @@ typedef struct ps_fault {
     uint32_t kind; /* one of PS_FAULT_EMPTY to PS_FAULT_GLOB_AND_NO_GLOB; ps_fault_name has its name */
 } ps_fault;
 
+/* What git leaves out of the text of an attribute file: each of these lines says nothing. */
+typedef struct ps_left_out {
+    size_t count;    /* how many lines */
+    size_t line;     /* the number of the first of them, from 1, as an editor has it; 0 where there is none */
+    uint32_t reason; /* why: one of PS_LINE_TOO_LONG to PS_LINE_NEGATIVE; 0 where there is none */
+} ps_left_out;
+
 /* What calls answer. A question answers PS_NO or PS_YES alone. */
 enum {
     PS_NO = 0,     /* no; or that there is no such text */
@@ -73,8 +80,9 @@ enum {
     PS_YES = 1,    /* yes; or that there is such a text */
     PS_EMPTY = 2,  /* the ps_search is empty */
     PS_MEMORY = 3, /* memory ran out */
-    PS_PREFIX = 4, /* the prefix isn't clean: neither empty nor names joined by single slashes */
-    PS_FAULT = 5   /* a spec, a list of attributes or a word is at fault, and the ps_fault says why */
+    PS_PREFIX = 4, /* the prefix, or a directory, isn't clean: neither empty nor names joined by single slashes */
+    PS_FAULT = 5,  /* a spec, a list of attributes or a word is at fault, and the ps_fault says why */
+    PS_MIXED = 6   /* lists of ps_search_assign and attribute files aren't mixed in one ps_search */
 };
 
 /* What is at fault: a spec as it is read (1 to 7) or placed in the repository (12, 13), a list of attributes (8 to 11),
@@ -115,6 +123,21 @@ enum {
     PS_NO_MEMORY = 5  /* memory ran out before it was known */
 };
 
+/* The places of attribute files (gitattributes), of which the first counts most. */
+enum {
+    PS_INFO = 1,      /* `info/attributes` of the repository */
+    PS_DIRECTORY = 0, /* `.gitattributes` of a directory, of which the deeper counts more */
+    PS_GLOBAL = 2     /* what core.attributesFile names, for all repositories of a user */
+};
+
+/* Why git leaves out a line of an attribute file. */
+enum {
+    PS_LINE_TOO_LONG = 1,     /* 2,048 bytes or more */
+    PS_LINE_INVALID_NAME = 2, /* no name of an attribute */
+    PS_LINE_MACRO = 3,        /* a macro in the file of a directory below the top */
+    PS_LINE_NEGATIVE = 4      /* a pattern that begins with `!` */
+};
+
 /* ---- searches */
 
 /*
@@ -148,14 +171,37 @@ uint32_t ps_search_share(ps_search *search, ps_search *other);
 /*
  * Gives a path attributes, as the option --attr of pathspec-select does. `list` is read as `attr:` of a spec takes
  * it (gitglossary), as `text -diff !merge eol=lf`; no macro is unfolded. Later lists for a path come after earlier
- * ones. A directory's path has no slash at its end: what `src/` is given, the directory `src` doesn't get. A path that
- * was given none has every attribute unspecified. PS_OK; or PS_EMPTY, PS_MEMORY, or PS_FAULT with the kind of the
- * list's fault and the number 0; then nothing has changed. `fault` is written only where the answer is PS_FAULT. It
- * takes memory for the path and the list. A path's lists are looked up in a map of the paths, in each question about a
- * spec with attributes and in this call: what that takes grows with the logarithm of the number of paths.
+ * ones. A directory's path has no slash at its end: what `src/` is given, the directory `src` doesn't get. A path
+ * that was given none has every attribute unspecified. PS_OK; or PS_EMPTY, PS_MEMORY, PS_MIXED where attribute files
+ * were added, or PS_FAULT with the kind of the list's fault and the number 0; then nothing has changed. `fault` is
+ * written only where the answer is PS_FAULT. It takes memory for the path and the list. A path's lists are looked up
+ * in a map of the paths, in each question about a spec with attributes and in this call: what that takes grows with
+ * the logarithm of the number of paths.
  */
 uint32_t ps_search_assign(ps_search *search, const uint8_t *path, size_t path_length, const uint8_t *list,
                           size_t list_length, ps_fault *fault);
+
+/*
+ * Adds the text of an attribute file: specs with `attr:` are then answered as git answers them by the files that
+ * were added (gitattributes). No disk is read: the caller hands in what it has read. `directory` is the path from
+ * the top of the directory where the file lies, empty for the top; it counts only with PS_DIRECTORY. The answer for
+ * a path depends on PS_INFO, PS_GLOBAL and the files of the directories above it alone. So a walk may add each file
+ * as it enters the file's directory, before it asks about what lies there, and answers that were given before stay
+ * true.
+ *
+ * A file takes the place of the one that was added there: the empty text takes it away. The macro `binary` is built
+ * in. Patterns are compared with case, whatever case the specs ask for. A ps_search with files takes no list of
+ * ps_search_assign, nor files after a list: PS_MIXED. A text for PS_INFO says what lists would, and counts over all
+ * files. ps_search_share gives no files on.
+ *
+ * A text may hold any bytes, and is never at fault: `left_out` tells which lines git leaves out, and is written only
+ * where the answer is PS_OK. PS_OK; or PS_EMPTY, PS_MEMORY, PS_MIXED, or PS_PREFIX where the directory isn't clean
+ * or `place` is no place; then nothing has changed. It takes memory for what the lines say, and its cost is linear
+ * in the bytes of the text. A question looks once at each rule of the files above its path, for each spec with
+ * attributes that it comes to.
+ */
+uint32_t ps_search_add_attributes(ps_search *search, uint32_t place, const uint8_t *directory, size_t directory_length,
+                                  const uint8_t *text, size_t text_length, ps_left_out *left_out);
 
 /* Frees what the search holds, and leaves it empty. */
 void ps_search_free(ps_search *search);
@@ -166,16 +212,17 @@ uint32_t ps_search_is_empty(ps_search *search);
 /* ---- questions: PS_YES or PS_NO */
 
 /*
- * Whether the search selects a path. `found` is always written, and tells which spec settles it. The empty path is no
- * entry: any search selects it. An empty ps_search selects nothing: PS_NO, with PS_UNSETTLED and zeros.
+ * Whether the search selects a path. `found` is always written, and tells which spec settles it. The empty path is
+ * no entry: any search selects it. An empty ps_search selects nothing: PS_NO, with PS_UNSETTLED and zeros.
  *
- * It takes no memory where no attributes were given. With attributes of ps_search_assign, memory may run out in a
- * look-up. The answer is then PS_YES, with PS_NO_MEMORY and zeros: a caller that ignores `found` may get a path too
- * many, but never loses one. Check `found` before you delete what is selected.
+ * It takes no memory where no attributes were given. With those of ps_search_assign or of attribute files, memory
+ * may run out in a look-up. The answer is then PS_YES, with PS_NO_MEMORY and zeros: a caller that ignores `found`
+ * may get a path too many, but never loses one. Check `found` before you delete what is selected.
  *
- * A directory's path has no slash at its end: `:(glob)s*` selects the directory `src`, but not `src/`. The cost grows
- * with the specs whose head begins the path: they are asked in search order, up to the first that matches. The head
- * of a spec is its path before the first wildcard byte; without case, it is what the spec has kept of the prefix.
+ * A directory's path has no slash at its end: `:(glob)s*` selects the directory `src`, but not `src/`. The cost
+ * grows with the specs whose head begins the path: they are asked in search order, up to the first that matches. The
+ * head of a spec is its path before the first wildcard byte; without case, it is what the spec has kept of the
+ * prefix.
  */
 uint32_t ps_search_match(ps_search *search, const uint8_t *path, size_t path_length, bool is_dir, ps_match *found);
 

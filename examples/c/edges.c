@@ -362,6 +362,95 @@ static void attributes(void)
     ps_search_free(&other);
 }
 
+static uint32_t add(ps_search *search, uint32_t place, const char *directory, const char *text, ps_left_out *left_out)
+{
+    const uint8_t *path = (const uint8_t *)directory, *bytes = (const uint8_t *)text;
+    return ps_search_add_attributes(search, place, path, strlen(directory), bytes, strlen(text), left_out);
+}
+
+static void expect_left_out_at(int line, const ps_left_out *left_out, size_t count, size_t first, uint32_t reason)
+{
+    expect_at(line, left_out->count, count);
+    expect_at(line, left_out->line, first);
+    expect_at(line, left_out->reason, reason);
+}
+
+#define EXPECT_LEFT_OUT(left_out, count, first, reason) expect_left_out_at(__LINE__, left_out, count, first, reason)
+
+/* Attribute files: each place, the deeper over the farther, what is left out, and no lists beside them. */
+static void attribute_files(void)
+{
+    ps_search search = PS_SEARCH_INIT, other = PS_SEARCH_INIT;
+    ps_fault fault = { 7, 77 };
+    ps_left_out left_out = { 7, 8, 9 };
+    EXPECT(add(&search, PS_DIRECTORY, "", "*.c text\n", &left_out), PS_EMPTY);
+    EXPECT(make(&search, ":(attr:text)*", 14, 0, &fault), PS_OK);
+    static const char *const unclean[] = { "/", "a/", "/a", "a//b" };
+    for (size_t number = 0; number < sizeof unclean / sizeof *unclean; number++)
+        EXPECT(add(&search, PS_DIRECTORY, unclean[number], "* text\n", &left_out), PS_PREFIX);
+    EXPECT(add(&search, 3, "", "* text\n", &left_out), PS_PREFIX);
+    EXPECT_LEFT_OUT(&left_out, 7, 8, 9);
+    EXPECT(ask(&search, "a.c", false), PS_NO);
+    EXPECT(add(&search, PS_DIRECTORY, "", "# all\n*.c text\n", &left_out), PS_OK);
+    EXPECT_LEFT_OUT(&left_out, 0, 0, 0);
+    EXPECT(ask(&search, "a.c", false), PS_YES);
+    EXPECT(ask(&search, "d/e/a.c", false), PS_YES);
+    EXPECT(ask(&search, "a.o", false), PS_NO);
+    /* the deeper counts, for what lies below it alone, and then the last line of a file */
+    EXPECT(add(&search, PS_DIRECTORY, "d", "*.c text\n*.c -text\n", &left_out), PS_OK);
+    EXPECT(ask(&search, "d/e/a.c", false), PS_NO);
+    EXPECT(ask(&search, "dd/a.c", false), PS_YES);
+    EXPECT(add(&search, PS_DIRECTORY, "d/e", "/a.c text", &left_out), PS_OK);
+    EXPECT(ask(&search, "d/e/a.c", false), PS_YES);
+    EXPECT(ask(&search, "d/e/f/a.c", false), PS_NO);
+    /* an empty text takes a file away */
+    EXPECT(add(&search, PS_DIRECTORY, "d", "", &left_out), PS_OK);
+    EXPECT(ask(&search, "d/a.c", false), PS_YES);
+    /* the global file counts under all, that of info over all, and the directory doesn't */
+    EXPECT(add(&search, PS_GLOBAL, "//", "*.o text\n*.c -text\n", &left_out), PS_OK);
+    EXPECT(ask(&search, "a.o", false), PS_YES);
+    EXPECT(ask(&search, "d/a.c", false), PS_YES);
+    EXPECT(add(&search, PS_INFO, "//", "a.c !text\n", &left_out), PS_OK);
+    EXPECT(ask(&search, "a.c", false), PS_NO);
+    EXPECT(ask(&search, "d/e/a.c", false), PS_NO);
+    EXPECT(add(&search, PS_INFO, "", "/a.c !text\n", &left_out), PS_OK);
+    EXPECT(ask(&search, "d/e/a.c", false), PS_YES);
+    /* what git leaves out */
+    EXPECT(add(&search, PS_DIRECTORY, "d", "*.o text\n!a text\n[attr]m text\n*.o %\n", &left_out), PS_OK);
+    EXPECT_LEFT_OUT(&left_out, 3, 2, PS_LINE_NEGATIVE);
+    EXPECT(add(&search, PS_DIRECTORY, "d", "[attr]m text\n", &left_out), PS_OK);
+    EXPECT_LEFT_OUT(&left_out, 1, 1, PS_LINE_MACRO);
+    EXPECT(add(&search, PS_DIRECTORY, "", "\n\n*.c te%xt\n", &left_out), PS_OK);
+    EXPECT_LEFT_OUT(&left_out, 1, 3, PS_LINE_INVALID_NAME);
+    char line[2049];
+    memset(line, 'a', 2048);
+    line[2048] = 0;
+    EXPECT(add(&search, PS_DIRECTORY, "", line, &left_out), PS_OK);
+    EXPECT_LEFT_OUT(&left_out, 1, 1, PS_LINE_TOO_LONG);
+    EXPECT(ps_search_add_attributes(&search, PS_DIRECTORY, BYTES(""), BYTES("\0\n\xff text\n*.b\0.c text\r\n"), &left_out), PS_OK);
+    /* no list beside files, and no files beside a list */
+    EXPECT(ps_search_assign(&search, BYTES("a.c"), BYTES("text"), &fault), PS_MIXED);
+    EXPECT(fault.number == 7 && fault.kind == 77, true);
+    EXPECT(add(&search, PS_DIRECTORY, "", "[attr]m text\nb m\n", &left_out), PS_OK);
+    EXPECT(ask(&search, "b", false), PS_YES);
+    EXPECT(ps_search_share(&search, &other), PS_OK);
+    EXPECT(ask(&other, "b", false), PS_NO);
+    EXPECT(ask(&other, "a.o", false), PS_NO);
+    ps_search_free(&search);
+    EXPECT(add(&search, PS_DIRECTORY, "", "", &left_out), PS_EMPTY);
+    EXPECT(add(&other, PS_DIRECTORY, "", "b text", &left_out), PS_OK);
+    EXPECT(ask(&other, "b", false), PS_YES);
+    EXPECT(make(&other, ":(attr:-diff)*", 15, 0, &fault), PS_OK);
+    EXPECT(ask(&other, "b", false), PS_NO);
+    EXPECT(ps_search_assign(&other, BYTES("b"), BYTES("-diff"), &fault), PS_OK);
+    EXPECT(add(&other, PS_DIRECTORY, "", "* diff\n", &left_out), PS_MIXED);
+    EXPECT(ask(&other, "b", false), PS_YES);
+    EXPECT(make(&other, ":(attr:-diff)*", 15, 0, &fault), PS_OK);
+    EXPECT(add(&other, PS_DIRECTORY, "", "b binary\n", &left_out), PS_OK);
+    EXPECT(ask(&other, "d/b", false), PS_YES);
+    ps_search_free(&other);
+}
+
 /* A path of each byte, and a million specs. */
 static void many(void)
 {
@@ -426,6 +515,7 @@ int main(void)
     messages();
     lists();
     attributes();
+    attribute_files();
     many();
     threads();
     printf("edges: %lu answers\n", compared);

@@ -87,8 +87,71 @@ static int refuse_in_matches(ps_search *search, long wanted)
     }
 }
 
+static const char *const files[][2] = {
+    { "", "[attr]m a -b\n**/*.q m\nz* -a\n!x\n\"q\\t\" a\n" },
+    { "d", "*.q c=d x=y\n% %\n" },
+};
+
+/* Adds both files, again where memory ran out, which is counted. */
+static uint32_t add_files(ps_search *search, long *failed)
+{
+    uint32_t status = PS_OK;
+    for (size_t number = 0; number < 2 && status == PS_OK; number++)
+        for (int turn = 0; turn < 2; turn++) {
+            const char *directory = files[number][0], *text = files[number][1];
+            ps_left_out left_out = { 9, 9, 9 };
+            status = ps_search_add_attributes(search, PS_DIRECTORY, (const uint8_t *)directory, strlen(directory),
+                                              (const uint8_t *)text, strlen(text), &left_out);
+            if (status != PS_MEMORY)
+                break;
+            *failed += 1;
+            /* nothing was added, nor told, and what was added before stays */
+            if (left_out.count != 9 || ps_search_selects(search, BYTES("d/e.q"), false) != (number ? PS_YES : PS_NO))
+                return PS_FAULT;
+        }
+    return status;
+}
+
+/* Refuses each allocation of adding two files, and of a match by them, in turn. How many there are, or -1. */
+static long refuse_in_files(long *matched)
+{
+    static const char specs[] = ":(attr:a -b !c)*\0:(attr:x=y c=d)d/e.q/";
+    for (long refused = 0;; refused++) {
+        ps_search search = PS_SEARCH_INIT;
+        ps_fault fault;
+        long before = live, failed = 0;
+        if (ps_search_new(&search, (const uint8_t *)specs, sizeof specs, BYTES(""), BYTES(""), 0, &fault) != PS_OK)
+            return -1;
+        left = refused;
+        uint32_t status = add_files(&search, &failed);
+        int was_refused = left < 0;
+        left = -1;
+        if (status != PS_OK || failed != was_refused || ps_search_selects(&search, BYTES("d/e.q"), false) != PS_NO)
+            return -1;
+        for (*matched = 0;; *matched += 1) {
+            ps_match found;
+            left = *matched;
+            uint32_t selected = ps_search_match(&search, BYTES("d/e.q"), true, &found);
+            int ran_out = left < 0;
+            left = -1;
+            if (selected != PS_YES || found.kind != (ran_out ? PS_NO_MEMORY : PS_VERBATIM))
+                return -1;
+            if (!ran_out)
+                break;
+        }
+        ps_search_free(&search);
+        if (live != before)
+            return -1;
+        if (!was_refused)
+            return refused;
+    }
+}
+
 int main(void)
 {
+    long asked_files, added = refuse_in_files(&asked_files);
+    if (added < 0)
+        return 1;
     for (long refused = 0;; refused++) {
         ps_search search = PS_SEARCH_INIT, other = PS_SEARCH_INIT;
         ps_fault fault;
@@ -117,6 +180,7 @@ int main(void)
             return 1;
         if (!was_refused) {
             printf("refusals: %ld, nothing kept; a match takes none, and %ld with attributes\n", refused, matched);
+            printf("refusals: %ld of two attribute files, nothing kept; a match by them takes %ld\n", added, asked_files);
             return 0;
         }
     }

@@ -1,10 +1,11 @@
 /*
  * Prints the files below a directory that pathspecs select, as `git ls-files -co` does where nothing is ignored.
  *
- *     walk [-v] [-z] [-C DIRECTORY] [--] [SPEC...]
+ *     walk [-a] [-v] [-z] [-C DIRECTORY] [--] [SPEC...]
  *
  * Symbolic links count as files and aren't followed, and what is called .git is left out. Directories that may be
- * skipped aren't opened. With -z the byte 0 ends each path, and else a line feed. With -v the last line on standard
+ * skipped aren't opened. With -a specs with `attr:` are answered by the .gitattributes of each directory that is opened,
+ * which is read then, if it is an ordinary file. With -z the byte 0 ends each path, and else a line feed. With -v the last line on standard
  * error says how many directories were opened. The status is 1 where a directory can't be read, and 2 where the
  * words or a spec are at fault.
  */
@@ -35,6 +36,9 @@ struct walk {
     size_t depth, level_room;
     char *path;
     size_t path_room;
+    uint8_t *text;
+    size_t text_room;
+    bool attributes;
     unsigned long opened;
     int status;
     char end;
@@ -60,6 +64,42 @@ static void fail(struct walk *walk, const char *path)
     walk->status = 1;
 }
 
+/* What an open file holds, to the walk's room; how long it is, or -1. */
+static ssize_t read_all(struct walk *walk, int file)
+{
+    size_t size = 0;
+    for (;;) {
+        walk->text = at_least(walk->text, &walk->text_room, size + 4096, 1);
+        ssize_t count = read(file, walk->text + size, walk->text_room - size);
+        if (count <= 0)
+            return count ? count : (ssize_t)size;
+        size += (size_t)count;
+    }
+}
+
+/* Adds the attribute file of the directory that is open at `fd`, to which `length` bytes of the path lead. */
+static void add_attributes(struct walk *walk, int fd, size_t length)
+{
+    int file = openat(fd, ".gitattributes", O_RDONLY | O_NOFOLLOW | O_NONBLOCK | O_CLOEXEC);
+    struct stat st;
+    if (file < 0) {
+        /* (a link is no attribute file) */
+        if (errno != ENOENT && errno != ELOOP)
+            fail(walk, walk->path);
+        return;
+    }
+    ssize_t size = fstat(file, &st) ? -1 : S_ISREG(st.st_mode) ? read_all(walk, file) : 0;
+    if (size < 0)
+        fail(walk, walk->path);
+    ps_left_out left_out;
+    const uint8_t *path = (const uint8_t *)walk->path;
+    if (size > 0 && ps_search_add_attributes(&walk->search, PS_DIRECTORY, path, length, walk->text, (size_t)size, &left_out) != PS_OK) {
+        errno = ENOMEM;
+        fail(walk, walk->path);
+    }
+    close(file);
+}
+
 /* Goes into the directory `name` of the one that `parent` is open at; `length` bytes of the path lead to it. */
 static void enter(struct walk *walk, int parent, const char *name, size_t length)
 {
@@ -72,6 +112,8 @@ static void enter(struct walk *walk, int parent, const char *name, size_t length
         return;
     }
     walk->opened++;
+    if (walk->attributes)
+        add_attributes(walk, fd, length);
     walk->levels = at_least(walk->levels, &walk->level_room, walk->depth + 1, sizeof *walk->levels);
     walk->levels[walk->depth++] = (struct level){ dir, length };
 }
@@ -167,8 +209,10 @@ int main(int argc, char **argv)
     struct walk walk = { .search = PS_SEARCH_INIT, .end = '\n' };
     const char *top = ".";
     int option, verbose = 0;
-    while ((option = getopt(argc, argv, "+vzC:")) != -1) {
-        if (option == 'v')
+    while ((option = getopt(argc, argv, "+avzC:")) != -1) {
+        if (option == 'a')
+            walk.attributes = true;
+        else if (option == 'v')
             verbose = 1;
         else if (option == 'z')
             walk.end = 0;
@@ -183,6 +227,7 @@ int main(int argc, char **argv)
     ps_search_free(&walk.search);
     free(walk.levels);
     free(walk.path);
+    free(walk.text);
     if (verbose)
         fprintf(stderr, "opened %lu\n", walk.opened);
     return walk.status;

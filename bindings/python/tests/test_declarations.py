@@ -5,7 +5,7 @@ import pathlib
 import re
 import unittest
 
-from puneloviash import Defaults, FaultKind, MatchKind, _library
+from puneloviash import Defaults, FaultKind, MatchKind, Place, Reason, _library
 
 HEADER = pathlib.Path(__file__).resolve().parents[3] / "include" / "pathspec.h"
 TYPES = {
@@ -14,6 +14,7 @@ TYPES = {
     "ps_search *": ctypes.c_void_p,
     "ps_match *": ctypes.POINTER(_library.PsMatch),
     "ps_fault *": ctypes.POINTER(_library.PsFault),
+    "ps_left_out *": ctypes.POINTER(_library.PsLeftOut),
     "size_t *": ctypes.POINTER(ctypes.c_size_t),
     "uint32_t *": ctypes.POINTER(ctypes.c_uint32),
     "size_t ": ctypes.c_size_t,
@@ -47,9 +48,11 @@ class Declarations(unittest.TestCase):
         version = re.search(r"#define PS_VERSION (\d+)", self.header)
         self.assertEqual(_library.VERSION, int(version.group(1)))
         names = {name: int(number) for name, number in re.findall(r"PS_(\w+) = (\d+)", self.header)}
-        for name in "OK", "YES", "MEMORY", "PREFIX", "UNSETTLED", "NO_MEMORY":
+        for name in "OK", "YES", "MEMORY", "PREFIX", "MIXED", "UNSETTLED", "NO_MEMORY":
             self.assertEqual(getattr(_library, name), names[name])
-        for one in [*Defaults, *MatchKind]:
+        for one in [*Defaults, *MatchKind, *Place]:
             self.assertEqual(one.value, names[one.name])
+        lines = {name[5:]: number for name, number in names.items() if name.startswith("LINE_")}
+        self.assertEqual({one.name: one.value for one in Reason if one.value > 0}, lines)
         faults = {name[6:]: number for name, number in names.items() if name.startswith("FAULT_")}
         self.assertEqual({one.name: one.value for one in FaultKind if one.value > 0}, faults)

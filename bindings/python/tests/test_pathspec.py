@@ -16,10 +16,13 @@ from unittest import mock
 from puneloviash import (
     Defaults,
     FaultKind,
+    LeftOut,
     Match,
     MatchKind,
     Pathspec,
     PathspecError,
+    Place,
+    Reason,
     _library,
 )
 
@@ -286,6 +289,62 @@ class Answers(unittest.TestCase):
         self.assertTrue(search.matches("b"))
         self.assertFalse(search.share().matches("b"))
 
+    def test_attribute_files(self):
+        search = Pathspec([":(attr:text)*"])
+        self.assertFalse(search.matches("a.c"))
+        self.assertIsNone(search.add_attributes("", "*.c text\n"))
+        self.assertIsNone(search.add_attributes(pathlib.PurePosixPath("d/e"), b"*.c -text"))
+        self.assertEqual(
+            list(search.filter(["a.c", "a.o", "d/a.c", "d/e/a.c", "d/ee/a.c"])),
+            ["a.c", "d/a.c", "d/ee/a.c"],
+        )
+        # A slash at the end is none of the path's, and the empty text takes a file away.
+        search.add_attributes("d/e/", "")
+        self.assertTrue(search.matches("d/e/a.c"))
+        search.add_attributes(b"", "*.o text\n*.c -text\n", Place.GLOBAL)
+        self.assertTrue(search.matches("a.o"))
+        self.assertTrue(search.matches("a.c"))
+        search.add_attributes("a//b", "/a.c !text", Place.INFO)
+        self.assertFalse(search.matches("a.c"))
+        self.assertTrue(search.matches("d/a.c"))
+        self.assertFalse(search.share().matches("d/a.c"))
+
+    def test_lines_that_are_left_out(self):
+        search = Pathspec([":(attr:text)*"])
+        rows = (
+            ("", "", None),
+            ("", "a" * 2048, LeftOut(1, 1, Reason.TOO_LONG)),
+            ("", "* text\na te%xt\nb !x%\n", LeftOut(2, 2, Reason.INVALID_NAME)),
+            ("d", "\n[attr]m text\n", LeftOut(1, 2, Reason.MACRO)),
+            ("", b"\0\n\xff\n[attr]m text\n!x text", LeftOut(1, 4, Reason.NEGATIVE)),
+        )
+        for directory, text, left_out in rows:
+            with self.subTest(text=text):
+                self.assertEqual(search.add_attributes(directory, text), left_out)
+
+    def test_attribute_files_are_refused(self):
+        search = Pathspec([":(attr:text)*"])
+        for directory in "/a", "a//b", "./a/../":
+            with self.subTest(directory=directory):
+                try:
+                    search.add_attributes(directory, "* text")
+                except PathspecError as error:
+                    self.assertIs(error.kind, FaultKind.PREFIX)
+        for text in pathlib.PurePosixPath("x"), None, bytearray(b"x"):
+            with self.assertRaises(TypeError):
+                search.add_attributes("", text)
+        search.add_attributes("", "a text")
+        with self.assertRaises(PathspecError) as raised:
+            search.assign("a", "-text")
+        self.assertIs(raised.exception.kind, FaultKind.MIXED)
+        self.assertTrue(search.matches("a"))
+        other = search.share()
+        other.assign("b", "text")
+        with self.assertRaises(PathspecError) as raised:
+            other.add_attributes("", "b -text")
+        self.assertIs(raised.exception.kind, FaultKind.MIXED)
+        self.assertTrue(other.matches("b"))
+
 
 class Faults(unittest.TestCase):
     def test_messages(self):
@@ -417,6 +476,7 @@ class Lives(unittest.TestCase):
             lambda: search.may_skip("a"),
             lambda: search.can_match("a"),
             lambda: search.assign("a", "b"),
+            lambda: search.add_attributes("a", "b"),
             lambda: search.common_prefix,
             lambda: search.longest_common_directory,
             lambda: search.prefix_directory,

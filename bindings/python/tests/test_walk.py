@@ -6,7 +6,7 @@ import socket
 import tempfile
 import unittest
 
-from puneloviash import Pathspec
+from puneloviash import Pathspec, PathspecError
 
 
 class Walks(unittest.TestCase):
@@ -20,6 +20,11 @@ class Walks(unittest.TestCase):
             path = os.path.join(os.fsencode(self.top), os.fsencode(file))
             os.makedirs(os.path.dirname(path), exist_ok=True)
             open(path, "w").close()
+
+    def write(self, path, text):
+        self.add(path)
+        with open(os.path.join(self.top, path), "w", encoding="utf-8") as file:
+            file.write(text)
 
     def walk(self, *specs):
         """The paths of a walk, sorted, and how many directories it opened."""
@@ -92,6 +97,41 @@ class Walks(unittest.TestCase):
         search = Pathspec([":(attr:x)*"])
         search.assign("b", "x")
         self.assertEqual(list(search.walk(self.top)), ["b"])
+        with self.assertRaises(PathspecError):
+            list(search.walk(self.top, attributes=True))
+
+    def test_attribute_files_are_read(self):
+        self.add("a.c", "d/a.c", "d/e/a.c", "l/a.c", "n/.gitattributes/a.c")
+        self.write(".gitattributes", "*.c x\n")
+        self.write("d/.gitattributes", "*.c -x\n")
+        self.write("d/e/.gitattributes", "a.c x\n")
+        # A link is no attribute file, nor is a directory, nor one to which a walk doesn't come.
+        os.symlink("../d/.gitattributes", os.path.join(self.top, "l/.gitattributes"))
+        search = Pathspec([":(attr:x)*", ":!d/e"])
+        wanted = ["a.c", "l/a.c", "n/.gitattributes/a.c"]
+        for turn in range(2):
+            self.assertEqual(sorted(search.walk(self.top, attributes=True)), wanted)
+        self.assertEqual(list(search.share().walk(self.top)), [])
+        top = os.fsencode(self.top)
+        found = search.walk(top, attributes=True)
+        self.assertEqual(sorted(found), [os.fsencode(path) for path in wanted])
+        # What isn't there any longer counts no longer, and that of info counts most.
+        os.remove(os.path.join(self.top, "d/.gitattributes"))
+        self.write(".git/info/attributes", "/a.c !x\n")
+        found = search.walk(self.top, attributes=True)
+        self.assertEqual(sorted(found), ["d/a.c", *wanted[1:]])
+
+    @unittest.skipIf(os.geteuid() == 0, "a superuser may read all")
+    def test_an_attribute_file_that_cannot_be_read(self):
+        self.add("a", "d/a")
+        self.write("d/.gitattributes", "a x\n")
+        os.chmod(os.path.join(self.top, "d/.gitattributes"), 0)
+        search, errors = Pathspec([":(attr:!x)*"]), []
+        with self.assertRaises(PermissionError):
+            list(search.walk(self.top, attributes=True))
+        found = list(search.walk(self.top, on_error=errors.append, attributes=True))
+        self.assertEqual(sorted(found), ["a"])
+        self.assertEqual([type(error) for error in errors], [PermissionError])
 
 
 if __name__ == "__main__":

@@ -36,6 +36,11 @@ pub enum Error {
     },
     /// The prefix isn't clean: neither empty nor names joined by single slashes.
     Prefix,
+    /// The directory of an attribute file isn't clean: neither empty nor names joined by single
+    /// slashes.
+    Directory,
+    /// A list of attributes beside attribute files, or an attribute file beside a list.
+    Mixed,
     /// Memory ran out.
     Memory,
     /// The archive has other declarations than this crate.
@@ -89,10 +94,20 @@ impl Error {
         })
     }
 
+    /// The error for the status of an attribute file.
+    pub(crate) fn of_file(status: u32) -> Error {
+        match status {
+            library::PREFIX => Error::Directory,
+            library::MIXED => Error::Mixed,
+            _ => Error::Memory,
+        }
+    }
+
     fn of_status(status: u32) -> Option<Error> {
         match status {
             library::MEMORY => Some(Error::Memory),
             library::PREFIX => Some(Error::Prefix),
+            library::MIXED => Some(Error::Mixed),
             _ => None,
         }
     }
@@ -112,6 +127,10 @@ impl fmt::Display for Error {
                 f.write_str("a variable of the environment is neither true nor false")
             }
             Error::Prefix => f.write_str("the prefix isn't clean"),
+            Error::Directory => f.write_str("the directory isn't clean"),
+            Error::Mixed => {
+                f.write_str("a matcher takes lists of attributes or attribute files, and not both")
+            }
             Error::Memory => f.write_str("out of memory"),
             Error::Version { found } => {
                 write!(

@@ -3,6 +3,8 @@
 #![warn(missing_docs)]
 
 #[forbid(unsafe_code)]
+mod attributes;
+#[forbid(unsafe_code)]
 mod defaults;
 #[forbid(unsafe_code)]
 mod error;
@@ -17,6 +19,7 @@ mod text;
 #[forbid(unsafe_code)]
 mod walk;
 
+pub use attributes::{LeftOut, Place, Reason};
 pub use defaults::Defaults;
 pub use error::{Error, FaultKind};
 pub use matcher::{Match, MatchKind, Matcher};

@@ -15,6 +15,7 @@ const YES: u32 = 1;
 const OK: u32 = 0;
 pub(crate) const MEMORY: u32 = 3;
 pub(crate) const PREFIX: u32 = 4;
+pub(crate) const MIXED: u32 = 6;
 
 /// `ps_match`: what settles a path.
 #[repr(C)]
@@ -31,6 +32,15 @@ pub(crate) struct PsMatch {
 pub(crate) struct PsFault {
     pub(crate) number: usize,
     pub(crate) kind: u32,
+}
+
+/// `ps_left_out`: what git leaves out of an attribute file.
+#[repr(C)]
+#[derive(Clone, Copy, Default)]
+pub(crate) struct PsLeftOut {
+    pub(crate) count: usize,
+    pub(crate) line: usize,
+    pub(crate) reason: u32,
 }
 
 /// `ps_search`: a search, or none.
@@ -100,6 +110,15 @@ extern "C" {
         list: *const u8,
         list_length: usize,
         fault: *mut PsFault,
+    ) -> u32;
+    fn ps_search_add_attributes(
+        search: *mut PsSearch,
+        place: u32,
+        directory: *const u8,
+        directory_length: usize,
+        text: *const u8,
+        text_length: usize,
+        left_out: *mut PsLeftOut,
     ) -> u32;
     fn ps_search_free(search: *mut PsSearch);
     fn ps_search_match(
@@ -367,6 +386,33 @@ impl Handle {
             Ok(())
         } else {
             Err((status, fault))
+        }
+    }
+
+    /// Adds an attribute file, and tells the lines that git leaves out; or gives the status.
+    pub(crate) fn add_attributes(
+        &mut self,
+        place: u32,
+        directory: &[u8],
+        text: &[u8],
+    ) -> Result<PsLeftOut, u32> {
+        let mut left_out = PsLeftOut::default();
+        // SAFETY: see the head of this module.
+        let status = unsafe {
+            ps_search_add_attributes(
+                self.search.get(),
+                place,
+                directory.as_ptr(),
+                directory.len(),
+                text.as_ptr(),
+                text.len(),
+                &mut left_out,
+            )
+        };
+        if status == OK {
+            Ok(left_out)
+        } else {
+            Err(status)
         }
     }
 

@@ -1,3 +1,4 @@
+use crate::attributes::{LeftOut, Place};
 use crate::error::Error;
 use crate::library::{Handle, PsMatch};
 use crate::text::{without_slash, Text};
@@ -95,7 +96,8 @@ impl Matcher {
     /// every attribute unspecified.
     ///
     /// # Errors
-    /// [`Error::Attributes`] and [`Error::Memory`]; then nothing has changed.
+    /// [`Error::Attributes`], [`Error::Mixed`] where attribute files were added, and
+    /// [`Error::Memory`]; then nothing has changed.
     ///
     /// ```
     /// # fn main() -> Result<(), puneloviash::Error> {
@@ -111,6 +113,44 @@ impl Matcher {
         self.handle
             .assign(path, list)
             .map_err(|(status, fault)| Error::of_list(status, fault, list))
+    }
+
+    /// Adds the text of an attribute file, by which specs with `attr:` are then answered. The answer
+    /// for a path depends on the files of the directories above it alone, so each may be added
+    /// before the first question about a path below it. A file takes the place of the one that was
+    /// added there, and the empty text takes it away.
+    ///
+    /// It tells the lines that git leaves out, if there are any. A matcher with files takes no list
+    /// of [`assign`](Matcher::assign): a text for [`Place::Info`] counts over all files. No other
+    /// matcher of the search has them.
+    ///
+    /// # Errors
+    /// [`Error::Directory`], [`Error::Mixed`] where a list was assigned, and [`Error::Memory`]; then
+    /// nothing has changed.
+    ///
+    /// ```
+    /// # fn main() -> Result<(), puneloviash::Error> {
+    /// use puneloviash::{Place, Reason, Search};
+    ///
+    /// let mut matcher = Search::new([":(attr:text)*"])?.matcher()?;
+    /// let left_out = matcher.add_attributes(Place::directory(""), "*.c text\n!*.h text\n")?;
+    /// assert_eq!(left_out.map(|lines| (lines.line, lines.reason)), Some((2, Reason::Negative)));
+    /// matcher.add_attributes(Place::directory("src/gen"), "*.c -text")?;
+    /// assert!(matcher.is_selected("src/a.c", false));
+    /// assert!(!matcher.is_selected("src/gen/a.c", false));
+    /// # Ok(())
+    /// # }
+    /// ```
+    pub fn add_attributes(
+        &mut self,
+        place: Place<'_>,
+        text: impl Text,
+    ) -> Result<Option<LeftOut>, Error> {
+        let (number, directory) = place.in_c();
+        self.handle
+            .add_attributes(number, directory, text.text())
+            .map(LeftOut::of)
+            .map_err(Error::of_file)
     }
 
     /// The selected files below a directory, the repository's top: see [`Walk`].

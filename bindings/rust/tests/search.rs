@@ -1,5 +1,7 @@
 //! Answers, and bad input, through the package alone.
-use puneloviash::{Defaults, Error, FaultKind, Match, MatchKind, Matcher, Search, Text};
+use puneloviash::{
+    Defaults, Error, FaultKind, LeftOut, Match, MatchKind, Matcher, Place, Reason, Search, Text,
+};
 use std::borrow::Cow;
 use std::error;
 use std::ffi::{OsStr, OsString};
@@ -254,6 +256,59 @@ fn attributes() {
     }
     assert!(matcher.is_selected("b", false));
     assert!(!search.matcher().unwrap().is_selected("b", false));
+}
+
+#[test]
+fn attribute_files() {
+    let search = Search::new([":(attr:text)*"]).unwrap();
+    let mut matcher = search.matcher().unwrap();
+    let mut add = |place, text: &[u8]| matcher.add_attributes(place, text).unwrap();
+    assert_eq!(add(Place::directory(""), b"*.c text\n"), None);
+    assert_eq!(add(Place::directory(Path::new("d/e/")), b"*.c -text"), None);
+    assert_eq!(add(Place::Global, b"*.o text\n*.c -text\n"), None);
+    let selects = |path| matcher.is_selected(path, false);
+    assert_eq!(
+        ["a.c", "a.o", "d/a.c", "d/e/a.c", "d/ee/a.c", "a.h"].map(selects),
+        [true, true, true, false, true, false]
+    );
+    // The empty text takes a file away, and that of info counts most.
+    let mut add = |place, text: &[u8]| matcher.add_attributes(place, text).unwrap();
+    assert_eq!(add(Place::Directory(b"d/e"), b""), None);
+    assert_eq!(add(Place::Info, b"/a.c !text"), None);
+    let selects = |path| matcher.is_selected(path, false);
+    assert_eq!(["a.c", "d/e/a.c"].map(selects), [false, true]);
+    assert!(!search.matcher().unwrap().is_selected("d/a.c", false));
+    for (directory, text, count, line, reason) in [
+        ("", "a".repeat(2048).as_str(), 1, 1, Reason::TooLong),
+        ("", "* text\na %\nb !x%\n", 2, 2, Reason::InvalidName),
+        ("d", "\n[attr]m text\n", 1, 2, Reason::Macro),
+        ("", "\0\n[attr]m text\n!x text", 1, 3, Reason::Negative),
+    ] {
+        let left_out = matcher.add_attributes(Place::directory(directory), text);
+        let told = LeftOut {
+            count,
+            line,
+            reason,
+        };
+        assert_eq!(left_out, Ok(Some(told)));
+    }
+}
+
+#[test]
+fn attribute_files_are_refused() {
+    let mut matcher = matcher_of([":(attr:text)*"]);
+    for directory in ["/a", "a//b"] {
+        let added = matcher.add_attributes(Place::directory(directory), "* text");
+        assert_eq!(added, Err(Error::Directory));
+    }
+    matcher.add_attributes(Place::Info, "a text").unwrap();
+    assert_eq!(matcher.assign("a", "-text"), Err(Error::Mixed));
+    assert!(matcher.is_selected("a", false));
+    let mut matcher = matcher_of([":(attr:text)*"]);
+    matcher.assign("a", "text").unwrap();
+    let added = matcher.add_attributes(Place::directory(""), "a -text");
+    assert_eq!(added, Err(Error::Mixed));
+    assert!(matcher.is_selected("a", false));
 }
 
 #[test]

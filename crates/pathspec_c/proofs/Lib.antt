@@ -2,3 +2,4 @@ mod RawBoxValues
 mod HandleValues
 mod BitProofs
 mod ManyProofs
+mod GivenProofs

@@ -8,7 +8,8 @@ use Rattle.std.specs.List.{slice_set}
 use Rattle.std.specs.Option.{IsSomeAnd}
 use Rattle.pathspec_c.specs.Calls.{texts_in}
 use Rattle.pathspec_c.specs.Many.{LosesNone, answer_to, answers_to}
-use Rattle.pathspec_c.specs.Searchers.{SearcherContents, KeepsSearcher}
+use Rattle.pathspec_c.specs.Searchers.{SearcherContents, GivenAttributes, KeepsGiven, KeepsSearcher, has_attributes, table_in}
+use Rattle.pathspec_c.specs.Searchers.GivenAttributes.{NoneGiven, RowsGiven, FilesGiven}
 use Rattle.pathspec_c.specs.Texts.{copied}
 
 -- ---- bytes at the front of room
@@ -37,25 +38,47 @@ copied-push given room b =
 
 -- ---- a handle that keeps what it holds
 
+-- attributes that are kept once and again
+given-same : (a : GivenAttributes) → KeepsGiven a a
+given-same NoneGiven = refl
+given-same (RowsGiven rows) = (rows, refl, refl)
+given-same (FilesGiven files) = refl
+
+given-on : (a b c : GivenAttributes) → KeepsGiven a b → KeepsGiven b c → KeepsGiven a c
+given-on NoneGiven b c k l = subst (λ x. KeepsGiven x c) k l
+given-on (RowsGiven rows) b c k l = let m = subst (λ x. KeepsGiven x c) k.1 l in (m.0, m.1, m.2 ∙ k.2)
+given-on (FilesGiven files) b c k l = subst (λ x. KeepsGiven x c) k l
+
+-- answer as before
+given-table : (a b : GivenAttributes) → KeepsGiven a b → table_in b ≡ table_in a
+given-table NoneGiven b k = ap table_in k
+given-table (RowsGiven rows) b k = ap table_in k.1 ∙ k.2
+given-table (FilesGiven files) b k = ap table_in k
+
+given-some : (a b : GivenAttributes) → KeepsGiven a b → has_attributes b ≡ has_attributes a
+given-some NoneGiven b k = ap has_attributes k
+given-some (RowsGiven rows) b k = ap has_attributes k.1
+given-some (FilesGiven files) b k = ap has_attributes k
+
 pub keeps-same : (a : Option SearcherContents) → KeepsSearcher a a
 keeps-same None = refl
-keeps-same (Some a) = record { specs = refl; table = refl; has_rows = refl }
+keeps-same (Some a) = record { specs = refl; attributes = given-same a.attributes }
 
 pub keeps-on : (a b c : Option SearcherContents) → KeepsSearcher a b → KeepsSearcher b c → KeepsSearcher a c
 keeps-on None b c k l = subst (λ x. KeepsSearcher x c) k l
 keeps-on (Some a) None c k l = absurd k
 keeps-on (Some a) (Some b) None k l = absurd l
-keeps-on (Some a) (Some b) (Some c) k l = record { specs = l.specs ∙ k.specs; table = l.table ∙ k.table; has_rows = l.has_rows ∙ k.has_rows }
+keeps-on (Some a) (Some b) (Some c) k l = record { specs = l.specs ∙ k.specs; attributes = given-on a.attributes b.attributes c.attributes k.attributes l.attributes }
 
 pub keeps-answer : (a b : Option SearcherContents) → KeepsSearcher a b → (text : List ℕ) → answer_to b text ≡ answer_to a text
 keeps-answer None b k text = rw k refl
 keeps-answer (Some a) None k text = absurd k
-keeps-answer (Some a) (Some b) k text = rw (k.specs, k.table) refl
+keeps-answer (Some a) (Some b) k text = rw (k.specs, given-table a.attributes b.attributes k.attributes) refl
 
-pub keeps-rows : (a b : Option SearcherContents) → KeepsSearcher a b → IsSomeAnd b (λ searcher. searcher.has_rows ≡ true) → IsSomeAnd a (λ searcher. searcher.has_rows ≡ true)
-keeps-rows None b k h = subst (λ x. IsSomeAnd x (λ searcher. searcher.has_rows ≡ true)) k h
-keeps-rows (Some a) None k h = absurd k
-keeps-rows (Some a) (Some b) k h = sym k.has_rows ∙ h
+pub keeps-given : (a b : Option SearcherContents) → KeepsSearcher a b → IsSomeAnd b (λ searcher. has_attributes searcher.attributes ≡ true) → IsSomeAnd a (λ searcher. has_attributes searcher.attributes ≡ true)
+keeps-given None b k h = subst (λ x. IsSomeAnd x (λ searcher. has_attributes searcher.attributes ≡ true)) k h
+keeps-given (Some a) None k h = absurd k
+keeps-given (Some a) (Some b) k h = sym (given-some a.attributes b.attributes k.attributes) ∙ h
 
 -- ---- answers
 

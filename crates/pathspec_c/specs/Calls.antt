@@ -81,6 +81,14 @@ IsYesOrNo status = (status ≡ 0) ⊎ (status ≡ 1)
 abbrev pub IsMakingStatus : ℕ → Type 0
 IsMakingStatus status = (status ≡ 0) ⊎ (status ≡ 3) ⊎ (status ≡ 4) ⊎ (status ≡ 5)
 
+-- a call that gives a path attributes: done, an empty handle, no memory, a fault, or attribute files beside it
+abbrev pub IsAssigningStatus : ℕ → Type 0
+IsAssigningStatus status = (status ≡ 0) ⊎ (status ≡ 2) ⊎ (status ≡ 3) ⊎ (status ≡ 5) ⊎ (status ≡ 6)
+
+-- a call that adds an attribute file: done, an empty handle, no memory, no place, or rows beside it
+abbrev pub IsAddingStatus : ℕ → Type 0
+IsAddingStatus status = (status ≡ 0) ⊎ (status ≡ 2) ⊎ (status ≡ 3) ⊎ (status ≡ 4) ⊎ (status ≡ 6)
+
 -- a call that tells the message of a spec's fault: nothing at fault, a message, no memory, or a prefix that isn't clean
 abbrev pub IsMessageStatus : ℕ → Type 0
 IsMessageStatus status = (status ≡ 0) ⊎ (status ≡ 1) ⊎ (status ≡ 3) ⊎ (status ≡ 4)

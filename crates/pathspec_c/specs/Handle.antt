@@ -6,7 +6,6 @@ use denote.RawPtr.{Ptr, null_ptr}
 use Rattle.std.specs.Prelude.{◌≡◌, Option, Some, None}
 use Rattle.std.specs.Coded.{coded_option}
 use Rattle.std.specs.Box.Ownership.{box_owns}
-use Rattle.std.specs.declared.alloc.Global.{Global}
 use Rattle.std.specs.contracts.impls.GlobalAllocator.TheImpl.{ghosts}
 use Rattle.pathspec_c.specs.Searchers.{SearcherContents}
 use Rattle.pathspec_c.specs.contracts.searcher.Searcher.{the_row}

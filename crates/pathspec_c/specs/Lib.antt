@@ -5,3 +5,5 @@ pub mod Reports
 pub mod Texts
 pub mod Names
 pub mod Many
+pub mod Views
+pub mod Added

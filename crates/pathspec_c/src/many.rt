@@ -7,7 +7,7 @@ ghost use Rattle.std.specs.List.{slice_set};
 ghost use Rattle.std.specs.Option.{IsSomeAnd};
 ghost use Rattle.pathspec_c.specs.Calls.{texts_in};
 ghost use Rattle.pathspec_c.specs.Many.{LosesNone, answer_to, answers_to, without_slashes};
-ghost use Rattle.pathspec_c.specs.Searchers.{KeepsSearcher};
+ghost use Rattle.pathspec_c.specs.Searchers.{KeepsSearcher, has_attributes};
 ghost use Rattle.pathspec_c.specs.Texts.{copied};
 
 use crate::handle::PsSearch;
@@ -36,7 +36,7 @@ pub extern "C" fn ps_search_match_all(
     ensures count { count.new ≡ length (texts_in paths.now) }
     ensures empty { (result ≡ 2) ↔ (search.old.searcher ≡ None) }
     ensures failed { result ≡ 3 → IsSomeAnd search.old.searcher (λ searcher.
-        searcher.has_rows ≡ true) }
+        has_attributes searcher.attributes ≡ true) }
     ensures closed { (result ≡ 0) ⊎ (result ≡ 2) ⊎ (result ≡ 3) }
 {
     let (mut rest, mut number, mut failed) = (paths, 0, false);
@@ -67,7 +67,7 @@ fn answer(
         ≡ slice_set answers.old number (answer_to search.old.searcher text.now) }
     ensures unknown { result ≡ false → answers.new ≡ slice_set answers.old number 1 }
     ensures failed { result ≡ false → IsSomeAnd search.old.searcher (λ searcher.
-        searcher.has_rows ≡ true) }
+        has_attributes searcher.attributes ≡ true) }
 {
     if number >= answers.len() {
         return true;

@@ -4,11 +4,10 @@
 //! known, it is the one that loses no path: an empty handle skips no directory, and a match that had no memory selects.
 ghost use Rattle.std.specs.Prelude.{◌≡◌, ◌≢◌, false, true, is_none, None, Some, IfNone, IfSome, MatchOption};
 ghost use Rattle.gix_pathspec.specs.Pruning.{can_match};
-ghost use Rattle.gix_pathspec.specs.Search.{answer, selects, specs_of};
+ghost use Rattle.gix_pathspec.specs.Search.{selects, specs_of};
 ghost use Rattle.gix_pathspec.specs.Skipping.{may_skip};
-ghost use Rattle.pathspec_parts.specs.AttributeRows.{table_of};
 ghost use Rattle.pathspec_c.specs.Calls.{IsYesOrNo, yes_no};
-ghost use Rattle.pathspec_c.specs.Searchers.{KeepsSearcher};
+ghost use Rattle.pathspec_c.specs.Searchers.{KeepsSearcher, answer_in, has_attributes};
 ghost use Rattle.pathspec_c.specs.Reports.{IsUnanswered, TellsAnswer};
 
 use crate::handle::PsSearch;
@@ -43,14 +42,14 @@ pub extern "C" fn ps_search_match(
 ) -> u32
     ensures stays { KeepsSearcher search.old.searcher search.new.searcher }
     ensures empty { IfNone search.old.searcher ((result ≡ 0) × TellsAnswer found.new None) }
-    ensures answer { found.new.kind ≢ 5 → IfSome search.old.searcher (λ searcher. result
-        ≡ yes_no (selects (answer (table_of searcher.rows) searcher.specs path.now is_dir))) }
+    ensures answer { found.new.kind ≢ 5 → IfSome search.old.searcher (λ searcher.
+        result ≡ yes_no (selects (answer_in searcher path.now is_dir))) }
     ensures report { found.new.kind ≢ 5 → IfSome search.old.searcher (λ searcher.
-        TellsAnswer found.new (answer (table_of searcher.rows) searcher.specs path.now is_dir)) }
+        TellsAnswer found.new (answer_in searcher path.now is_dir)) }
     ensures unanswered { found.new.kind ≡ 5 → IsUnanswered result found.new }
     // Where no attributes were given, no look-up can fail.
     ensures failed { found.new.kind ≡ 5 → IfSome search.old.searcher (λ searcher.
-        searcher.has_rows ≡ true) }
+        has_attributes searcher.attributes ≡ true) }
     ensures closed { IsYesOrNo result }
 {
     match search.take(alloc) {
@@ -73,12 +72,12 @@ pub extern "C" fn ps_search_selects(
 ) -> u32
     ensures stays { KeepsSearcher search.old.searcher search.new.searcher }
     ensures empty { IfNone search.old.searcher (result ≡ 0) }
-    ensures answer { IfSome search.old.searcher (λ searcher. searcher.has_rows ≡ false → result
-        ≡ yes_no (selects (answer (table_of searcher.rows) searcher.specs path.now is_dir))) }
+    ensures answer { IfSome search.old.searcher (λ searcher.
+        has_attributes searcher.attributes ≡ false
+        → result ≡ yes_no (selects (answer_in searcher path.now is_dir))) }
     // With attributes, too, no path is lost that is selected.
     ensures whole { IfSome search.old.searcher (λ searcher.
-        selects (answer (table_of searcher.rows) searcher.specs path.now is_dir) ≡ true
-        → result ≡ 1) }
+        selects (answer_in searcher path.now is_dir) ≡ true → result ≡ 1) }
     ensures closed { IsYesOrNo result }
 {
     let mut found = PsMatch::unsettled();

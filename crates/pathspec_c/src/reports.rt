@@ -1,13 +1,16 @@
-//! Reports to C: the spec that settles a path, and the fault for which a search was not made.
-ghost use Rattle.std.specs.Prelude.{◌≡◌, ◌≢◌, None, MatchOption};
+//! Reports to C: the spec that settles a path, the fault for which a search was not made, and the lines that a file lost.
+ghost use Rattle.std.specs.Prelude.{◌≡◌, ◌≢◌, None, map, MatchOption};
 ghost use Rattle.std.specs.Option.{option_map};
 ghost use Rattle.gix_pathspec.specs.Errors.{fault_of};
 ghost use Rattle.gix_pathspec.specs.Found.{match_view};
 ghost use Rattle.gix_pathspec.specs.Search.{selects};
+ghost use Rattle.pathspec_attributes.specs.Views.{left_out_view};
+ghost use Rattle.pathspec_c.specs.Added.{reason_number};
 ghost use Rattle.pathspec_c.specs.Calls.{IsYesOrNo, yes_no, kind_number, fault_number};
 
 use gix_pathspec::Error;
 use gix_pathspec::search::{Match, MatchKind};
+use pathspec_attributes::{LeftOut, Reason};
 
 /// The spec that settles a path.
 #[repr(C)]
@@ -30,6 +33,41 @@ pub struct PsFault {
     pub number: usize,
     /// The number of the error.
     pub kind: u32,
+}
+
+/// The lines of an attribute file that git leaves out.
+#[repr(C)]
+#[derive(Drop)]
+pub struct PsLeftOut {
+    /// How many there are.
+    pub count: usize,
+    /// The number of the first of them, from 1, or 0 where there is none.
+    pub line: usize,
+    /// The reason why it is left out: 1 too long, 2 no name, 3 a macro where none may stand, 4 a pattern that begins with `!`;
+    /// or 0 where there is none.
+    pub reason: u32,
+}
+
+impl PsLeftOut {
+    ghost use Rattle.pathspec_c.specs.Added.{TellsLeftOut};
+
+    /// Tells how many lines are left out, and the first.
+    pub(crate) fn tell(&mut self, lines: &[LeftOut])
+        ensures { TellsLeftOut self.new (map left_out_view lines.now) }
+    {
+        match lines.first() {
+            Some(first) => {
+                self.count = lines.len();
+                self.line = first.line;
+                self.reason = reason_number(first.reason);
+            }
+            None => {
+                self.count = 0;
+                self.line = 0;
+                self.reason = 0;
+            }
+        }
+    }
 }
 
 impl PsMatch {
@@ -89,6 +127,18 @@ fn kind_number(kind: MatchKind) -> u32
         MatchKind::Prefix => 2,
         MatchKind::WildcardMatch => 3,
         MatchKind::Verbatim => 4,
+    }
+}
+
+/// The number of a reason.
+fn reason_number(reason: Reason) -> u32
+    ensures { result ≡ reason_number reason }
+{
+    match reason {
+        Reason::TooLong => 1,
+        Reason::InvalidName => 2,
+        Reason::MacroHere => 3,
+        Reason::Negative => 4,
     }
 }
 

@@ -1,5 +1,5 @@
 //! The content of a handle: a search, which handles share, with room and attributes of its own.
-ghost use Rattle.std.specs.Prelude.{◌≡◌, ◌≢◌, true, Err, IfOk, IfErr, OnOk, OnErr};
+ghost use Rattle.std.specs.Prelude.{◌≡◌, ◌≢◌, [], ◌∷◌, true, false, map, Err, IfOk, IfErr, OnOk, OnErr};
 ghost use Rattle.std.specs.Arc.{arc_value};
 ghost use Rattle.std.specs.Box.{box_value};
 ghost use Rattle.pathspec_pattern.specs.AttributeLists.{assignments_of};
@@ -7,9 +7,14 @@ ghost use Rattle.gix_pathspec.specs.Errors.{IsMemoryOr};
 ghost use Rattle.gix_pathspec.specs.Room.{Fits};
 ghost use Rattle.gix_pathspec.specs.Search.{specs_of, answer, selects};
 ghost use Rattle.gix_pathspec.specs.Skipping.{may_skip};
-ghost use Rattle.pathspec_parts.specs.AttributeRows.{table_of};
 ghost use Rattle.pathspec_c.specs.Calls.{IsYesOrNo, yes_no};
-ghost use Rattle.pathspec_c.specs.Searchers.{AddsRow, Keeps, new_searcher};
+ghost use Rattle.pathspec_parts.specs.AttributeStates.{assignment_view};
+ghost use Rattle.pathspec_attributes.specs.Files.{left_out, table_of};
+ghost use Rattle.pathspec_attributes.specs.Places.{may_define};
+ghost use Rattle.pathspec_attributes.specs.Views.{left_out_view};
+ghost use Rattle.pathspec_c.specs.Added.{AddsFile};
+ghost use Rattle.pathspec_c.specs.Searchers.{AddsRow, Keeps, answer_in, has_attributes, has_files, has_rows, new_searcher};
+ghost use Rattle.pathspec_c.specs.Searchers.GivenAttributes.{RowsGiven};
 ghost use Rattle.pathspec_c.specs.Reports.{IsUnanswered, TellsAnswer};
 
 use crate::empty_rows::EmptyRows;
@@ -18,7 +23,8 @@ use bstr::BStr;
 use gix_pathspec::attributes::LookUp;
 use gix_pathspec::search::Scratch;
 use gix_pathspec::{Error, Search, parse};
-use pathspec_parts::attributes::Rows;
+use pathspec_attributes::{AttributeFiles, BorrowedFiles, LeftOut, Place, Room};
+use pathspec_parts::attributes::{Assignment, Rows};
 use std::alloc::{AllocError, Global};
 use std::marker::Model;
 use std::sync::Arc;
@@ -28,19 +34,26 @@ use std::sync::Arc;
 pub struct Searcher {
     search: Arc<Search, Global>,
     scratch: Scratch,
-    /// The attributes that were given, if any were.
-    rows: Option<Rows>,
+    attributes: Attributes,
+}
+
+/// The attributes that were given: none, those of rows, or those of files, with the room for matches of their patterns.
+#[derive(Drop)]
+pub(crate) enum Attributes {
+    Nothing,
+    Rows(Rows),
+    Files(AttributeFiles, Room),
 }
 
 impl Model for Searcher {
     ghost use Rattle.std.specs.Arc.{arc_value};
-    ghost use Rattle.std.specs.Prelude.{is_some};
     ghost use Rattle.gix_pathspec.specs.Room.{Fits};
-    ghost use Rattle.pathspec_c.specs.Searchers.{SearcherContents, rows_in};
+    ghost use Rattle.pathspec_c.specs.Searchers.{SearcherContents};
+    ghost use Rattle.pathspec_c.specs.Views.{given_in};
 
     ghost Value = { SearcherContents };
 
-    ghost view = { λ h. record { specs = (arc_value h.search).specs; rows = rows_in h.rows; has_rows = is_some h.rows } };
+    ghost view = { λ h. record { specs = (arc_value h.search).specs; attributes = given_in h.attributes } };
 
     ghost invariant = { λ h. Fits (arc_value h.search).specs h.scratch };
 }
@@ -69,7 +82,7 @@ impl Searcher {
         let searcher = Searcher {
             search,
             scratch,
-            rows: None,
+            attributes: Attributes::Nothing,
         };
         Ok(Box::new(alloc, searcher)?)
     }
@@ -93,46 +106,187 @@ impl Searcher {
     /// Whether the search selects a path, and which spec settles it; or that memory ran out.
     pub(crate) fn settle(&mut self, path: &[u8], is_dir: bool, found: &mut PsMatch) -> u32
         ensures same { Keeps self.old self.new }
-        ensures answer { found.new.kind ≢ 5 → result
-            ≡ yes_no (selects (answer (table_of self.old.rows) self.old.specs path.now is_dir)) }
-        ensures report { found.new.kind ≢ 5 → TellsAnswer found.new
-            (answer (table_of self.old.rows) self.old.specs path.now is_dir) }
+        ensures answer { found.new.kind ≢ 5
+            → result ≡ yes_no (selects (answer_in self.old path.now is_dir)) }
+        ensures report { found.new.kind ≢ 5
+            → TellsAnswer found.new (answer_in self.old path.now is_dir) }
         ensures unanswered { found.new.kind ≡ 5 → IsUnanswered result found.new }
-        ensures failed { found.new.kind ≡ 5 → self.old.has_rows ≡ true }
+        ensures failed { found.new.kind ≡ 5 → has_attributes self.old.attributes ≡ true }
         ensures closed { IsYesOrNo result }
     {
         let (search, scratch) = (&*self.search, &mut self.scratch);
-        if let Some(rows) = &mut self.rows {
-            let Ok(status) = settle_by(search, scratch, rows, path, is_dir, found) else {
-                return found.tell_unanswered();
-            };
-            return status;
+        match &mut self.attributes {
+            Attributes::Nothing => {
+                match settle_by(search, scratch, &mut EmptyRows, path, is_dir, found) {
+                    Ok(status) => status,
+                    Err(never) => match never {},
+                }
+            }
+            Attributes::Rows(rows) => settle_or_tell(search, scratch, rows, path, is_dir, found),
+            Attributes::Files(files, room) => {
+                settle_by_files(search, scratch, files, room, path, is_dir, found)
+            }
         }
-        match settle_by(search, scratch, &mut EmptyRows, path, is_dir, found) {
-            Ok(status) => status,
-            Err(never) => match never {},
-        }
+    }
+
+    /// Whether rows were given, beside which no file may stand.
+    pub(crate) fn has_rows(&self) -> bool
+        ensures { result ≡ has_rows self.now.attributes }
+    {
+        matches!(self.attributes, Attributes::Rows(_))
+    }
+
+    /// Whether files were given, beside which no row may stand.
+    pub(crate) fn has_files(&self) -> bool
+        ensures { result ≡ has_files self.now.attributes }
+    {
+        matches!(self.attributes, Attributes::Files(_, _))
     }
 
     /// Gives a path the attributes that a list assigns.
     ///
     /// # Errors
     /// The list can't be read, or [`Error::Memory`].
-    pub(crate) fn add(&mut self, alloc: Global, path: &[u8], list: &[u8]) -> Result<(), Error>
+    pub(crate) fn add_row(&mut self, alloc: Global, path: &[u8], list: &[u8]) -> Result<(), Error>
+        requires { has_files self.old.attributes ≡ false }
         ensures ok { OnOk result (AddsRow path.now list.now self.old self.new) }
         ensures same { OnErr result (self.new ≡ self.old) }
         ensures err { IfErr result (λ e.
             IsMemoryOr e (λ fault. assignments_of list.now ≡ Err fault)) }
     {
         let assignments = parse::attributes(alloc, list)?;
-        if let Some(rows) = &mut self.rows {
-            rows.push(path, assignments)?;
-            return Ok(());
+        match &mut self.attributes {
+            Attributes::Rows(rows) => {
+                rows.push(path, assignments)?;
+                Ok(())
+            }
+            Attributes::Nothing => {
+                self.add_first_row(alloc, path, assignments)?;
+                Ok(())
+            }
+            Attributes::Files(_, _) => {
+                self.add_first_row(alloc, path, assignments)?;
+                Ok(())
+            }
         }
+    }
+
+    /// Gives a path attributes, in place of all that were given.
+    ///
+    /// # Errors
+    /// Memory runs out, and all is as before.
+    fn add_first_row(
+        &mut self,
+        alloc: Global,
+        path: &[u8],
+        assignments: Vec<Assignment>,
+    ) -> Result<(), AllocError>
+        ensures ok { OnOk result (self.new ≡ record self.old {
+          attributes = RowsGiven (record {
+            path = path.now;
+            assignments = map assignment_view assignments.items;
+          } ∷ []);
+        }) }
+        ensures same { OnErr result (self.new ≡ self.old) }
+    {
         let mut rows = Rows::new(alloc);
         rows.push(path, assignments)?;
-        self.rows = Some(rows);
+        self.attributes = Attributes::Rows(rows);
         Ok(())
+    }
+
+    /// Adds an attribute file, in place of the one that is held there. Gives the lines that git leaves out.
+    ///
+    /// # Errors
+    /// Memory runs out, and all is as before.
+    pub(crate) fn add_file(
+        &mut self,
+        alloc: Global,
+        place: Place<'_>,
+        text: &[u8],
+    ) -> Result<Vec<LeftOut>, AllocError>
+        requires { has_rows self.old.attributes ≡ false }
+        ensures ok { OnOk result (AddsFile place.entry text.now self.old self.new) }
+        ensures same { OnErr result (self.new ≡ self.old) }
+        ensures left_out { IfOk result (λ told.
+            map left_out_view told.items ≡ left_out (may_define place.entry) text.now) }
+    {
+        match &mut self.attributes {
+            Attributes::Files(files, _) => files.add(place, text),
+            Attributes::Nothing => self.add_first_file(alloc, place, text),
+            Attributes::Rows(_) => self.add_first_file(alloc, place, text),
+        }
+    }
+
+    /// Adds an attribute file, in place of all attributes that were given.
+    ///
+    /// # Errors
+    /// Memory runs out, and all is as before.
+    fn add_first_file(
+        &mut self,
+        alloc: Global,
+        place: Place<'_>,
+        text: &[u8],
+    ) -> Result<Vec<LeftOut>, AllocError>
+        requires { has_files self.old.attributes ≡ false }
+        ensures ok { OnOk result (AddsFile place.entry text.now self.old self.new) }
+        ensures same { OnErr result (self.new ≡ self.old) }
+        ensures left_out { IfOk result (λ told.
+            map left_out_view told.items ≡ left_out (may_define place.entry) text.now) }
+    {
+        let mut files = AttributeFiles::new(alloc)?;
+        let left_out = files.add(place, text)?;
+        let room = Room::new(alloc)?;
+        self.attributes = Attributes::Files(files, room);
+        Ok(left_out)
+    }
+}
+
+/// Whether a search selects a path by attribute files, and which spec settles it; or that memory ran out.
+fn settle_by_files(
+    search: &Search,
+    scratch: &mut Scratch,
+    files: &AttributeFiles,
+    room: &mut Room,
+    path: &[u8],
+    is_dir: bool,
+    found: &mut PsMatch,
+) -> u32
+    requires { Fits search.now.specs scratch.old }
+    ensures answer { found.new.kind ≢ 5 → result ≡ yes_no
+        (selects (answer (table_of files.now.files) search.now.specs path.now is_dir)) }
+    ensures report { found.new.kind ≢ 5 → TellsAnswer found.new
+        (answer (table_of files.now.files) search.now.specs path.now is_dir) }
+    ensures unanswered { found.new.kind ≡ 5 → IsUnanswered result found.new }
+    ensures closed { IsYesOrNo result }
+    ensures room { scratch.new.room ≡ scratch.old.room }
+{
+    let mut look_up = BorrowedFiles::new(files, room);
+    settle_or_tell(search, scratch, &mut look_up, path, is_dir, found)
+}
+
+/// Whether a search selects a path by a look-up, and which spec settles it; or that the look-up failed.
+fn settle_or_tell<L: LookUp>(
+    search: &Search,
+    scratch: &mut Scratch,
+    look_up: &mut L,
+    path: &[u8],
+    is_dir: bool,
+    found: &mut PsMatch,
+) -> u32
+    requires { Fits search.now.specs scratch.old }
+    ensures answer { found.new.kind ≢ 5 → result
+        ≡ yes_no (selects (answer (L.table look_up.old) search.now.specs path.now is_dir)) }
+    ensures report { found.new.kind ≢ 5 → TellsAnswer found.new
+        (answer (L.table look_up.old) search.now.specs path.now is_dir) }
+    ensures unanswered { found.new.kind ≡ 5 → IsUnanswered result found.new }
+    ensures closed { IsYesOrNo result }
+    ensures room { scratch.new.room ≡ scratch.old.room }
+    ensures table_stays { L.table look_up.new ≡ L.table look_up.old }
+{
+    match settle_by(search, scratch, look_up, path, is_dir, found) {
+        Ok(status) => status,
+        Err(_) => found.tell_unanswered(),
     }
 }
 

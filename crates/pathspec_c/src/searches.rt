@@ -1,8 +1,9 @@
 //! Calls that make, share and free searches.
 //!
 //! The status is 0 where all was done, 2 where the handle is empty, and 3 where memory ran out. It is 4 where the prefix isn't
-//! clean, and 5 where a spec or a list of attributes is at fault. Only with 5 is the fault written.
-ghost use Rattle.std.specs.Prelude.{◌≡◌, ◌≢◌, ◌↔◌, ◌⊎◌, ℕ, false, None, Some, Err, Result, IfSome, List};
+//! clean, and 5 where a spec or a list of attributes is at fault. Only with 5 is the fault written. It is 6 where a row would stand
+//! beside attribute files.
+ghost use Rattle.std.specs.Prelude.{◌≡◌, ◌≢◌, ◌↔◌, ◌⊎◌, ℕ, true, false, None, Some, Err, Result, IfSome, List};
 ghost use Rattle.std.specs.Option.{IsSomeAnd};
 ghost use Rattle.pathspec_parts.specs.Paths.{is_clean_prefix};
 ghost use Rattle.pathspec_pattern.specs.AttributeLists.{assignments_of};
@@ -11,8 +12,8 @@ ghost use Rattle.gix_pathspec.specs.Errors.{fault_of};
 ghost use Rattle.gix_pathspec.specs.Faults.{Fault};
 ghost use Rattle.gix_pathspec.specs.Lines.{search_of_lines, search_of_texts};
 ghost use Rattle.gix_pathspec.specs.Search.{Numbered};
-ghost use Rattle.pathspec_c.specs.Calls.{HasKind, IsMakingStatus, defaults_from, fault_number, texts_in};
-ghost use Rattle.pathspec_c.specs.Searchers.{AddsRow, new_searcher};
+ghost use Rattle.pathspec_c.specs.Calls.{HasKind, IsAssigningStatus, IsMakingStatus, defaults_from, fault_number, texts_in};
+ghost use Rattle.pathspec_c.specs.Searchers.{AddsRow, has_files, new_searcher};
 ghost use Rattle.pathspec_c.specs.Reports.{HoldsComputed, TellsFirst};
 
 use crate::build;
@@ -114,7 +115,7 @@ pub extern "C" fn ps_search_share(alloc: Global, search: &mut PsSearch, other: &
     }
 }
 
-/// Gives a path the attributes that a list assigns, after those that it was given before.
+/// Gives a path the attributes that a list assigns, after those that it was given before. A handle with attribute files takes none.
 #[unsafe(no_mangle)]
 pub extern "C" fn ps_search_assign(
     alloc: Global,
@@ -127,14 +128,20 @@ pub extern "C" fn ps_search_assign(
         IsSomeAnd search.new.searcher (AddsRow path.now list.now old)) }
     ensures stays { result ≢ 0 → search.new.searcher ≡ search.old.searcher }
     ensures empty { (result ≡ 2) ↔ (search.old.searcher ≡ None) }
+    ensures mixed { (result ≡ 6) ↔ IsSomeAnd search.old.searcher (λ old.
+        has_files old.attributes ≡ true) }
     ensures list { result ≡ 5 → HasKind fault.new.kind (assignments_of list.now) }
     ensures number { result ≡ 5 → fault.new.number ≡ 0 }
-    ensures closed { (result ≡ 0) ⊎ (result ≡ 2) ⊎ (result ≡ 3) ⊎ (result ≡ 5) }
+    ensures closed { IsAssigningStatus result }
     ensures untold { result ≢ 5 → fault.new ≡ fault.old }
 {
     match search.take(alloc) {
         Some(mut searcher) => {
-            let added = searcher.add(alloc, path, list);
+            if searcher.has_files() {
+                search.put(searcher);
+                return 6;
+            }
+            let added = searcher.add_row(alloc, path, list);
             search.put(searcher);
             match added {
                 Ok(()) => 0,

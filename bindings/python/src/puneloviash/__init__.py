@@ -8,16 +8,19 @@
 
 from ._defaults import Defaults
 from ._errors import FaultKind, PathspecError
-from ._pathspec import Match, MatchKind, Pathspec, Text
+from ._pathspec import LeftOut, Match, MatchKind, Pathspec, Place, Reason, Text
 from ._walk import Walk
 
 __all__ = [
     "Defaults",
     "FaultKind",
+    "LeftOut",
     "Match",
     "MatchKind",
     "Pathspec",
     "PathspecError",
+    "Place",
+    "Reason",
     "Text",
     "Walk",
 ]

@@ -9,9 +9,11 @@ from typing import Optional, Tuple
 class FaultKind(enum.Enum):
     """What is at fault. The numbers above 0 are those of pathspec.h."""
 
+    #: Lists of attributes and attribute files in one search.
+    MIXED = -3
     #: The byte 0 in a spec, at which the library would end it.
     NUL = -2
-    #: A prefix that isn't clean: neither empty nor names joined by single slashes.
+    #: A prefix, or a directory, that isn't clean: neither empty nor names joined by single slashes.
     PREFIX = -1
     #: A kind that this package doesn't know.
     OTHER = 0

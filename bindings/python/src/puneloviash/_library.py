@@ -14,7 +14,7 @@ from typing import Any, List
 VERSION = 2
 
 # What calls answer, as the header names it.
-OK, YES, MEMORY, PREFIX = 0, 1, 3, 4
+OK, YES, MEMORY, PREFIX, MIXED = 0, 1, 3, 4, 6
 
 # The kinds of a match that are no MatchKind.
 UNSETTLED, NO_MEMORY = 0, 5
@@ -40,6 +40,16 @@ class PsFault(ctypes.Structure):
     """Why a call answered that something is at fault."""
 
     _fields_ = [("number", ctypes.c_size_t), ("kind", ctypes.c_uint32)]
+
+
+class PsLeftOut(ctypes.Structure):
+    """What git leaves out of an attribute file."""
+
+    _fields_ = [
+        ("count", ctypes.c_size_t),
+        ("line", ctypes.c_size_t),
+        ("reason", ctypes.c_uint32),
+    ]
 
 
 def _find() -> str:
@@ -90,6 +100,15 @@ share = _holding.ps_search_share
 share.argtypes, share.restype = [_search, _search], _status
 assign = _holding.ps_search_assign
 assign.argtypes, assign.restype = [_search, *_bytes, *_bytes, _fault], _status
+add_attributes = _releasing.ps_search_add_attributes
+add_attributes.argtypes = [
+    _search,
+    ctypes.c_uint32,
+    *_bytes,
+    *_bytes,
+    ctypes.POINTER(PsLeftOut),
+]
+add_attributes.restype = _status
 free = _holding.ps_search_free
 free.argtypes, free.restype = [_search], None
 

@@ -36,6 +36,7 @@ Text = Union[str, bytes, "os.PathLike[str]", "os.PathLike[bytes]"]
 
 _Path = TypeVar("_Path", bound=Text)
 _NO_DEFAULTS = Defaults(0)
+_MIXED = "a search takes lists of attributes or attribute files, and not both"
 
 #: How many paths are handed on in one call.
 _AT_ONCE = 1000
@@ -63,6 +64,48 @@ class Match(NamedTuple):
     kind: MatchKind
     #: Whether it takes the path out.
     is_excluded: bool
+
+
+class Place(enum.Enum):
+    """Where an attribute file lies (gitattributes). Where two speak of an attribute of a path, that
+    of ``INFO`` counts most and that of ``GLOBAL`` least."""
+
+    #: ``.gitattributes`` of a directory, of which the deeper counts more.
+    DIRECTORY = 0
+    #: ``info/attributes`` of the repository.
+    INFO = 1
+    #: What ``core.attributesFile`` names, for all repositories of a user.
+    GLOBAL = 2
+
+
+class Reason(enum.Enum):
+    """Why git leaves out a line of an attribute file."""
+
+    #: A reason that this package doesn't know.
+    OTHER = 0
+    #: It has 2,048 bytes or more.
+    TOO_LONG = 1
+    #: No name of an attribute.
+    INVALID_NAME = 2
+    #: A macro in the file of a directory below the top.
+    MACRO = 3
+    #: A pattern that begins with ``!``.
+    NEGATIVE = 4
+
+    @classmethod
+    def _missing_(cls, value: object) -> Reason:
+        return cls.OTHER
+
+
+class LeftOut(NamedTuple):
+    """The lines of an attribute file that git leaves out."""
+
+    #: How many there are, at least one.
+    count: int
+    #: The number of the first of them, from 1.
+    line: int
+    #: Why it is left out.
+    reason: Reason
 
 
 class Pathspec:
@@ -287,7 +330,7 @@ class Pathspec:
 
         No macro is unfolded. Later lists for a path come after earlier ones. A path that was given
         none has every attribute unspecified. It raises PathspecError where the list can't be read,
-        and then nothing has changed.
+        or where attribute files were added, and then nothing has changed.
 
         >>> search = Pathspec([":(attr:text)*"])
         >>> search.assign("a.c", "text eol=lf")
@@ -301,10 +344,52 @@ class Pathspec:
             self._has_attributes = self._has_attributes or status == _library.OK
         if status == _library.MEMORY:
             raise MemoryError
+        if status == _library.MIXED:
+            raise PathspecError(_MIXED, FaultKind.MIXED)
         if status != _library.OK:
             kind = FaultKind(fault.kind)
             message = _message(_library.list_message, given, len(given)) or kind.name
             raise PathspecError(message, kind)
+
+    def add_attributes(
+        self, directory: Text, text: Union[str, bytes], place: Place = Place.DIRECTORY
+    ) -> Optional[LeftOut]:
+        """Adds the text of an attribute file, by which specs with ``attr:`` are then answered.
+
+        The directory is where it lies, by its path from the top, empty for the top; it counts only
+        with ``Place.DIRECTORY``. The answer for a path depends on the files of the directories
+        above it alone, so each may be added before the first question about a path below it. A file
+        takes the place of the one that was added there, and the empty text takes it away.
+
+        It tells the lines that git leaves out, if there are any. It raises PathspecError where the
+        directory isn't clean, or where ``assign`` was called before; then nothing has changed. No
+        list is assigned to a search with files: a text for ``Place.INFO`` counts over all others.
+
+        >>> search = Pathspec([":(attr:text)*"])
+        >>> search.add_attributes("", "*.c text\\n!*.h text\\n")
+        LeftOut(count=1, line=2, reason=<Reason.NEGATIVE: 4>)
+        >>> search.add_attributes("src/gen", "*.c -text")
+        >>> search.matches("src/a.c"), search.matches("src/gen/a.c")
+        (True, False)
+        """
+        if not isinstance(text, (str, bytes)):
+            raise TypeError("text is what an attribute file holds")
+        (path, _), given = _path(directory, True), os.fsencode(text)
+        left_out = _library.PsLeftOut()
+        with self._lock:
+            status = _library.add_attributes(
+                self._open(), Place(place).value, path, len(path), given, len(given), left_out
+            )
+            self._has_attributes = self._has_attributes or status == _library.OK
+        if status == _library.MEMORY:
+            raise MemoryError
+        if status == _library.MIXED:
+            raise PathspecError(_MIXED, FaultKind.MIXED)
+        if status != _library.OK:
+            raise PathspecError("the directory isn't clean", FaultKind.PREFIX)
+        if not left_out.count:
+            return None
+        return LeftOut(left_out.count, left_out.line, Reason(left_out.reason))
 
     @property
     def common_prefix(self) -> str:
@@ -344,6 +429,7 @@ class Pathspec:
         self,
         root: Union[str, "os.PathLike[str]"] = ".",
         on_error: Optional[Callable[[OSError], object]] = None,
+        attributes: bool = False,
     ) -> Walk[str]:
         ...
 
@@ -352,6 +438,7 @@ class Pathspec:
         self,
         root: Union[bytes, "os.PathLike[bytes]"],
         on_error: Optional[Callable[[OSError], object]] = None,
+        attributes: bool = False,
     ) -> Walk[bytes]:
         ...
 
@@ -359,6 +446,7 @@ class Pathspec:
         self,
         root: Any = ".",
         on_error: Optional[Callable[[OSError], object]] = None,
+        attributes: bool = False,
     ) -> Walk[Any]:
         """The selected files below a directory, the repository's top.
 
@@ -366,10 +454,14 @@ class Pathspec:
         count as files and aren't followed. What is called ``.git`` is left out, and so is what is
         neither a file nor a link. No directory is entered that may be skipped.
 
-        Where a directory can't be read, OSError is raised; or it is given to ``on_error``, and the
-        walk goes on.
+        With ``attributes`` the walk adds the ``.gitattributes`` of each directory that it enters, if
+        that is an ordinary file, and ``.git/info/attributes``. They stay in the search, and no
+        attributes are assigned to it. No global file is read.
+
+        Where a directory or its attribute file can't be read, OSError is raised; or it is given to
+        ``on_error``, and the walk goes on without what lies in the directory.
         """
-        return Walk(self, os.fspath(root), on_error)
+        return Walk(self, os.fspath(root), on_error, attributes)
 
     def close(self) -> None:
         """Frees what the search holds.

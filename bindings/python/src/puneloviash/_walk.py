@@ -2,7 +2,9 @@
 
 from __future__ import annotations
 
+import errno
 import os
+import stat
 from typing import TYPE_CHECKING, AnyStr, Callable, Generator, Iterator, List, Optional
 
 if TYPE_CHECKING:
@@ -20,8 +22,10 @@ class Walk(Iterator[AnyStr]):
         search: Pathspec,
         root: AnyStr,
         on_error: Optional[Callable[[OSError], object]],
+        attributes: bool = False,
     ) -> None:
         self.opened = 0
+        self._attributes = attributes
         self._search = search
         self._on_error = on_error
         self._paths: Generator[AnyStr, None, None] = self._walk(root)
@@ -37,11 +41,27 @@ class Walk(Iterator[AnyStr]):
         while left:
             directory = left.pop()
             try:
+                if self._attributes:
+                    self._add_attributes(root, directory)
                 yield from self._visit(root, directory, left)
             except OSError as error:
                 if self._on_error is None:
                     raise
                 self._on_error(error)
+
+    def _add_attributes(self, root: AnyStr, directory: AnyStr) -> None:
+        """Adds the attribute files that count for what lies in a directory, and in none above it.
+
+        Where one isn't there, an earlier one is taken away.
+        """
+        from ._pathspec import Place
+
+        whole = os.path.join(os.fsencode(root), os.fsencode(directory))
+        if not directory:
+            info = _text_of(os.path.join(whole, b".git", b"info", b"attributes"), 0)
+            self._search.add_attributes("", info, Place.INFO)
+        own = _text_of(os.path.join(whole, b".gitattributes"), os.O_NOFOLLOW)
+        self._search.add_attributes(directory, own)
 
     def _visit(
         self, root: AnyStr, directory: AnyStr, left: List[AnyStr]
@@ -60,3 +80,21 @@ class Walk(Iterator[AnyStr]):
                 elif entry.is_symlink() or entry.is_file(follow_symlinks=False):
                     if self._search.matches(path):
                         yield path
+
+
+def _text_of(path: bytes, flags: int) -> bytes:
+    """What an ordinary file holds, which is nothing where there is none."""
+    try:
+        fd = os.open(path, os.O_RDONLY | os.O_NONBLOCK | os.O_CLOEXEC | flags)
+    except OSError as error:
+        # (a link that isn't followed is none, nor is a socket)
+        if error.errno in (errno.ENOENT, errno.ENOTDIR, errno.ELOOP, errno.ENXIO):
+            return b""
+        raise
+    try:
+        if not stat.S_ISREG(os.fstat(fd).st_mode):
+            return b""
+        with open(fd, "rb", closefd=False) as file:
+            return file.read()
+    finally:
+        os.close(fd)

@@ -4,7 +4,7 @@ use Rattle.std.proofs.lemmas.Bool.{or_cases, not-true, eqb-false}
 use Rattle.std.specs.List.{position_or_len, slice_set}
 use Rattle.pathspec_parts.proofs.RecordProofs.{records-first}
 use Rattle.pathspec_c.specs.Calls.{texts_in}
-use Rattle.pathspec_c.proofs.ManyProofs.{keeps-same, keeps-on, keeps-answer, keeps-rows, answered-none, answered-more}
+use Rattle.pathspec_c.proofs.ManyProofs.{keeps-same, keeps-on, keeps-answer, keeps-given, answered-none, answered-more}
 use Rattle.pathspec_c.proofs.many.ps_search_match_all.Goals as goal
 
 pub loop-rest-init : goal.loop-rest-init
@@ -12,7 +12,7 @@ loop-rest-init c = record {
   keeps = keeps-same c.args.search.now.searcher;
   answered = answered-none c.args.search.now.searcher c.args.paths.now c.args.answers.now;
   fits = omega arith;
-  rows = λ f. search rules;
+  given = λ f. search rules;
 }
 
 pub loop-rest-preserved : goal.loop-rest-preserved
@@ -31,8 +31,8 @@ loop-rest-preserved c =
           (λ t. c.answer.ensures.known t ∙ ap (λ b. slice_set c.loop-rest.answers c.loop-rest.number b) (keeps-answer held c.loop-rest.search.searcher old.keeps text))
           c.answer.ensures.unknown;
       fits = omega (arith, old.fits, shorter);
-      rows = λ f. elim (or_cases c.loop-rest.failed (not c.answer.result) f) [
-        | inl e ↦ old.rows e
-        | inr e ↦ keeps-rows held c.loop-rest.search.searcher old.keeps (c.answer.ensures.failed (not-true c.answer.result e))
+      given = λ f. elim (or_cases c.loop-rest.failed (not c.answer.result) f) [
+        | inl e ↦ old.given e
+        | inr e ↦ keeps-given held c.loop-rest.search.searcher old.keeps (c.answer.ensures.failed (not-true c.answer.result e))
       ];
     }
