@@ -1,5 +1,5 @@
 -- What a set of globs says of a text.
-use Rattle.std.proofs.Common.{◌≡◌, ℕ, ◌<◌, ◌≤◌, Bool, true, false, sym, ◌∙◌, ap, subst, arith, inl, inr, List, [], length, get_or, Some, None}
+use Rattle.std.proofs.Common.{◌≡◌, ℕ, ◌<◌, ◌≤◌, Bool, true, false, refl, sym, ◌∙◌, ap, subst, arith, inl, inr, List, [], length, get_or, Option, Some, None, IfSome}
 use Rattle.std.proofs.lemmas.Bool.{true≢false, cases_lt}
 use Rattle.pathspec_glob_set.specs.declared.moves.Moves.{Moves}
 use Rattle.pathspec_glob_set.specs.declared.member.Member.{Member}
@@ -12,7 +12,8 @@ use Rattle.pathspec_glob_set.specs.Sets.{member_matches, AreEnds, AreMovesOf, Is
 use Rattle.pathspec_glob_set.specs.Meanings.{is_over_before, is_wide_before, may_cut, stands, takes_before}
 use Rattle.pathspec_glob_set.specs.Answers.{IsFound, IsMatch, LeavesOutNone, MemberMatches, NoneCuts}
 use Rattle.pathspec_glob.proofs.GlobProofs.{glob_is_relation}
-use Rattle.pathspec_glob_set.specs.Tables.{is_unknown, IsKnown}
+use Rattle.pathspec_glob_set.specs.declared.table.Table.{Table}
+use Rattle.pathspec_glob_set.specs.Tables.{is_unknown, Finds, IsInUse, IsKnown}
 use Rattle.pathspec_glob.specs.BitVecs.{holds}
 use Rattle.pathspec_glob_set.proofs.CutProofs.{free-or, says-matches, settled-cuts, settled-matches, IsFirstSettled}
 
@@ -116,3 +117,36 @@ found-matches set text from lead found gave_up is e went_on globs are cutless gl
     known (Row r) h = tt
     known Nowhere h = tt
     known Unknown h = absurd (true≢false h)
+
+-- ---- of a set whose moves are the same
+
+-- what is left out of one is left out of the other
+pub left-alike : (some others : GlobSet) (text : List ℕ) (from : ℕ) (found : Option ℕ) → AreAlike some.moves others.moves → LeavesOutNone some text from found → LeavesOutNone others text from found
+left-alike some others text from found alike left globs are = left globs (alike-moves globs some.moves others.moves alike are)
+
+-- what matches by one matches by the other
+pub match-alike : (some others : GlobSet) (text : List ℕ) (from : ℕ) (gave_up : Bool) (found : ℕ) → AreAlike some.moves others.moves → IsMatch some text from gave_up found → IsMatch others text from gave_up found
+match-alike some others text from gave_up found alike is went_on globs are = is went_on globs (alike-moves globs some.moves others.moves alike are)
+
+pub some-match-alike : (some others : GlobSet) (text : List ℕ) (from : ℕ) (gave_up later : Bool) (found : Option ℕ) → AreAlike some.moves others.moves → later ≡ gave_up
+    → IfSome found (IsMatch some text from gave_up) → IfSome found (IsMatch others text from later)
+some-match-alike some others text from gave_up later None alike e is = is
+some-match-alike some others text from gave_up later (Some number) alike e is = λ went_on. match-alike some others text from gave_up number alike is (sym e ∙ went_on)
+
+-- moves are those that they are
+pub alike-self : (moves : Moves) → AreAlike moves moves
+alike-self moves = record { wide = refl; over = refl; cuts = refl; start = refl; classes = refl; takes = refl; ends = refl }
+
+-- ---- rows in use
+
+pub row-in-use : (table : Table) (k : ℕ) → k < table.used → IsInUse table (Row k)
+row-in-use table k low r e = let same : k ≡ r = cc in subst (λ j. j < table.used) same low
+
+pub unknown-in-use : (table : Table) → IsInUse table Unknown
+unknown-in-use table r e = cc
+
+-- a walk tells of a row in use
+pub found-in-use : (table : Table) (text : List ℕ) (lead : Lead) → Finds table text lead → IsInUse table lead
+found-in-use table text (Row k) found = row-in-use table k found.0
+found-in-use table text Nowhere found = λ r e. cc
+found-in-use table text Unknown found = unknown-in-use table

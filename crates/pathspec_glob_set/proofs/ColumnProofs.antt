@@ -1,12 +1,9 @@
 -- The places of globs stand one behind the other.
-use Rattle.std.proofs.Common.{◌≡◌, ℕ, zero, suc, ◌+◌, ◌-◌, ◌<◌, ◌≤◌, Bool, false, refl, sym, ◌∙◌, ap, subst, arith, inl, inr, List, [], ◌∷◌, length, get_or, drop}
+use Rattle.std.proofs.Common.{◌≡◌, ℕ, zero, suc, ◌+◌, ◌-◌, ◌<◌, ◌≤◌, Bool, sym, ◌∙◌, ap, subst, arith, inl, inr, List, [], ◌∷◌, length, get_or}
 use Rattle.std.proofs.lemmas.Bool.{cases_eq}
 use Rattle.std.proofs.lemmas.List.{get_or_default}
-use Rattle.pathspec_glob.specs.declared.Case.{Case}
-use Rattle.pathspec_glob.proofs.Words.{TokenList, is_wide_at, may_pass_over_at, token_takes}
 use Rattle.pathspec_glob.specs.BitVecs.{holds}
 use Rattle.pathspec_glob_set.specs.declared.member.Member.{Member}
-use Rattle.pathspec_glob_set.specs.Meanings.{is_over_before, is_wide_before, takes_before}
 use Rattle.pathspec_glob_set.specs.Sets.{size_of, AreEnds, IsAt}
 use Rattle.pathspec_glob_set.proofs.SetProofs.{before}
 
@@ -50,37 +47,3 @@ later globs ends are h g within less = elim (cases_eq h g) [
     some (glob ∷ globs) ends are h g within less =
         let at : IsAt (glob ∷ globs) g (get_or (glob ∷ globs) g glob) = record { within = within; is = get_or_default (glob ∷ globs) g _ _ within } in
         omega (arith, order (glob ∷ globs) ends are h g (get_or (glob ∷ globs) g glob) at less)
-
--- ---- what is asked of a place
-
-pub wide-first : (parts : TokenList) (place : ℕ) → place ≡ 0 → false ≡ is_wide_before parts place
-wide-first parts zero e = refl
-wide-first parts (suc place) e = absurd (let no : ⊥ = omega (arith, e) in no)
-
-pub wide-behind : (parts : TokenList) (place : ℕ) → 0 < place → is_wide_at (drop (place - 1) parts.tokens) ≡ is_wide_before parts place
-wide-behind parts zero h = absurd (let no : ⊥ = omega (arith, h) in no)
-wide-behind parts (suc place) h =
-    let e : suc place - 1 ≡ place = omega arith in
-    ap (λ i. is_wide_at (drop i parts.tokens)) e
-
-pub takes-first : (parts : TokenList) (case : Case) (b place : ℕ) → place ≡ 0 → false ≡ takes_before parts case place b
-takes-first parts case b zero e = refl
-takes-first parts case b (suc place) e = absurd (let no : ⊥ = omega (arith, e) in no)
-
-pub takes-behind : (parts : TokenList) (case : Case) (b place : ℕ) → 0 < place → token_takes parts case (place - 1) b ≡ takes_before parts case place b
-takes-behind parts case b zero h = absurd (let no : ⊥ = omega (arith, h) in no)
-takes-behind parts case b (suc place) h =
-    let e : suc place - 1 ≡ place = omega arith in
-    ap (λ i. token_takes parts case i b) e
-
-pub over-first : (parts : TokenList) (place : ℕ) → place < 2 → false ≡ is_over_before parts place
-over-first parts zero h = refl
-over-first parts (suc zero) h = refl
-over-first parts (suc (suc place)) h = absurd (let no : ⊥ = omega (arith, h) in no)
-
-pub over-behind : (parts : TokenList) (place : ℕ) → 2 ≤ place → may_pass_over_at parts.mode (drop (place - 2) parts.tokens) ≡ is_over_before parts place
-over-behind parts zero h = absurd (let no : ⊥ = omega (arith, h) in no)
-over-behind parts (suc zero) h = absurd (let no : ⊥ = omega (arith, h) in no)
-over-behind parts (suc (suc place)) h =
-    let e : suc (suc place) - 2 ≡ place = omega arith in
-    ap (λ i. may_pass_over_at parts.mode (drop i parts.tokens)) e

@@ -217,16 +217,19 @@ over-edge-second = refl
 comes-by-itself : ComesBy (Some 64) 64
 comes-by-itself = omega arith
 
-gave-up-last : losses_after true 255 ≡ 256
+gave-up-last : losses_after true true 255 ≡ 256
 gave-up-last = refl
 
-spent-stays : losses_after true 256 ≡ 256
+spent-stays : losses_after true true 256 ≡ 256
 spent-stays = refl
 
-won-back : losses_after false 7 ≡ 6
+never-full : losses_after true false 7 ≡ 7
+never-full = refl
+
+won-back : losses_after false true 7 ≡ 6
 won-back = refl
 
-none-to-win : losses_after false 0 ≡ 0
+none-to-win : losses_after false true 0 ≡ 0
 none-to-win = refl
 
 row-is-known : is_unknown (Row 0) ≡ false

@@ -22,34 +22,6 @@ row-same rows i row h = get_or-set_same rows i row [] h
 row-other : (rows : List (List Bool)) (i r : ℕ) (row : List Bool) → (r ≡ i → ⊥) → row_at (set rows i row) r ≡ row_at rows r
 row-other rows i r row n = get_or-set_other rows i r row [] n
 
--- one row more
-pub more-rows : (moves : Moves) (rows : List (List Bool)) (firsts : List ℕ) (used first : ℕ) (row : List Bool) → AreRows moves rows firsts used → used < length rows
-    → length row ≡ length moves.wide → IsFirst moves.ends.items row 0 first → AreRows moves (set rows used row) (set firsts used first) (used + 1)
-more-rows moves rows firsts used first row are room size is_first =
-    let long : length (set rows used row) ≡ length rows = length-set rows used row in
-    let others : (r : ℕ) → (r ≡ used → ⊥) → row_at (set rows used row) r ≡ row_at rows r = λ r n. row-other rows used r row n in
-    record {
-      sizes = λ r h. elim (cases_eq r used) [
-        | inl e ↦ ap length (ap (row_at (set rows used row)) e ∙ row-same rows used row room) ∙ size
-        | inr n ↦ ap length (others r n) ∙ are.sizes r (omega (arith, h, long))
-      ];
-      few = omega (arith, long, are.few);
-      many = omega (arith, long, are.many);
-      within = omega (arith, long, room);
-      some = omega arith;
-      first = others 0 (λ e. omega (arith, e, are.some)) ∙ are.first;
-      alike = length-set firsts used first ∙ are.alike ∙ sym long;
-      globs = λ r h. elim (cases_eq r used) [
-        | inl e ↦
-            let at : row_at (set rows used row) r ≡ row = ap (row_at (set rows used row)) e ∙ row-same rows used row room in
-            let found : get_or (set firsts used first) r 0 ≡ first = ap (λ k. get_or (set firsts used first) k 0) e ∙ get_or-set_same firsts used first 0 (omega (arith, room, are.alike)) in
-            subst (λ x. IsFirst moves.ends.items x 0 (get_or (set firsts used first) r 0)) (sym at) (subst (λ x. IsFirst moves.ends.items row 0 x) (sym found) is_first)
-        | inr n ↦
-            subst (λ x. IsFirst moves.ends.items x 0 (get_or (set firsts used first) r 0)) (sym (others r n))
-            (subst (λ x. IsFirst moves.ends.items (row_at rows r) 0 x) (sym (get_or-set_other firsts used r first 0 n)) (are.globs r (omega (arith, h, n))))
-      ];
-    }
-
 -- the first row alone
 pub one-row : (moves : Moves) (rows : List (List Bool)) (firsts : List ℕ) (used : ℕ) → AreRows moves rows firsts used → AreRows moves rows firsts 1
 one-row moves rows firsts used are = record {
@@ -99,27 +71,6 @@ put-cell moves rows used cells row class cell are low within small right =
             (was.0, subst (λ k. IsRight moves rows used (row_at moves.takes.items c) (row_at rows r) k) (sym read) was.1)
       ];
     }
-
--- cells stay right with one row more
-pub more-cells : (moves : Moves) (rows : List (List Bool)) (used : ℕ) (cells : List ℕ) (row : List Bool) → AreCells moves rows used cells → AreCells moves (set rows used row) (used + 1) cells
-more-cells moves rows used cells row are = record {
-  size = are.size ∙ ap (λ k. k * length moves.takes.items) (sym (length-set rows used row));
-  filled = λ r c h known.
-      let was = are.filled r c h known in
-      let width = length moves.takes.items in
-      let cell = cell_of moves cells r c in
-      let from : row_at (set rows used row) r ≡ row_at rows r = row-other rows used r row (λ e. omega (arith, e, was.0)) in (
-        omega (arith, was.0),
-        record {
-          lost = λ e. subst (λ x. IsLost moves (row_at moves.takes.items c) x) (sym from) (was.1.lost e);
-          within = λ n. omega (arith, was.1.within n);
-          leads = λ n.
-              let to : row_at (set rows used row) cell ≡ row_at rows cell = row-other rows used cell row (λ e. omega (arith, e, was.1.within n)) in
-              subst (λ x. IsStep moves (row_at moves.takes.items c) x (row_at (set rows used row) cell)) (sym from)
-              (subst (λ x. IsStep moves (row_at moves.takes.items c) (row_at rows r) x) (sym to) (was.1.leads n));
-        },
-      );
-}
 
 -- cells of which none is filled
 pub unknown-cells : (moves : Moves) (rows : List (List Bool)) (used size : ℕ) → size ≡ length rows * length moves.takes.items → AreCells moves rows used (replicate size unknown)
@@ -273,10 +224,6 @@ lead-row table r c cell is small e known some =
     let right = (is.cells.filled r c small (λ none. known (e ∙ none))).1 in
     let there : cell_of table.moves table.cells.items r c ≢ nowhere = λ lost. some (e ∙ lost) in
     (omega (arith, e, right.within there), subst (λ k. IsStep table.moves (row_at table.moves.takes.items c) (row_of table r) (row_of table k)) (sym e) (right.leads there))
-
-pub lead-nowhere : (table : Table) (r c cell : ℕ) → IsTable table → c < length table.moves.takes.items → cell ≡ cell_of table.moves table.cells.items r c → cell ≢ unknown → cell ≡ nowhere
-    → IsLost table.moves (row_at table.moves.takes.items c) (row_of table r)
-lead-nowhere table r c cell is small e known lost = (is.cells.filled r c small (λ none. known (e ∙ none))).1.lost (sym e ∙ lost)
 
 -- what a cell that leads to a row says
 pub right-row : (moves : Moves) (rows : List (List Bool)) (used : ℕ) (takes row : List Bool) (cell : ℕ) → used ≤ nowhere → cell < used → IsStep moves takes row (row_at rows cell) → IsRight moves rows used takes row cell

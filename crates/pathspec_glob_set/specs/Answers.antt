@@ -1,13 +1,14 @@
 -- What a set of globs says of a text.
 use Rattle.std.specs.Prelude.{◌≡◌, ◌+◌, ◌-◌, ◌<◌, ◌≤◌, ◌⊎◌, ◌==◌, ℕ, Bool, true, false, List, IsTrue, IsFalse, Option, Some, None, length, if◌then◌else◌}
+use Rattle.pathspec_glob.specs.Counts.{Counts}
 use Rattle.pathspec_glob.specs.GlobRelation.{Matches}
 use Rattle.pathspec_glob_set.specs.declared.set.GlobSet.{GlobSet}
 use Rattle.pathspec_glob_set.specs.declared.set.SetScratch.{SetScratch}
 use Rattle.pathspec_glob_set.specs.declared.table.Lead.{Lead}
 use Rattle.pathspec_glob_set.specs.declared.member.Member.{Member}
 use Rattle.pathspec_glob_set.specs.Sets.{member_matches, AreMovesOf, IsAt}
-use Rattle.pathspec_glob_set.specs.Sizes.{most_losses}
-use Rattle.pathspec_glob_set.specs.Tables.{most_misses, IsKnown}
+use Rattle.pathspec_glob_set.specs.Sizes.{most_losses, AreLooks}
+use Rattle.pathspec_glob_set.specs.Tables.{most_misses, Finds, IsKnown}
 
 -- The set is that of the globs.
 abbrev pub IsSetOf : List Member → GlobSet → Type 0
@@ -48,10 +49,37 @@ pub record IsFound (set : GlobSet) (text : List ℕ) (from : ℕ) (lead : Lead) 
   pub none : (globs : List Member) → IsSetOf globs set → NoneCuts globs text from → (g : ℕ) (glob : Member) → IsAt globs g glob → from ≤ g → g < found → member_matches glob text ≡ false
   pub match_there : IsKnown lead → (globs : List Member) → IsSetOf globs set → NoneCuts globs text from → (glob : Member) → IsAt globs found glob → member_matches glob text ≡ true
 
--- the losses after a search: one more where it gave up, and one less where it didn't; those of a spent scratch stay
-abbrev pub losses_after : Bool → ℕ → ℕ
-losses_after true losses = if losses == most_losses then losses else losses + 1
-losses_after false losses = losses - 1
+-- The losses after a search: one more where it gave up and the table was cleared, and one less where it didn't give up. Those of a
+-- spent scratch stay.
+abbrev pub losses_after : Bool → Bool → ℕ → ℕ
+losses_after true true losses = if losses == most_losses then losses else losses + 1
+losses_after true false losses = losses
+losses_after false cleared losses = losses - 1
+
+-- the set that a scratch is for
+abbrev pub set_in : SetScratch → GlobSet
+set_in scratch = record { moves = scratch.table.moves }
+
+-- The text was read last: what the scratch tells of it is so, where it is known where the text leads.
+abbrev pub HasRead : SetScratch → List ℕ → Type 0
+HasRead scratch text = IsKnown scratch.lead → Finds scratch.table text scratch.lead
+
+-- a question after the text was read changes the counts alone
+pub record KeepsReading (old new : SetScratch) : Type 0 where
+  pub table : new.table ≡ old.table
+  pub lead : new.lead ≡ old.lead
+  pub gave_up : new.gave_up ≡ old.gave_up
+  pub losses : new.losses ≡ old.losses
+
+-- what a question found, or the count of globs
+abbrev pub found_or : ℕ → Option ℕ → ℕ
+found_or globs None = globs
+found_or globs (Some found) = found
+
+-- The total grew by so many steps and by the looks of a question, and those are few.
+pub record CountsLooks (set : GlobSet) (from : ℕ) (found : Option ℕ) (steps : ℕ) (old new : SetScratch) : Type 0 where
+  pub looks : AreLooks (length set.moves.ends.items) from (found_or (length set.moves.ends.items) found) new.looks
+  pub total : Counts old.total (steps + new.looks) new.total
 
 -- A search gives up with a spent scratch, where it reads nothing, and else only where it filled too many cells.
 pub record GivesUp (old new : SetScratch) : Type 0 where

@@ -1,5 +1,5 @@
 -- The sizes of what rows are stepped by.
-use Rattle.std.specs.Prelude.{◌≡◌, ◌<◌, ◌≤◌, ◌^◌, ℕ, Bool, true, false, List, [], length, get_or}
+use Rattle.std.specs.Prelude.{◌≡◌, ◌+◌, ◌<◌, ◌≤◌, ◌^◌, ℕ, Bool, true, false, List, [], length, get_or}
 use Rattle.pathspec_glob.specs.BitVecs.{holds}
 
 -- a row of several
@@ -23,10 +23,15 @@ pub record IsFirst (ends : List ℕ) (row : List Bool) (from found : ℕ) : Type
   pub stands : found < length ends → holds row (get_or ends found 0) ≡ true
   pub none : (g : ℕ) → from ≤ g → g < found → holds row (get_or ends g 0) ≡ false
 
+-- From a glob on, up to the one that was found or to the last, each was looked at once at most.
+pub record AreLooks (globs from found looks : ℕ) : Type 0 where
+  pub within : looks + from ≤ globs
+  pub before : looks + from ≤ found + 1
+
 -- how many places the globs of a set have at most
 abbrev pub most_places : ℕ
 most_places = 131072
 
--- how many more searches give up than not, before a scratch is spent
+-- how many more searches of a table that was cleared give up than not, before a scratch is spent
 abbrev pub most_losses : ℕ
 most_losses = 256

@@ -121,6 +121,4 @@ Finds table text Unknown = table.misses ≡ most_misses
 
 -- a row that is told of is in use
 abbrev pub IsInUse : Table → Lead → Type 0
-IsInUse table (Row r) = r < table.used
-IsInUse table Nowhere = Unit {0}
-IsInUse table Unknown = Unit {0}
+IsInUse table lead = (r : ℕ) → lead ≡ Row r → r < table.used

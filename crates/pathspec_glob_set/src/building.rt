@@ -69,12 +69,12 @@ pub fn are_few(globs: &[Member]) -> bool
     true
 }
 
-/// How many rows a scratch has: 1,024, or 4,096 from 256 globs on, and fewer where they would take more than 6 MiB.
+/// How many rows a scratch has: 1,024, or 4,096 from 64 globs on, and fewer where they would take more than 6 MiB.
 pub fn rows_for(moves: &Moves) -> usize
     ensures many { 2 ≤ result }
     ensures few { result ≤ nowhere }
 {
-    let most = if moves.ends.len() < 256 { 1024 } else { 4096 };
+    let most = if moves.ends.len() < 64 { 1024 } else { 4096 };
     // A bit for each place, two bytes for each class, and some sixty more.
     let bytes = (moves.places() / 8)
         .saturating_add(moves.width().saturating_mul(2))

@@ -1,8 +1,9 @@
 //! Many globs at once: which of them match a text, in one pass over the text from its end.
 ghost use Rattle.std.specs.Prelude.{◌≡◌, ◌+◌, ◌%◌, ◌<◌, ◌≤◌, ◌^◌, ◌↔◌, ℕ, List, length, None, IfOk, IfSome, IsTrue};
+ghost use Rattle.pathspec_glob.specs.Counts.{Counts};
 ghost use Rattle.pathspec_glob_set.specs.Moves.{AreAlike};
 ghost use Rattle.pathspec_glob_set.specs.Tables.{is_unknown, AreFewSteps, Finds, IsInUse, IsKnown, IsTable};
-ghost use Rattle.pathspec_glob_set.specs.Sizes.{most_losses, most_places};
+ghost use Rattle.pathspec_glob_set.specs.Sizes.{most_losses, most_places, AreLooks};
 ghost use Rattle.pathspec_glob_set.specs.Sets.{count_places};
 
 use crate::building::{are_few, moves_of, rows_for};
@@ -11,7 +12,7 @@ use crate::moves::Moves;
 use crate::table::{Lead, Table};
 use std::alloc::{AllocError, Global};
 
-/// How many more searches give up than not, before a scratch is spent.
+/// How many more searches of a table that was cleared give up than not, before a scratch is spent.
 const MOST_LOSSES: usize = 256;
 
 /// Many globs, each by its number in the list that the set was made of.
@@ -24,18 +25,25 @@ pub struct GlobSet {
 #[derive(Drop)]
 pub struct SetScratch {
     table: Table,
+    /// Where the last text led.
+    lead: Lead,
     /// Whether the last search gave up, and so left out no glob.
     gave_up: bool,
-    /// How many more searches gave up than not; one that didn't, where there are none, counts for nothing.
+    /// How many more searches gave up than not, once the table was cleared; one that didn't, where there are none, counts for
+    /// nothing. A table that wasn't is still filled, so that later texts gain by it.
     losses: usize,
-    /// The steps of all searches, modulo 2^128.
+    /// The globs that the last question looked at.
+    looks: usize,
+    /// The steps and looks of all searches, modulo 2^128.
     total: u128,
     ghost right: { IsTable table },
     ghost few: { losses ≤ most_losses },
+    ghost in_use: { IsInUse table lead },
+    ghost told: { gave_up ≡ is_unknown lead },
 }
 
 impl GlobSet {
-    ghost use Rattle.pathspec_glob_set.specs.Answers.{losses_after, GivesUp, IsFound, IsMatch, IsNumber, IsSetOf, LeavesOutNone};
+    ghost use Rattle.pathspec_glob_set.specs.Answers.{losses_after, CountsLooks, GivesUp, IsMatch, IsNumber, IsSetOf, LeavesOutNone};
 
     /// Makes the set of some globs; none where they have more than 2^17 places, one for each token and one more for each glob.
     ///
@@ -61,7 +69,7 @@ impl GlobSet {
         self.moves.ends.len()
     }
 
-    /// Makes room to search the set in, of 1,024 rows, or 4,096 where it has 256 globs or more. Rows take at most 6 MiB, so a set
+    /// Makes room to search the set in, of 1,024 rows, or 4,096 where it has 64 globs or more. Rows take at most 6 MiB, so a set
     /// of many places has fewer.
     ///
     /// # Errors
@@ -73,8 +81,10 @@ impl GlobSet {
         let rows = rows_for(&moves);
         Ok(SetScratch {
             table: Table::new(alloc, moves, rows)?,
+            lead: Lead::Row(0),
             gave_up: false,
             losses: 0,
+            looks: 0,
             total: 0,
         })
     }
@@ -89,8 +99,7 @@ impl GlobSet {
     /// The first glob from a number on that matches a text, if no glob before it cuts and matches. A search that gives up leaves
     /// out none.
     ///
-    /// The call counts a step for each byte that it reads, and all places of the globs and one more for each cell that it fills,
-    /// which are at most eight. Then it looks at a place of each glob from the number on. It takes no memory.
+    /// The call is [`SetScratch::read`] and [`SetScratch::next_of`]. It takes no memory.
     pub fn next(&self, text: &[u8], from: usize, scratch: &mut SetScratch) -> Option<usize>
         requires fits { AreAlike scratch.old.table.moves self.now.moves }
         requires from { from ≤ length self.now.moves.ends.items }
@@ -98,41 +107,21 @@ impl GlobSet {
         ensures matches { IfSome result (IsMatch self.now text.now from scratch.new.gave_up) }
         ensures number { IfSome result (IsNumber self.now from) }
         ensures gives_up { GivesUp scratch.old scratch.new }
-        ensures losses { scratch.new.losses ≡ losses_after scratch.new.gave_up scratch.old.losses }
+        ensures losses { scratch.new.losses
+            ≡ losses_after scratch.new.gave_up scratch.new.table.cleared scratch.old.losses }
         ensures steps { AreFewSteps (length self.now.moves.wide) (length text.now)
             scratch.new.table }
-        ensures total { scratch.new.total
-            ≡ (scratch.old.total + scratch.new.table.steps) % 2 ^ 128 }
+        ensures total { CountsLooks self.now from result scratch.new.table.steps
+            scratch.old scratch.new }
         ensures room { scratch.new.table.moves ≡ scratch.old.table.moves }
     {
-        let lead = scratch.walk(text);
-        let found = self.first_after(lead, &scratch.table, from);
-        if found < self.len() {
-            Some(found)
-        } else {
-            None
-        }
-    }
-
-    /// The first glob from a number on that matches a text of which a walk told this, or the count of globs.
-    fn first_after(&self, lead: Lead, table: &Table, from: usize) -> usize
-        requires fits { AreAlike table.now.moves self.now.moves }
-        requires table { IsTable table.now }
-        requires row { IsInUse table.now lead }
-        requires from { from ≤ length self.now.moves.ends.items }
-        ensures { (text : List ℕ) → (IsKnown lead → Finds table.now text lead)
-            → IsFound self.now text from lead result }
-    {
-        match lead {
-            Lead::Row(row) => table.first_of(row, from),
-            Lead::Nowhere => self.len(),
-            Lead::Unknown => from,
-        }
+        scratch.read(text);
+        scratch.next_of(from)
     }
 }
 
 impl SetScratch {
-    ghost use Rattle.pathspec_glob_set.specs.Answers.{losses_after, GivesUp};
+    ghost use Rattle.pathspec_glob_set.specs.Answers.{losses_after, set_in, CountsLooks, GivesUp, HasRead, IsFound, IsMatch, IsNumber, KeepsReading, LeavesOutNone};
 
     /// Whether the last search gave up: then what it found is only a glob that may match.
     pub fn gave_up(&self) -> bool
@@ -148,46 +137,104 @@ impl SetScratch {
         self.losses == MOST_LOSSES
     }
 
-    /// The steps of the last search: one for each byte that it read, and all places and one more for each cell that it filled.
+    /// The steps of the last text: one for each byte that was read, and all places and one more for each cell that was filled.
     pub fn last_steps(&self) -> u128
         ensures { result ≡ self.now.table.steps }
     {
         self.table.steps()
     }
 
-    /// The steps of all searches together, modulo 2^128.
+    /// The globs that the last question looked at, in the row that the text led to.
+    pub fn last_looks(&self) -> usize
+        ensures { result ≡ self.now.looks }
+    {
+        self.looks
+    }
+
+    /// The steps and looks of all searches together, modulo 2^128.
     pub fn total_steps(&self) -> u128
         ensures { result ≡ self.now.total }
     {
         self.total
     }
 
-    /// Finds where a text leads, unless the scratch is spent.
-    fn walk(&mut self, text: &[u8]) -> Lead
-        ensures row { IsInUse self.new.table result }
-        ensures found { IsKnown result → Finds self.new.table text.now result }
-        ensures gave_up { self.new.gave_up ≡ is_unknown result }
+    /// Reads a text for questions by [`SetScratch::next_of`]: finds where it leads, unless the scratch is spent.
+    ///
+    /// The call counts a step for each byte that it reads, and all places of the globs and one more for each cell that it fills,
+    /// which are at most eight. It takes no memory.
+    pub fn read(&mut self, text: &[u8])
+        ensures read { HasRead self.new text.now }
         ensures gives_up { GivesUp self.old self.new }
-        ensures losses { self.new.losses ≡ losses_after self.new.gave_up self.old.losses }
+        ensures losses { self.new.losses
+            ≡ losses_after self.new.gave_up self.new.table.cleared self.old.losses }
         ensures steps { AreFewSteps (length self.old.table.moves.wide) (length text.now)
             self.new.table }
-        ensures total { self.new.total ≡ (self.old.total + self.new.table.steps) % 2 ^ 128 }
+        ensures total { Counts self.old.total self.new.table.steps self.new.total }
         ensures room { self.new.table.moves ≡ self.old.table.moves }
     {
         if self.losses == MOST_LOSSES {
             self.table.begin();
             self.gave_up = true;
-            return Lead::Unknown;
+            self.lead = Lead::Unknown;
+            return;
         }
         let lead = self.table.walk(text);
         self.total = self.total.wrapping_add(self.table.steps());
         self.gave_up = is_unknown(lead);
-        if self.gave_up {
-            self.losses += 1;
-        } else {
+        self.lead = lead;
+        if !self.gave_up {
             self.losses = self.losses.saturating_sub(1);
+        } else if self.table.was_cleared() {
+            self.losses += 1;
         }
-        lead
+    }
+
+    /// The first glob from a number on that matches the text that was read last, if no glob before it cuts and matches, as
+    /// [`GlobSet::next`] says. The call reads no byte.
+    ///
+    /// It counts a look at each glob from the number on, up to the one that it finds, and none where that is the first of all.
+    pub fn next_of(&mut self, from: usize) -> Option<usize>
+        requires { from ≤ length self.old.table.moves.ends.items }
+        ensures no_other { (text : List ℕ) → HasRead self.old text
+            → LeavesOutNone (set_in self.old) text from result }
+        ensures matches { (text : List ℕ) → HasRead self.old text
+            → IfSome result (IsMatch (set_in self.old) text from self.old.gave_up) }
+        ensures number { IfSome result (IsNumber (set_in self.old) from) }
+        ensures total { CountsLooks (set_in self.old) from result 0 self.old self.new }
+        ensures kept { KeepsReading self.old self.new }
+    {
+        let mut looks = 0;
+        let found = self.first_from(from, &mut looks);
+        self.looks = looks;
+        self.total = self.total.wrapping_add(looks as u128);
+        if found < self.len() {
+            Some(found)
+        } else {
+            None
+        }
+    }
+
+    /// The count of globs of the set that the scratch is for.
+    pub fn len(&self) -> usize
+        ensures { result ≡ length self.now.table.moves.ends.items }
+    {
+        self.table.moves().ends.len()
+    }
+
+    /// The first glob from a number on that matches the text that was read last, or the count of globs.
+    fn first_from(&self, from: usize, looks: &mut usize) -> usize
+        requires from { from ≤ length self.now.table.moves.ends.items }
+        requires none { looks.old ≡ 0 }
+        ensures found { (text : List ℕ) → HasRead self.now text
+            → IsFound (set_in self.now) text from self.now.lead result }
+        ensures behind { from ≤ result }
+        ensures looks { AreLooks (length self.now.table.moves.ends.items) from result looks.new }
+    {
+        match self.lead {
+            Lead::Row(row) => self.table.first_of(row, from, looks),
+            Lead::Nowhere => self.len(),
+            Lead::Unknown => from,
+        }
     }
 }
 

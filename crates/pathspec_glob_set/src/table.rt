@@ -1,7 +1,8 @@
 //! Rows that texts led to, with a cell for each class of bytes: where it leads, once that was asked.
 ghost use Rattle.std.specs.Prelude.{◌≡◌, ◌+◌, ◌*◌, ◌-◌, ◌<◌, ◌≤◌, ◌^◌, ℕ, length, get_or, set, replicate, IfOk, IfSome, IsTrue};
+ghost use Rattle.pathspec_glob.specs.BitVecs.{holds};
 ghost use Rattle.pathspec_glob_set.specs.Moves.{takes_of};
-ghost use Rattle.pathspec_glob_set.specs.Sizes.{row_at, IsFirst};
+ghost use Rattle.pathspec_glob_set.specs.Sizes.{row_at, AreLooks, IsFirst};
 ghost use Rattle.pathspec_glob_set.specs.Tables.{nowhere, unknown, AddsSpare, BeginsText, Counts, IsKnown, IsSpare, IsTable, KeepsRoom, Leads};
 
 use crate::moves::Moves;
@@ -47,6 +48,8 @@ pub struct Table {
     spare: BitVec,
     /// The cells that were filled in this text.
     misses: usize,
+    /// Whether the table was full once, and so was cleared.
+    cleared: bool,
     /// The steps of this text: one a question, and all places and one more where a cell was filled.
     steps: u128,
 }
@@ -80,6 +83,7 @@ impl Table {
             index,
             spare,
             misses: 0,
+            cleared: false,
             steps: 0,
         })
     }
@@ -96,6 +100,13 @@ impl Table {
         ensures { result ≡ self.now.steps }
     {
         self.steps
+    }
+
+    /// Whether the table was cleared once.
+    pub fn was_cleared(&self) -> bool
+        ensures { result ≡ self.now.cleared }
+    {
+        self.cleared
     }
 
     /// Begins a text: none of its steps are counted yet, and none of its cells filled.
@@ -145,19 +156,41 @@ impl Table {
         row * self.moves.width() + class
     }
 
-    /// The first glob from one on that a text matches which leads to a row, or the count of globs.
-    pub fn first_of(&self, row: usize, from: usize) -> usize
+    /// The first glob from one on that a text matches which leads to a row, or the count of globs. `looks` counts the globs that are
+    /// looked at; the first of all is written with the row.
+    pub fn first_of(&self, row: usize, from: usize, looks: &mut usize) -> usize
         requires table { IsTable self.now }
         requires row { row < self.now.used }
         requires from { from ≤ length self.now.moves.ends.items }
-        ensures { IsFirst self.now.moves.ends.items (row_at self.now.rows.items row) from result }
+        requires none { looks.old ≡ 0 }
+        ensures first { IsFirst self.now.moves.ends.items (row_at self.now.rows.items row)
+            from result }
+        ensures looks { AreLooks (length self.now.moves.ends.items) from result looks.new }
     {
         let first = self.firsts[row];
         if from <= first {
-            first
-        } else {
-            first_from(&self.moves.ends, &self.rows[row], from)
+            return first;
         }
+        for glob in from..self.moves.ends.len() {
+            if self.is_at_end(row, glob, looks) {
+                return glob;
+            }
+        }
+        self.moves.ends.len()
+    }
+
+    /// Whether a text that leads to a row matches a glob. The call counts a look.
+    fn is_at_end(&self, row: usize, glob: usize, looks: &mut usize) -> bool
+        requires table { IsTable self.now }
+        requires row { row < self.now.used }
+        requires glob { glob < length self.now.moves.ends.items }
+        requires looks { looks.old < 2 ^ 63 }
+        ensures holds { result ≡ holds (row_at self.now.rows.items row)
+            (get_or self.now.moves.ends.items glob 0) }
+        ensures looks { looks.new ≡ looks.old + 1 }
+    {
+        *looks += 1;
+        self.rows[row].holds(self.moves.ends[glob])
     }
 
     /// Fills the cell of a row and a class, unless too many were filled in this text.
@@ -208,6 +241,7 @@ impl Table {
         }
         if self.used == self.rows.len() {
             clear(&mut self.cells);
+            self.cleared = true;
             self.used = 1;
             return Lead::Row(self.add());
         }

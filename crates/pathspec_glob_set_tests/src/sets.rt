@@ -95,6 +95,14 @@ pub fn next(searched: &mut Searched, text: &[u8], from: usize, count: usize) -> 
     searched.set.next(text, from, &mut searched.scratch)
 }
 
+/// What a set finds from a number on, of the text that was read last.
+pub fn next_of(searched: &mut Searched, from: usize) -> Option<usize> {
+    if from > searched.scratch.len() {
+        return None;
+    }
+    searched.scratch.next_of(from)
+}
+
 /// Patterns that look random.
 fn patterns(
     alloc: Global,

@@ -1,8 +1,10 @@
 //! Tables that are filled, cleared, and given up.
 use crate::numbers::Numbers;
-use crate::sets::{Written, is_right, listed, made, next};
+use crate::sets::{Written, cutting, is_right, listed, made, next, next_of};
 use pathspec_glob::Case::Sensitive;
 use pathspec_glob::Mode::Shell;
+use pathspec_glob::Tokens;
+use pathspec_glob_set::{GlobSet, Member};
 use std::alloc::{AllocError, Global};
 use std::test::Fail;
 
@@ -61,6 +63,49 @@ fn a_table_is_cleared_in_the_middle_of_a_text(rt: HostRuntime) -> Result<(), Fai
 }
 
 #[test]
+fn further_questions_read_nothing(rt: HostRuntime) -> Result<(), Fail> {
+    // The first glob of all is known without a look, and each other that is passed or found takes one.
+    const ASKED: &[(usize, Option<usize>, usize)] = &[
+        (0, Some(0), 0),
+        (1, Some(2), 2),
+        (3, Some(4), 2),
+        (5, None, 0),
+    ];
+    let patterns: &[&[u8]] = &[b"*a", b"*b", b"?a", b"*c", b"x*"];
+    let written = listed(rt.alloc(), patterns, Shell, Sensitive)?;
+    let mut searched = made(rt.alloc(), &written)?;
+    searched.scratch.read(b"xa");
+    let steps = searched.scratch.last_steps();
+    for (from, found, looks) in ASKED {
+        assert_eq!(rt; next_of(&mut searched, *from), *found);
+        assert_eq!(rt; searched.scratch.last_looks(), *looks);
+        assert_eq!(rt; searched.scratch.last_steps(), steps);
+    }
+    assert_eq!(rt; searched.scratch.total_steps(), steps + 4);
+    Ok(())
+}
+
+#[test]
+fn a_table_that_was_never_full_is_not_spent(rt: HostRuntime) -> Result<(), Fail> {
+    let mut numbers = Numbers(11);
+    let written = fifths(rt.alloc())?;
+    let mut searched = made(rt.alloc(), &written)?;
+    let mut has_given_up = false;
+    // Of 64 bytes eight lead to new rows, so 64 texts fill half of the table.
+    for _round in 0..64u8 {
+        let text = letters(rt.alloc(), &mut numbers, 64)?;
+        next(&mut searched, &text, 0, written.len());
+        has_given_up = has_given_up || searched.scratch.gave_up();
+    }
+    assert!(rt; has_given_up);
+    for _round in 0..300u16 {
+        next(&mut searched, b"hhhhhhhhgggggggg", 0, written.len());
+    }
+    assert!(rt; !searched.scratch.gave_up() && !searched.scratch.is_spent());
+    Ok(())
+}
+
+#[test]
 fn a_scratch_is_spent_by_texts_that_give_up(rt: HostRuntime) -> Result<(), Fail> {
     let mut numbers = Numbers(5);
     let written = fifths(rt.alloc())?;
@@ -86,5 +131,94 @@ fn losses_are_won_back(rt: HostRuntime) -> Result<(), Fail> {
         next(&mut searched, b"a", 0, written.len());
     }
     assert!(rt; !searched.scratch.is_spent());
+    Ok(())
+}
+
+#[test]
+fn what_globs_cut_off_fills_no_cells(rt: HostRuntime) -> Result<(), Fail> {
+    const EIGHT: &[&[u8]] = &[
+        b"*a*", b"*b*", b"*c*", b"*d*", b"*e*", b"*f*", b"*g*", b"*h*",
+    ];
+    let mut numbers = Numbers(9);
+    let mut written = listed(rt.alloc(), EIGHT, Shell, Sensitive)?;
+    cutting(&mut written);
+    let mut searched = made(rt.alloc(), &written)?;
+    for _round in 0..ROUNDS {
+        let text = letters(rt.alloc(), &mut numbers, 8)?;
+        assert!(rt; is_right(rt.alloc(), &written, &mut searched, &text)?);
+    }
+    // A row tells the least letter, of eight or none, and has a cell for each letter. A filled cell is 33 steps. A question looks at
+    // eight globs at most.
+    let before = searched.scratch.total_steps();
+    assert!(rt;
+        before <= (ROUNDS as u128) * (8 + 8) * 9 + 9 * 8 * 33,
+        "{before}"
+    );
+    Ok(())
+}
+
+#[test]
+fn a_set_of_too_many_places_is_not_made(rt: HostRuntime) -> Result<(), Fail> {
+    // A place for each token, and one more for each glob.
+    for (bytes, count, is_made) in [(10_000, 1, true), (131_072, 1, false), (100_000, 2, false)] {
+        let alloc = rt.alloc();
+        let pattern = vec![in alloc; b'a'; bytes]?;
+        let mut globs = Vec::new(alloc);
+        for _glob in 0..count {
+            globs.push(Member {
+                tokens: Tokens::of_pattern(alloc, &pattern, Shell)?,
+                case: Sensitive,
+                cuts: true,
+            })?;
+        }
+        let Some(set) = GlobSet::new(alloc, &globs)? else {
+            assert!(rt; !is_made);
+            continue;
+        };
+        let mut scratch = set.new_scratch(alloc)?;
+        let count = set.len();
+        assert!(rt; is_made && count == 1 && set.fits(&scratch));
+        if set.fits(&scratch) {
+            assert_eq!(rt; set.next(&pattern, 0, &mut scratch), Some(0));
+            assert!(rt; scratch.gave_up());
+        }
+    }
+    Ok(())
+}
+
+#[test]
+fn a_thousand_globs_are_one_set(rt: HostRuntime) -> Result<(), Fail> {
+    const FOUND: &[(&[u8], Option<usize>)] = &[
+        (b"a.0", Some(0)),
+        (b"b.999", Some(999)),
+        (b".500", Some(500)),
+        (b"500", None),
+        (b"", None),
+    ];
+    let alloc = rt.alloc();
+    let mut written = Vec::new(alloc);
+    for number in 0..1_000u32 {
+        let pattern = format!(in alloc; "*.{number}")?.into_bytes();
+        written.push(Written::new(alloc, pattern, Shell, Sensitive)?)?;
+    }
+    cutting(&mut written);
+    let mut searched = made(alloc, &written)?;
+    for (text, found) in FOUND {
+        assert_eq!(rt; next(&mut searched, text, 0, 1_000), *found);
+        assert!(rt; !searched.scratch.gave_up());
+    }
+    Ok(())
+}
+
+#[test]
+fn a_text_of_a_million_bytes_is_walked(rt: HostRuntime) -> Result<(), Fail> {
+    let alloc = rt.alloc();
+    let mut text = vec![in alloc; b'x'; 1_000_000]?;
+    let written = listed(alloc, &[b"*/aa/*", b"*.rs", b"xa*"], Shell, Sensitive)?;
+    let mut searched = made(alloc, &written)?;
+    assert_eq!(rt; next(&mut searched, &text, 0, 3), None);
+    text[1] = b'a';
+    assert_eq!(rt; next(&mut searched, &text, 0, 3), Some(2));
+    assert_eq!(rt; next(&mut searched, &text, 3, 3), None);
     Ok(())
 }

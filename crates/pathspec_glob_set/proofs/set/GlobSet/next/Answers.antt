@@ -1,22 +1,19 @@
-use Rattle.std.proofs.Common.{arith}
-use Rattle.pathspec_glob_set.proofs.AnswerProofs.{found-matches, left-all, left-none}
+use Rattle.std.proofs.Common.{subst, sym}
+use Rattle.pathspec_glob_set.specs.Moves.{AreAlike}
+use Rattle.pathspec_glob_set.specs.Answers.{set_in}
+use Rattle.pathspec_glob_set.proofs.AnswerProofs.{left-alike, some-match-alike}
 use Rattle.pathspec_glob_set.proofs.set.GlobSet.next.Goals as goal
 
-pub returns-then-found-len-clause-no_other : goal.returns-then-found-len-clause-no_other
-returns-then-found-len-clause-no_other c =
-    left-none c.args.self.now c.args.text.now c.args.from c.walk-lead.result c.first_after-found.result (c.first_after-found.ensures c.args.text.now c.walk-lead.ensures.found)
+pub returns-clause-no_other : goal.returns-clause-no_other
+returns-clause-no_other c =
+    let own = c.args.self.now in
+    let fits = subst (λ m. AreAlike m own.moves) (sym c.read.ensures.room) c.requires.fits in
+    left-alike (set_in c.read.new.self) own c.args.text.now c.args.from c.next_of.result fits (c.next_of.ensures.no_other c.args.text.now c.read.ensures.read)
 
-pub returns-then-found-len-clause-matches : goal.returns-then-found-len-clause-matches
-returns-then-found-len-clause-matches c =
-    found-matches c.args.self.now c.args.text.now c.args.from c.walk-lead.result c.first_after-found.result c.walk-lead.new.self.gave_up
-    (c.first_after-found.ensures c.args.text.now c.walk-lead.ensures.found) c.walk-lead.ensures.gave_up
-
-pub returns-then-found-len-clause-number : goal.returns-then-found-len-clause-number
-returns-then-found-len-clause-number c =
-    let is = c.first_after-found.ensures c.args.text.now c.walk-lead.ensures.found in
-    record { behind = is.behind; within = omega (arith, c.if-found-len.true, c.len.ensures) }
-
-pub returns-else-found-len-clause-no_other : goal.returns-else-found-len-clause-no_other
-returns-else-found-len-clause-no_other c =
-    left-all c.args.self.now c.args.text.now c.args.from c.walk-lead.result c.first_after-found.result (c.first_after-found.ensures c.args.text.now c.walk-lead.ensures.found)
-    (omega (arith, c.if-found-len.false, c.len.ensures))
+pub returns-clause-matches : goal.returns-clause-matches
+returns-clause-matches c =
+    let own = c.args.self.now in
+    let scratch = c.read.new.self in
+    let fits = subst (λ m. AreAlike m own.moves) (sym c.read.ensures.room) c.requires.fits in
+    some-match-alike (set_in scratch) own c.args.text.now c.args.from scratch.gave_up c.next_of.new.self.gave_up c.next_of.result fits c.next_of.ensures.kept.gave_up
+    (c.next_of.ensures.matches c.args.text.now c.read.ensures.read)
