@@ -5,13 +5,11 @@ use Rattle.std.proofs.lemmas.List.{reverse-append, take_more}
 use Rattle.std.proofs.Math.Numerals.{add-one}
 use Rattle.std.specs.List.{flat_map}
 use Rattle.std.specs.Prelude.{nat_lt}
-use Rattle.pathspec_parts.specs.Attributes.{Assignment}
 use Rattle.pathspec_parts.specs.Paths.{is_slash}
 use Rattle.pathspec_attributes.specs.Files.{directories_to}
-use Rattle.pathspec_attributes.specs.Rules.{Rule}
 
 -- the last of the first rules, before the others
-pub said-at : (say : Rule → List Assignment) (rules : List Rule) (k : ℕ) (rule : Rule) → k < length rules → rule ≡ get_or rules k rule
+pub said-at : {X A : Type 0} (say : X → List A) (rules : List X) (k : ℕ) (rule : X) → k < length rules → rule ≡ get_or rules k rule
     → flat_map say (reverse (take (k + 1) rules)) ≡ say rule ++ flat_map say (reverse (take k rules))
 said-at say rules k rule below is =
     let more : take (k + 1) rules ≡ take k rules ++ get_or rules k rule ∷ [] = take_more rules k rule below in
@@ -28,14 +26,14 @@ no-directory-at path k h = rw add-one (rw h refl)
 -- ---- as the code asks
 
 -- the rules of a file from the last to the first: one that says something, before the rest
-module _ (say : Rule → List Assignment) (rules : List Rule) (left : ℕ) (rule : Rule) (some : 0 < left) (within : left ≤ length rules) (is : rule ≡ get_or rules (left - 1) rule) where
+module _ {X A : Type 0} (say : X → List A) (rules : List X) (left : ℕ) (rule : X) (some : 0 < left) (within : left ≤ length rules) (is : rule ≡ get_or rules (left - 1) rule) where
   pub rule-says : flat_map say (reverse (take left rules)) ≡ say rule ++ flat_map say (reverse (take (left - 1) rules))
   rule-says =
       let next : left ≡ left - 1 + 1 = omega arith in
       ap (λ k. flat_map say (reverse (take k rules))) next ∙ said-at say rules (left - 1) rule (omega arith) is
 
 -- the directories of a path from its own to the top
-module _ (say : List ℕ → List Assignment) (path : List ℕ) (end : ℕ) (some : 0 < end) where
+module _ {A : Type 0} (say : List ℕ → List A) (path : List ℕ) (end : ℕ) (some : 0 < end) where
   next : end ≡ end - 1 + 1
   next = omega arith
 
@@ -57,7 +55,7 @@ module _ (path : List ℕ) (k : ℕ) where
   at-front none = false_from_ne_true _ (λ h. let some : 0 < k = ltb-true 0 k (and_parts (is_slash (get_or path k 0)) (nat_lt 0 k) h).1 in omega (arith, some, none))
 
 -- at the end the top is asked
-pub top-says : (say : List ℕ → List Assignment) (path : List ℕ) (end : ℕ) → end ≤ 0 → flat_map say (directories_to end path) ≡ say [] ++ []
+pub top-says : {A : Type 0} (say : List ℕ → List A) (path : List ℕ) (end : ℕ) → end ≤ 0 → flat_map say (directories_to end path) ≡ say [] ++ []
 top-says say path end none =
     let zero_is : end ≡ 0 = omega (arith, none) in
     ap (λ k. flat_map say (directories_to k path)) zero_is

@@ -11,7 +11,7 @@ use Rattle.pathspec_attributes.specs.Rules.{Rule}
 use Rattle.pathspec_attributes.specs.Deciding.{Macro, decided_by}
 use Rattle.pathspec_attributes.specs.Readings.{Reading, reading}
 use Rattle.pathspec_attributes.specs.Readings.Reading.{Nothing, Ruling, Defining, Refused}
-use Rattle.pathspec_attributes.specs.Files.{AttributeFile, Files, LeftOut, built_in, file_at, macros_of, said, directories_of, directories_to, left_out_from, macros_in, rules_in, said_by_file, AnswersByOwnDirectories}
+use Rattle.pathspec_attributes.specs.Files.{AttributeFile, Files, LeftOut, built_in, file_at, macros_of, said, directories_of, directories_to, left_out_from, lines_from, macros_in, rules_in, said_by_file, AnswersByOwnDirectories}
 
 -- what the files of directories say, by their files
 same-files : (say : List ℕ → AttributeFile → List Assignment) (one other : List ℕ → AttributeFile) (bases : List (List ℕ)) → map one bases ≡ map other bases → flat_map (λ base. say base (one base)) bases ≡ flat_map (λ base. say base (other base)) bases
@@ -59,6 +59,12 @@ macros-one (Ruling rule) others = refl
 macros-one (Defining name body) others = refl
 macros-one (Refused reason) others = refl
 
+pub lines-one : (n : ℕ) (reading : Reading) (others : List Reading) → lines_from n (reading ∷ others) ≡ lines_from n (reading ∷ []) ++ lines_from (n + 1) others
+lines-one n Nothing others = refl
+lines-one n (Ruling rule) others = refl
+lines-one n (Defining name body) others = refl
+lines-one n (Refused reason) others = refl
+
 pub left_out-one : (n : ℕ) (reading : Reading) (others : List Reading) → left_out_from n (reading ∷ others) ≡ left_out_from n (reading ∷ []) ++ left_out_from (n + 1) others
 left_out-one n Nothing others = refl
 left_out-one n (Ruling rule) others = refl
@@ -84,6 +90,9 @@ module _ (may_define : Bool) (rest line behind text : List ℕ) (said : Reading)
 
   pub line-macros : (whole so_far kept : List Macro) → whole ≡ so_far ++ macros_in (coming rest) → kept ≡ so_far ++ macros_in (said ∷ []) → whole ≡ kept ++ macros_in (coming behind)
   line-macros whole so_far kept h k = kept-more whole so_far (macros_in (said ∷ [])) (macros_in (coming behind)) kept (macros_in (coming rest)) h (ap macros_in next-reading ∙ macros-one said (coming behind)) k
+
+  pub line-lines : (n : ℕ) (whole so_far kept : List ℕ) → whole ≡ so_far ++ lines_from n (coming rest) → kept ≡ so_far ++ lines_from n (said ∷ []) → whole ≡ kept ++ lines_from (n + 1) (coming behind)
+  line-lines n whole so_far kept h k = kept-more whole so_far (lines_from n (said ∷ [])) (lines_from (n + 1) (coming behind)) kept (lines_from n (coming rest)) h (ap (lines_from n) next-reading ∙ lines-one n said (coming behind)) k
 
   pub line-left_out : (n : ℕ) (whole so_far kept : List LeftOut) → whole ≡ so_far ++ left_out_from n (coming rest) → kept ≡ so_far ++ left_out_from n (said ∷ []) → whole ≡ kept ++ left_out_from (n + 1) (coming behind)
   line-left_out n whole so_far kept h k = kept-more whole so_far (left_out_from n (said ∷ [])) (left_out_from (n + 1) (coming behind)) kept (left_out_from n (coming rest)) h (ap (left_out_from n) next-reading ∙ left_out-one n said (coming behind)) k

@@ -18,7 +18,7 @@ use Rattle.pathspec_parts.specs.Outcomes.{NamedState, apply_assignments, set_sta
 use Rattle.pathspec_attributes.specs.declared.deciding.Macros.{Macros}
 use Rattle.pathspec_attributes.specs.declared.deciding.Pending.{Pending}
 use Rattle.pathspec_attributes.specs.declared.reading.Macro.{Macro as Own}
-use Rattle.pathspec_attributes.specs.Deciding.{Macro, body_of, brought_by, expansion, Decides, decided_by}
+use Rattle.pathspec_attributes.specs.Deciding.{Macro, body_of, brought_by, expansion, knows, Decides, decided_by}
 use Rattle.pathspec_attributes.specs.Deciding.Decides.{ends, passes, takes}
 use Rattle.pathspec_attributes.specs.Leading.{Leads, body_at, body_by, body_of_place, body_of_set, pending_of, pending_said, pending_weight, weight_of}
 use Rattle.pathspec_attributes.specs.Views.{macro_view}
@@ -59,6 +59,12 @@ module _ (macros : List Macro) where
   leads-all said marked marked' out out' none first =
       let one = first out [] (record { names = none; states = refl }) in
       one.shows.states ∙ ap (apply_assignments out) (decides_once.one macros said [] one.reached (one.rest one.reached ends))
+
+  -- and just the names that are decided are marked
+  pub leads-marks : (said : List Assignment) (marked marked' : List ℕ → Bool) (out out' : List NamedState) → ((name : List ℕ) → marked name ≡ false) → Leads macros said marked out [] marked' out' → (name : List ℕ) → marked' name ≡ knows (decided_by macros said []) name
+  leads-marks said marked marked' out out' none first name =
+      let one = first out [] (record { names = none; states = refl }) in
+      one.shows.names name ∙ ap (λ (d : List Assignment). knows d name) (decides_once.one macros said [] one.reached (one.rest one.reached ends))
 
 -- ---- one assignment
 

@@ -13,3 +13,5 @@ mod FileRows
 pub mod DirectoryProofs
 pub mod AnswerProofs
 pub mod LawProofs
+pub mod SayingProofs
+pub mod FindingProofs

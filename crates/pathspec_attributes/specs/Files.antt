@@ -14,9 +14,10 @@ use Rattle.pathspec_attributes.specs.Deciding.{Macro, decided_by}
 
 -- ---- a file
 
--- a file: its rules and its macros, each in the order of their lines
+-- a file: its rules with the numbers of their lines, from 1, and its macros, each in the order of their lines
 pub record AttributeFile : Type 0 where
   pub rules : List Rule
+  pub lines : List ℕ
   pub macros : List Macro
 
 -- the rules among what lines say
@@ -27,7 +28,15 @@ rules_in (Ruling rule ∷ readings) = rule ∷ rules_in readings
 rules_in (Defining name body ∷ readings) = rules_in readings
 rules_in (Refused reason ∷ readings) = rules_in readings
 
--- the macros among them
+-- the numbers of their lines, where the first line has this number
+abbrev pub lines_from : ℕ → List Reading → List ℕ
+lines_from n [] = []
+lines_from n (Nothing ∷ readings) = lines_from (n + 1) readings
+lines_from n (Ruling rule ∷ readings) = n ∷ lines_from (n + 1) readings
+lines_from n (Defining name body ∷ readings) = lines_from (n + 1) readings
+lines_from n (Refused reason ∷ readings) = lines_from (n + 1) readings
+
+-- the macros among what lines say
 abbrev pub macros_in : List Reading → List Macro
 macros_in [] = []
 macros_in (Nothing ∷ readings) = macros_in readings
@@ -54,7 +63,11 @@ readings_of may_define text = map (reading may_define) (lines_of text)
 
 -- the file that a text is
 abbrev pub file_of : Bool → List ℕ → AttributeFile
-file_of may_define text = record { rules = rules_in (readings_of may_define text); macros = macros_in (readings_of may_define text) }
+file_of may_define text = record {
+  rules = rules_in (readings_of may_define text);
+  lines = lines_from 1 (readings_of may_define text);
+  macros = macros_in (readings_of may_define text);
+}
 
 -- the lines of a text that are left out
 abbrev pub left_out : Bool → List ℕ → List LeftOut
@@ -62,7 +75,7 @@ left_out may_define text = left_out_from 1 (readings_of may_define text)
 
 -- a file that says nothing
 abbrev pub empty_file : AttributeFile
-empty_file = record { rules = []; macros = [] }
+empty_file = record { rules = []; lines = []; macros = [] }
 
 -- what git has without any file
 unfoldable pub built_in : AttributeFile

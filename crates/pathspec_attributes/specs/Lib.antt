@@ -9,3 +9,4 @@ pub mod Views
 pub mod Marks
 pub mod Leading
 pub mod Laws
+pub mod Sayings

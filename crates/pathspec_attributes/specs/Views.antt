@@ -11,6 +11,7 @@ use Rattle.pathspec_parts.specs.AttributeStates.{assignment_view}
 use Rattle.pathspec_attributes.specs.declared.asking.Asked.{Asked}
 use Rattle.pathspec_attributes.specs.declared.deciding.Macros.{Macros}
 use Rattle.pathspec_attributes.specs.declared.file.File.{File}
+use Rattle.pathspec_attributes.specs.declared.file.RuleLine.{RuleLine}
 use Rattle.pathspec_attributes.specs.declared.marks.Marks.{Marks}
 use Rattle.pathspec_attributes.specs.declared.reading.Macro.{Macro as Own}
 use Rattle.pathspec_attributes.specs.declared.reading.Reading.{Reading as Read}
@@ -21,6 +22,7 @@ use Rattle.pathspec_attributes.specs.Files.{AttributeFile, Directory, Files, Lef
 use Rattle.pathspec_attributes.specs.Marks.{has_number}
 use Rattle.pathspec_attributes.specs.Quoting.{Quoted}
 use Rattle.pathspec_attributes.specs.Readings.{Reading}
+use Rattle.pathspec_attributes.specs.Rules.{Rule}
 use Rattle.pathspec_attributes.specs.Readings.Reading.{Nothing, Ruling, Defining, Refused}
 
 -- what bytes and a rest are
@@ -46,9 +48,21 @@ reading_view (read.Refused reason) = Refused reason
 abbrev pub one_reading : Read → List Reading
 one_reading reading = reading_view reading ∷ []
 
+-- the rule of a `RuleLine`
+abbrev pub rule_in : RuleLine → Rule
+rule_in own = own.rule
+
+-- and the number of its line
+abbrev pub line_in : RuleLine → ℕ
+line_in own = own.line
+
 -- the file that a `File` is
 abbrev pub file_view : File → AttributeFile
-file_view file = record { rules = file.rules.items; macros = map macro_view file.macros.items }
+file_view file = record {
+  rules = map rule_in file.rules.items;
+  lines = map line_in file.rules.items;
+  macros = map macro_view file.macros.items;
+}
 
 -- the files of directories, by their paths
 abbrev pub Directories : Type 0

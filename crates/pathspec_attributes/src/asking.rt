@@ -45,7 +45,7 @@ pub(crate) fn ask_file(
     let mut left = file.rules.len();
     while left > 0 {
         left -= 1;
-        let rule = &file.rules[left];
+        let rule = &file.rules[left].rule;
         if rule.fits(
             asked.alloc,
             asked.case,

@@ -6,17 +6,20 @@ ghost use Rattle.pathspec_glob.specs.declared.Case.{Case};
 ghost use Rattle.pathspec_parts.specs.Outcomes.{apply_assignments, names_of, question_of, reply_of, IsReset};
 ghost use Rattle.bstr.specs.BStr.{bstr_bytes};
 ghost use Rattle.pathspec_attributes.specs.Laws.{LawsOfFiles};
-ghost use Rattle.pathspec_attributes.specs.Files.{built_in, decided, empty_file, file_of, left_out, table_of};
+ghost use Rattle.pathspec_attributes.specs.Files.{built_in, decided, empty_file, file_of, left_out, macros_of, table_of};
 ghost use Rattle.pathspec_attributes.specs.Places.{may_define, no_files, PutsFile, PutsIn};
+ghost use Rattle.pathspec_attributes.specs.Sayings.{rule_at_view, sayings, IsDecider, LawsOfDeciders};
+ghost use Rattle.std.specs.Option.{option_map};
 ghost use Rattle.pathspec_attributes.specs.Views.{asked_files, directories_view, file_in, file_view, left_out_view, macro_view};
 
 use crate::asking::{Asked, ask_directories, ask_file};
 use crate::deciding::Macros;
 use crate::file::{File, ReadFile, read_file};
-use crate::place::Place;
+use crate::place::{Place, RuleAt};
 use crate::reading::Macro;
 use crate::reasons::LeftOut;
 use crate::room::{Room, make_room};
+use crate::sayings::{decider, sayings};
 use bstr::BStr;
 use pathspec_glob::Case;
 use pathspec_parts::attributes::{LookUp, Outcome};
@@ -171,6 +174,38 @@ impl AttributeFiles {
         )
     }
 
+    /// The rule that decides the attribute of a path: the first that sets the name's state, in the order in which rules count. It may
+    /// do so by a macro that it sets. None where no rule speaks of the attribute.
+    ///
+    /// The call takes memory for a reference to each rule that fits, and for each name that is decided before.
+    ///
+    /// # Errors
+    /// Memory runs out.
+    #[tactic(auto, using(crate::proofs::SayingProofs::laws_of_deciders))]
+    pub fn decider<'p>(
+        &self,
+        path: BStr<'p>,
+        is_dir: bool,
+        name: &[u8],
+    ) -> Result<Option<RuleAt<'p>>, AllocError>
+        ensures decider { let text = bstr_bytes path.entry in
+            IfOk result (λ at. IsDecider (macros_of self.now.files)
+            (sayings self.now.files (without_last_slash text) (is_dir || ends_with_slash text))
+            name.now (option_map rule_at_view at)) }
+        // What the rule says of the name is what a question answers.
+        ensures laws { LawsOfDeciders }
+    {
+        let asked = question(self.alloc, self.case, path.as_bytes(), is_dir);
+        decider_among(
+            &asked,
+            &self.info,
+            &self.directories,
+            &self.global,
+            &self.git_file,
+            name,
+        )
+    }
+
     /// Removes the file that is held at a place, if there is one. It takes no memory.
     pub fn remove(&mut self, place: Place<'_>)
         ensures files { PutsFile place.entry empty_file self.old.files self.new.files }
@@ -313,6 +348,35 @@ fn answer(
     ask_file(asked, &macros, &[], info, room, out)?;
     ask_directories(asked, &macros, directories, room, out)?;
     ask_file(asked, &macros, &[], global, room, out)
+}
+
+/// The rule among those of files that decides an attribute of a path. Git's own file has its macros.
+///
+/// # Errors
+/// Memory runs out.
+fn decider_among<'p>(
+    asked: &Asked<'p>,
+    info: &File,
+    directories: &BTreeMap<Vec<u8>, File>,
+    global: &File,
+    own: &File,
+    name: &[u8],
+) -> Result<Option<RuleAt<'p>>, AllocError>
+    requires { file_view own.now ≡ built_in }
+    ensures { let files = asked_files asked.now (file_view info.now)
+        (directories_view directories.now) (file_view global.now) in
+        IfOk result (λ at. IsDecider (macros_of files)
+        (sayings files asked.now.path.now asked.now.is_dir) name.now (option_map rule_at_view at)) }
+{
+    let macros = Macros {
+        info: info.macros.as_slice(),
+        top: top_macros(directories),
+        global: global.macros.as_slice(),
+        built_in: own.macros.as_slice(),
+    };
+    let mut room = Room::new(asked.alloc)?;
+    let found = sayings(asked, info, directories, global, &mut room.scratch)?;
+    decider(asked.alloc, &macros, &found, name, &mut room)
 }
 
 impl LookUp for AttributeFiles {

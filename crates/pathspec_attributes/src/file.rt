@@ -1,7 +1,7 @@
 //! A file of attributes, read line by line.
 ghost use Rattle.std.specs.Prelude.{◌≡◌, ◌++◌, [], map, OnOk, IfOk};
-ghost use Rattle.pathspec_attributes.specs.Files.{file_of, left_out, left_out_from, macros_in, rules_in};
-ghost use Rattle.pathspec_attributes.specs.Views.{file_view, left_out_view, macro_view, one_reading};
+ghost use Rattle.pathspec_attributes.specs.Files.{empty_file, file_of, left_out, left_out_from, lines_from, macros_in, rules_in};
+ghost use Rattle.pathspec_attributes.specs.Views.{file_view, left_out_view, line_in, macro_view, one_reading, rule_in};
 
 use crate::lines::{before_nul, next_line, without_order_mark};
 use crate::reading::{Macro, Reading, read_line};
@@ -9,10 +9,17 @@ use crate::reasons::LeftOut;
 use crate::rule::Rule;
 use std::alloc::{AllocError, Global};
 
+/// A rule, and the number of its line, from 1.
+#[derive(Debug, Drop)]
+pub(crate) struct RuleLine {
+    pub line: usize,
+    pub rule: Rule,
+}
+
 /// The rules and the macros of a file, each in the order of their lines.
 #[derive(Debug, Drop)]
 pub(crate) struct File {
-    pub rules: Vec<Rule>,
+    pub rules: Vec<RuleLine>,
     pub macros: Vec<Macro>,
 }
 
@@ -26,7 +33,7 @@ pub(crate) struct ReadFile {
 impl File {
     /// Makes a file that says nothing. It takes no memory.
     pub fn new(alloc: Global) -> File
-        ensures { file_view result ≡ record { rules = []; macros = [] } }
+        ensures { file_view result ≡ empty_file }
     {
         File {
             rules: Vec::new(alloc),
@@ -70,8 +77,10 @@ pub(crate) fn read_file(
 /// # Errors
 /// Memory runs out.
 fn keep(read: &mut ReadFile, number: usize, reading: Reading) -> Result<(), AllocError>
-    ensures rules { OnOk result (read.new.file.rules.items
-        ≡ read.old.file.rules.items ++ rules_in (one_reading reading)) }
+    ensures rules { OnOk result (map rule_in read.new.file.rules.items
+        ≡ map rule_in read.old.file.rules.items ++ rules_in (one_reading reading)) }
+    ensures lines { OnOk result (map line_in read.new.file.rules.items
+        ≡ map line_in read.old.file.rules.items ++ lines_from number (one_reading reading)) }
     ensures macros { OnOk result (map macro_view read.new.file.macros.items
         ≡ map macro_view read.old.file.macros.items ++ macros_in (one_reading reading)) }
     ensures left_out { OnOk result (map left_out_view read.new.left_out.items
@@ -79,7 +88,7 @@ fn keep(read: &mut ReadFile, number: usize, reading: Reading) -> Result<(), Allo
 {
     match reading {
         Reading::Nothing => {}
-        Reading::Ruling(rule) => read.file.rules.push(rule)?,
+        Reading::Ruling(rule) => read.file.rules.push(RuleLine { line: number, rule })?,
         Reading::Defining(own) => read.file.macros.push(own)?,
         Reading::Refused(reason) => read.left_out.push(LeftOut {
             line: number,

@@ -15,9 +15,10 @@ mod reading;
 mod reasons;
 mod room;
 mod rule;
+mod sayings;
 
 pub use attribute_files::{AttributeFiles, BorrowedFiles};
-pub use place::Place;
+pub use place::{Place, RuleAt};
 pub use quoting::unquote;
 pub use reasons::{LeftOut, Reason};
 pub use room::Room;

@@ -1,5 +1,6 @@
 //! The names of attributes that a question has decided.
 ghost use Rattle.std.specs.Prelude.{◌≡◌, ◌||◌, not, false, List, ℕ, bytes_eq, Some, IfOk, OnOk, OnErr, if◌then◌else◌};
+ghost use Rattle.std.specs.BTreeMap.{btree_map_len};
 ghost use Rattle.pathspec_attributes.specs.Marks.{number_of, AreUpTo};
 
 use std::alloc::{AllocError, Global};
@@ -29,7 +30,9 @@ impl Marks {
     }
 
     /// The count of names for which there is room.
-    pub fn len(&self) -> usize {
+    pub fn len(&self) -> usize
+        ensures { result ≡ btree_map_len self.now.numbers }
+    {
         self.numbers.len()
     }
 
@@ -56,6 +59,16 @@ impl Marks {
         match put_number(alloc, &mut self.numbers, name, self.number)? {
             Some(was) => Ok(was != self.number),
             None => Ok(true),
+        }
+    }
+
+    /// Whether a name is marked.
+    pub fn is_marked(&self, name: &[u8]) -> bool
+        ensures { result ≡ marked self.now name.now }
+    {
+        match self.numbers.get(name) {
+            Some(own) => *own == self.number,
+            None => false,
         }
     }
 

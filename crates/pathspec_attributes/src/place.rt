@@ -10,3 +10,12 @@ pub enum Place<'a> {
     /// The file `info/attributes` of a repository. It counts over every other file.
     Info,
 }
+
+/// Where a rule stands.
+#[derive(Clone, Copy, Debug, PartialEq, Eq)]
+pub struct RuleAt<'a> {
+    /// The place of its file.
+    pub place: Place<'a>,
+    /// The number of its line, from 1.
+    pub line: usize,
+}

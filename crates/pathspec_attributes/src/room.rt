@@ -40,9 +40,9 @@ impl Room {
 /// # Errors
 /// Memory runs out.
 pub(crate) fn make_room(alloc: Global, file: &File, room: &mut Room) -> Result<(), AllocError> {
-    for rule in &file.rules {
-        rule.make_room(alloc, &mut room.scratch)?;
-        mark_room(alloc, rule.assignments(), room)?;
+    for own in &file.rules {
+        own.rule.make_room(alloc, &mut room.scratch)?;
+        mark_room(alloc, own.rule.assignments(), room)?;
     }
     for own in &file.macros {
         mark_room(alloc, own.body.as_slice(), room)?;

@@ -1,6 +1,7 @@
 //! Each growth refused in turn, of calls on attribute files.
 use crate::answers::{OF_ABC, has_state, manual, outcome};
-use pathspec_attributes::{AttributeFiles, Place};
+use bstr::BStr;
+use pathspec_attributes::{AttributeFiles, Place, RuleAt};
 use pathspec_parts::attributes::{Outcome, StateRef};
 use pathspec_test_support::growths::{Call, Calls, Makes, Making, assert_calls};
 use pathspec_test_support::look_ups::{ask, has_states};
@@ -42,6 +43,7 @@ enum FileCall {
     Add,
     /// Adds a file in place of another.
     Replace,
+    Decide,
 }
 
 impl Call for FileCall {
@@ -75,6 +77,16 @@ impl Call for FileCall {
                 ask(files, "t/abc", found)?;
                 Ok(has_state(found, 1, StateRef::Set))
             }
+            FileCall::Decide => {
+                let found = files.decider(BStr::new(b"t/abc"), false, b"merge")?;
+                Ok(
+                    found
+                        == Some(RuleAt {
+                            place: Place::Directory(b"t"),
+                            line: 1,
+                        }),
+                )
+            }
         }
     }
 }
@@ -87,6 +99,7 @@ fn files_answer_or_memory_ran_out(rt: HostRuntime) -> Result<(), Fail> {
             Calls(FileCall::Ask),
             Calls(FileCall::Add),
             Calls(FileCall::Replace),
+            Calls(FileCall::Decide),
         ],
     )
 }

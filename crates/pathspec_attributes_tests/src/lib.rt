@@ -4,6 +4,8 @@
 #[cfg(test)]
 mod answers;
 #[cfg(test)]
+mod deciders;
+#[cfg(test)]
 mod growths_of_files;
 #[cfg(test)]
 mod told;
