@@ -45,10 +45,6 @@ pub ended-folded : (f : Bool) (x d : List ℕ) (i : ℕ) → i < length d → le
 ended-folded false x d i l k = rw add-one (ended x d i l k)
 ended-folded true x d i l k = rw add-one (ended (fold_case true x) (fold_case true d) i (rw (length-map d to_ascii_lowercase) l) (rw (length-map x to_ascii_lowercase) k))
 
--- nothing of a text begins each path
-pub begins-none : (f : Bool) (x d : List ℕ) → begins_with (fold_case f x) (take 0 (fold_case f d)) ≡ true
-begins-none f x d = refl
-
 pub length-folded : (f : Bool) (x : List ℕ) → length (fold_case f x) ≡ length x
 length-folded true x = length-map x to_ascii_lowercase
 length-folded false x = refl

@@ -1,5 +1,5 @@
 -- What a reason tells of its spec.
-use Rattle.std.proofs.Common.{◌≡◌, ℕ, Bool, true, false, not, ◌&&◌, ◌||◌, cond, refl, sym, ◌∙◌, ap, subst, List, [], ◌∷◌, ◌++◌, slice_get, ◌⊎◌, inl, inr, Option, Some, None, IsTrue, IsFalse}
+use Rattle.std.proofs.Common.{◌≡◌, ℕ, Bool, true, false, not, ◌&&◌, ◌||◌, cond, refl, sym, ◌∙◌, ap, subst, List, [], ◌∷◌, ◌++◌, slice_get, inl, inr, Option, Some, None, IsTrue, IsFalse}
 use Rattle.std.proofs.lemmas.Bool.{and_parts, both_ways, false_from_ne_true}
 use Rattle.std.proofs.Math.Bool.{and-false}
 use Rattle.std.specs.Prelude.{bytes_eq, IfSome, MatchOption}
@@ -11,7 +11,7 @@ use Rattle.gix_pathspec.specs.Attributes.{Table, Assignment}
 use Rattle.gix_pathspec.specs.Specs.{Spec, ignores_case, wants_directory, always_matches, has_wildcard, is_glob, is_literal, prefix_directory}
 use Rattle.gix_pathspec.specs.Matching.{fit, fits, is_in_prefix_directory, glob_matches, is_glob_match, is_verbatim_match, is_prefix_match, question, has_attributes, spec_matches}
 use Rattle.gix_pathspec.specs.Prefixes.{stem}
-use Rattle.gix_pathspec.proofs.BeginsProofs.{one_of_four, which_of_four}
+use Rattle.gix_pathspec.proofs.BeginsProofs.{one_of_four}
 use Rattle.gix_pathspec.proofs.MatchingProofs.{fit-lost}
 use Rattle.pathspec_explain.specs.Parting.{PartsAt}
 use Rattle.pathspec_explain.specs.Reasons.{IsReason, DifferAt, without_case, front_asked, is_match}
@@ -92,11 +92,6 @@ module _ (s : Spec) (path : List ℕ) (unfit : fit s path true ≡ None) (inside
 
 -- ---- the steps of an explanation
 
--- where a spec would fit a path as a directory alone, the path is a file
-pub only_file : (s : Spec) (path : List ℕ) (is_dir : Bool) (kind : MatchKind) → fit s path is_dir ≡ None → fit s path true ≡ Some kind → (is_dir ≡ false) × (fit s path false ≡ None)
-only_file s path true kind n f = cc
-only_file s path false kind n f = (refl, n)
-
 -- a way in which a spec for which case counts would fit without case
 pub cased : (s t : Spec) (path : List ℕ) (is_dir : Bool) (r : Option MatchKind) → t ≡ without_case s → ignores_case s ≡ false → r ≡ fit t path is_dir → IfSome r (λ kind. IsFalse (ignores_case s) × (fit (without_case s) path is_dir ≡ Some kind))
 cased s t path is_dir None same i e = tt
@@ -113,23 +108,6 @@ pub outside-told : (s : Spec) (path : List ℕ) (is_dir : Bool) (r : Option ℕ)
 outside-told s path is_dir r dir p e w lost h =
     outside s path is_dir r lost
     (subst (λ x. MatchOption r (IsTrue (is_below path x)) (PartsAt (x ++ slash ∷ []) path)) e (subst (λ x. MatchOption r (IsTrue (is_below x dir)) (PartsAt (dir ++ slash ∷ []) x)) w h))
-
--- a directory is in the prefix directory where a file is
-pub inside-directory : (s : Spec) (path : List ℕ) (is_dir : Bool) → is_in_prefix_directory s path is_dir ≡ true → is_in_prefix_directory s path true ≡ true
-inside-directory s path true h = h
-inside-directory s path false h = elim (which_of_four (not (ignores_case s)) (is_empty (prefix_directory s)) (is_below path (prefix_directory s)) (bytes_eq path (prefix_directory s) && false) h) [
-  | inl a ↦ four (inl a)
-  | inr r ↦ elim r [
-    | inl b ↦ four (inr (inl b))
-    | inr q ↦ elim q [
-      | inl c ↦ four (inr (inr (inl c)))
-      | inr d ↦ absurd (both_ways (bytes_eq path (prefix_directory s) && false) (and-false (bytes_eq path (prefix_directory s))) d)
-    ]
-  ]
-]
-  where
-    four : (not (ignores_case s) ≡ true) ⊎ ((is_empty (prefix_directory s) ≡ true) ⊎ ((is_below path (prefix_directory s) ≡ true) ⊎ ((bytes_eq path (prefix_directory s) && true) ≡ true))) → is_in_prefix_directory s path true ≡ true
-    four h = one_of_four (not (ignores_case s)) (is_empty (prefix_directory s)) (is_below path (prefix_directory s)) (bytes_eq path (prefix_directory s) && true) h
 
 -- what a glob's path has to begin with, and another spec's
 pub parts-glob : (s : Spec) (path : List ℕ) (at : ℕ) (f : Bool) (front p : List ℕ) → f ≡ ignores_case s → is_glob s ≡ true → front ≡ stem s → p ≡ path → PartsAt (fold_case f front) (fold_case f p) at

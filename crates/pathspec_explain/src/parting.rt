@@ -57,7 +57,7 @@ pub(crate) fn parting_below(directory: &[u8], path: &[u8], ignore_case: bool) ->
     }
 }
 
-/// The same where the directory's path begins the path.
+/// The place where a path that begins with a directory's path parts from that path and a slash. None where it lies below.
 fn parting_behind(directory: &[u8], path: &[u8], ignore_case: bool) -> Option<usize>
     requires { begins_with (fold_case ignore_case path.now) (fold_case ignore_case directory.now)
         ≡ true }

@@ -127,7 +127,7 @@ fn where_it_parts(pattern: &Pattern, path: BStr<'_>) -> Reason
     }
 }
 
-/// The same of a pattern with a glob: the path parts from its stem, or the glob fails.
+/// Where a path parts from the stem of a pattern with a glob that doesn't match it; else the glob alone fails.
 fn where_glob_parts(pattern: &Pattern, path: BStr<'_>) -> Reason
     requires glob { is_glob (pattern_spec pattern.now) ≡ true }
     requires unfit { fit (pattern_spec pattern.now) (bstr_bytes path) true ≡ None }
@@ -143,7 +143,7 @@ fn where_glob_parts(pattern: &Pattern, path: BStr<'_>) -> Reason
     }
 }
 
-/// The same of a pattern without a glob: the path parts from its path and a slash.
+/// Where a path parts from the path, and a slash, of a pattern without a glob that doesn't match it.
 fn where_text_parts(pattern: &Pattern, path: BStr<'_>) -> Reason
     requires text { is_glob (pattern_spec pattern.now) ≡ false }
     requires unfit { fit (pattern_spec pattern.now) (bstr_bytes path) true ≡ None }

@@ -1,15 +1,13 @@
--- One text after the other, and one byte after the other.
-use Rattle.std.proofs.Common.{◌≡◌, ℕ, ◌+◌, ◌-◌, ◌<◌, Bool, true, false, not, ◌&&◌, refl, sym, ◌∙◌, ap, List, ◌∷◌, length, take, drop, Option, Some, None, is_some, ◌==◌, get_or, arith}
+-- One text after the other.
+use Rattle.std.proofs.Common.{◌≡◌, ℕ, ◌+◌, ◌-◌, ◌<◌, true, false, refl, sym, ◌∙◌, ap, List, length, take, drop, Option, Some, None, is_some, arith}
 use Rattle.std.proofs.lemmas.Bool.{false≢true}
 use Rattle.std.proofs.lemmas.List.{take-append-drop, length-append, length-drop}
-use Rattle.std.proofs.Math.Seq.{drop-cons}
 use Rattle.std.proofs.Math.Numerals.{add-one}
 use Rattle.std.specs.List.{list_any, position_or_len, slice_split}
 use Rattle.std.specs.Option.{option_or}
 use Rattle.std.specs.declared.ops.Range.{Range}
-use Rattle.pathspec_parts.specs.Bytes.{backslash}
 use Rattle.pathspec_pattern.specs.Reading.{IsFirstCut, IsOnlyPiece, long_pieces_from}
-use Rattle.pathspec_faults.specs.Places.{Wanted, bytes_from, first_place, is_space, place_of_byte, place_in_part, place_in_list, place_in_piece, place_in_pieces}
+use Rattle.pathspec_faults.specs.Places.{Wanted, first_place, is_space, place_in_part, place_in_list, place_in_piece, place_in_pieces}
 use Rattle.pathspec_faults.proofs.FoundProofs.{before_length}
 use Rattle.pathspec_faults.proofs.PositionProofs.{split_none, split_any}
 
@@ -68,31 +66,3 @@ module _ (w : Wanted) (from : ℕ) (rest : List ℕ) where
 
   pub parts_last : list_any is_space rest ≡ false → place_in_part w from rest ≡ place_in_list w from rest
   parts_last none = sym (ap (first_place (place_in_part w) from) (split_none is_space rest none) ∙ or_last (place_in_part w from rest))
-
--- ---- one byte of a value
-
-byte_skip : (wanted n b : ℕ) (e : Bool) (bs : List ℕ) → (b == backslash && not e) ≡ true → place_of_byte wanted e n (b ∷ bs) ≡ place_of_byte wanted true (n + 1) bs
-byte_skip wanted n b e bs s = rw s refl
-
-byte_hit : (wanted n b : ℕ) (e : Bool) (bs : List ℕ) → (b == backslash && not e) ≡ false → (b == wanted) ≡ true → place_of_byte wanted e n (b ∷ bs) ≡ Some (bytes_from n 1)
-byte_hit wanted n b e bs s y = rw (s, y) refl
-
-byte_miss : (wanted n b : ℕ) (e : Bool) (bs : List ℕ) → (b == backslash && not e) ≡ false → (b == wanted) ≡ false → place_of_byte wanted e n (b ∷ bs) ≡ place_of_byte wanted false (n + 1) bs
-byte_miss wanted n b e bs s y = rw (s, y) refl
-
--- the byte at a place, after a backslash that escapes or not
-module _ (wanted start at : ℕ) (e : Bool) (value : List ℕ) (l : at < length value) where
-  here : place_of_byte wanted e (start + at) (drop at value) ≡ place_of_byte wanted e (start + at) (get_or value at 0 ∷ drop (at + 1) value)
-  here = rw (add-one, drop-cons value at 0 l) refl
-
-  further : (escapes : Bool) → place_of_byte wanted escapes (start + (at + 1)) (drop (at + 1) value) ≡ place_of_byte wanted escapes (start + at + 1) (drop (at + 1) value)
-  further escapes = ap (λ n. place_of_byte wanted escapes n (drop (at + 1) value)) (let it : start + (at + 1) ≡ start + at + 1 = omega arith in it)
-
-  pub byte_skipped : (get_or value at 0 == backslash && not e) ≡ true → place_of_byte wanted true (start + (at + 1)) (drop (at + 1) value) ≡ place_of_byte wanted e (start + at) (drop at value)
-  byte_skipped s = further true ∙ sym (here ∙ byte_skip wanted (start + at) (get_or value at 0) e (drop (at + 1) value) s)
-
-  pub byte_found : (get_or value at 0 == backslash && not e) ≡ false → (get_or value at 0 == wanted) ≡ true → Some (bytes_from (start + at) 1) ≡ place_of_byte wanted e (start + at) (drop at value)
-  byte_found s y = sym (here ∙ byte_hit wanted (start + at) (get_or value at 0) e (drop (at + 1) value) s y)
-
-  pub byte_missed : (get_or value at 0 == backslash && not e) ≡ false → (get_or value at 0 == wanted) ≡ false → place_of_byte wanted false (start + (at + 1)) (drop (at + 1) value) ≡ place_of_byte wanted e (start + at) (drop at value)
-  byte_missed s y = further false ∙ sym (here ∙ byte_miss wanted (start + at) (get_or value at 0) e (drop (at + 1) value) s y)

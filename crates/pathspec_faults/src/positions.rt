@@ -11,7 +11,7 @@ pub(crate) fn position_of(text: &[u8], byte: u8) -> Option<usize>
     first_position(text, byte)
 }
 
-/// The same, in the words of the iterator.
+/// The position of the first byte of a kind, as the contract of the iterator's `position` names it.
 fn first_position(text: &[u8], byte: u8) -> Option<usize>
     ensures { result ≡ position (λ b. b == byte) text.now }
 {
