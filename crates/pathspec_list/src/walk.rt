@@ -77,21 +77,24 @@ pub fn walk_selected<D: Directories, L: LookUp, V: Visitor<D::Fault>>(
         Ok(scratch) => scratch,
         Err(AllocError) => return Err(ListError::Memory),
     };
+    let walker = Walker {
+        alloc,
+        search,
+        with_directories,
+    };
     let mut pending = Vec::new(alloc);
     open_top(alloc, directories, visitor, &mut pending)?;
     'paths: for _ in 0..u64::MAX {
         let Some(path) = pending.pop() else {
             return Ok(());
         };
-        visit(
-            alloc,
+        let path = path.as_slice();
+        walker.visit(
             directories,
-            search,
-            with_directories,
             &mut scratch,
             look_up,
             visitor,
-            path.as_slice(),
+            path,
             &mut pending,
         )?;
     }
@@ -135,130 +138,148 @@ fn open_top<D: Directories, F, V: Visitor<D::Fault>>(
     }
 }
 
-/// Visits a path: gives it if it is listed, and opens what stands there if it is a directory that may not be skipped.
-fn visit<D: Directories, L: LookUp, V: Visitor<D::Fault>>(
+/// What a walk works with: the allocator for its stack, and what it lists, what a search selects, with directories or without.
+#[derive(Clone, Copy)]
+struct Walker<'a> {
     alloc: Global,
-    directories: &mut D,
-    search: &Search,
+    search: &'a Search,
     with_directories: bool,
-    scratch: &mut Scratch,
-    look_up: &mut L,
-    visitor: &mut V,
-    path: &[u8],
-    pending: &mut Vec<Vec<u8>>,
-) -> Result<(), ListError<L::Fault, V::Stop>>
-    requires { Fits search.now.specs scratch.old }
-    ensures visited { OfTree (D.tree directories.old) (λ es. OnOk result (
-        IsVisit (is_listed with_directories (L.table look_up.old) (specs_of search.now.specs))
-        (can_hold (specs_of search.now.specs)) es path.now
-        (course (V.given visitor.old) (V.told visitor.old) (D.opened directories.old)
-        (map (λ v. v.items) pending.old.items))
-        (course (V.given visitor.new) (V.told visitor.new) (D.opened directories.new)
-        (map (λ v. v.items) pending.new.items)))) }
-    ensures ended { OfTree (D.tree directories.old) (λ es. OnErr result (
-        GivesAtMost (is_listed with_directories (L.table look_up.old) (specs_of search.now.specs)) es
-        path.now (V.given visitor.old) (V.given visitor.new))) }
-    ensures room { scratch.new.room ≡ scratch.old.room }
-    ensures tree_stays { D.tree directories.new ≡ D.tree directories.old }
-    ensures table_stays { L.table look_up.new ≡ L.table look_up.old }
-{
-    if search.may_skip(BStr::new(path), scratch) {
-        return visit_skipped(
-            directories,
-            search,
-            with_directories,
-            scratch,
-            look_up,
-            visitor,
-            path,
-        );
-    }
-    match directories.open(path) {
-        Ok(Some(names)) => {
-            give_if_listed(
-                search,
-                with_directories,
-                scratch,
-                look_up,
-                visitor,
-                path,
-                true,
-            )?;
-            match push_names(alloc, pending, path, names) {
-                Ok(()) => Ok(()),
-                Err(AllocError) => Err(ListError::Memory),
-            }
+}
+
+impl Walker<'_> {
+    /// Visits a path: gives it if it is listed, and opens what stands there if it is a directory that may not be skipped.
+    fn visit<D: Directories, L: LookUp, V: Visitor<D::Fault>>(
+        &self,
+        directories: &mut D,
+        scratch: &mut Scratch,
+        look_up: &mut L,
+        visitor: &mut V,
+        path: &[u8],
+        pending: &mut Vec<Vec<u8>>,
+    ) -> Result<(), ListError<L::Fault, V::Stop>>
+        requires { Fits self.now.search.now.specs scratch.old }
+        ensures visited { OfTree (D.tree directories.old) (λ es. OnOk result (
+            IsVisit
+            (is_listed self.now.with_directories (L.table look_up.old) (specs_of self.now.search.now.specs))
+            (can_hold (specs_of self.now.search.now.specs)) es path.now
+            (course (V.given visitor.old) (V.told visitor.old) (D.opened directories.old)
+            (map (λ v. v.items) pending.old.items))
+            (course (V.given visitor.new) (V.told visitor.new) (D.opened directories.new)
+            (map (λ v. v.items) pending.new.items)))) }
+        ensures ended { OfTree (D.tree directories.old) (λ es. OnErr result (
+            GivesAtMost
+            (is_listed self.now.with_directories (L.table look_up.old) (specs_of self.now.search.now.specs))
+            es path.now (V.given visitor.old) (V.given visitor.new))) }
+        ensures room { scratch.new.room ≡ scratch.old.room }
+        ensures tree_stays { D.tree directories.new ≡ D.tree directories.old }
+        ensures table_stays { L.table look_up.new ≡ L.table look_up.old }
+    {
+        if self.search.may_skip(BStr::new(path), scratch) {
+            return self.visit_skipped(directories, scratch, look_up, visitor, path);
         }
-        Ok(None) => give_if_listed(
-            search,
-            with_directories,
-            scratch,
-            look_up,
-            visitor,
-            path,
-            false,
-        ),
-        Err(fault) => tell(visitor, path, fault),
+        match directories.open(path) {
+            Ok(Some(names)) => {
+                self.give_if_listed(scratch, look_up, visitor, path, true)?;
+                match push_names(self.alloc, pending, path, names) {
+                    Ok(()) => Ok(()),
+                    Err(AllocError) => Err(ListError::Memory),
+                }
+            }
+            Ok(None) => self.give_if_listed(scratch, look_up, visitor, path, false),
+            Err(fault) => tell(visitor, path, fault),
+        }
     }
-}
 
-/// Visits a path that is not to be opened. What stands there is asked only if it can be listed.
-fn visit_skipped<D: Directories, L: LookUp, V: Visitor<D::Fault>>(
-    directories: &mut D,
-    search: &Search,
-    with_directories: bool,
-    scratch: &mut Scratch,
-    look_up: &mut L,
-    visitor: &mut V,
-    path: &[u8],
-) -> Result<(), ListError<L::Fault, V::Stop>>
-    requires { Fits search.now.specs scratch.old }
-    ensures visited { OfTree (D.tree directories.old) (λ es. OnOk result (
-        IsLook (is_listed with_directories (L.table look_up.old) (specs_of search.now.specs)) es path.now
-        (V.given visitor.old) (V.told visitor.old) (V.given visitor.new) (V.told visitor.new))) }
-    ensures ended { OfTree (D.tree directories.old) (λ es. OnErr result (
-        GivesAtMost (is_listed with_directories (L.table look_up.old) (specs_of search.now.specs)) es
-        path.now (V.given visitor.old) (V.given visitor.new))) }
-    ensures room { scratch.new.room ≡ scratch.old.room }
-    ensures opened { D.opened directories.new ≡ D.opened directories.old }
-    ensures tree_stays { D.tree directories.new ≡ D.tree directories.old }
-    ensures table_stays { L.table look_up.new ≡ L.table look_up.old }
-{
-    let file = is_listed(search, with_directories, scratch, look_up, path, false)?;
-    let directory = is_listed(search, with_directories, scratch, look_up, path, true)?;
-    if !file && !directory {
-        return Ok(());
+    /// Visits a path that is not to be opened. What stands there is asked only if it can be listed.
+    fn visit_skipped<D: Directories, L: LookUp, V: Visitor<D::Fault>>(
+        &self,
+        directories: &mut D,
+        scratch: &mut Scratch,
+        look_up: &mut L,
+        visitor: &mut V,
+        path: &[u8],
+    ) -> Result<(), ListError<L::Fault, V::Stop>>
+        requires { Fits self.now.search.now.specs scratch.old }
+        ensures visited { OfTree (D.tree directories.old) (λ es. OnOk result (
+            IsLook
+            (is_listed self.now.with_directories (L.table look_up.old) (specs_of self.now.search.now.specs))
+            es path.now (V.given visitor.old) (V.told visitor.old) (V.given visitor.new) (V.told visitor.new))) }
+        ensures ended { OfTree (D.tree directories.old) (λ es. OnErr result (
+            GivesAtMost
+            (is_listed self.now.with_directories (L.table look_up.old) (specs_of self.now.search.now.specs))
+            es path.now (V.given visitor.old) (V.given visitor.new))) }
+        ensures room { scratch.new.room ≡ scratch.old.room }
+        ensures opened { D.opened directories.new ≡ D.opened directories.old }
+        ensures tree_stays { D.tree directories.new ≡ D.tree directories.old }
+        ensures table_stays { L.table look_up.new ≡ L.table look_up.old }
+    {
+        let file = self.lists(scratch, look_up, path, false)?;
+        let directory = self.lists(scratch, look_up, path, true)?;
+        if !file && !directory {
+            return Ok(());
+        }
+        match directories.is_dir(path) {
+            Ok(is_dir) => give_if(if is_dir { directory } else { file }, visitor, path, is_dir),
+            Err(unseen) => tell(visitor, path, unseen),
+        }
     }
-    match directories.is_dir(path) {
-        Ok(is_dir) => give_if(if is_dir { directory } else { file }, visitor, path, is_dir),
-        Err(unseen) => tell(visitor, path, unseen),
-    }
-}
 
-/// Gives a path if it is listed.
-fn give_if_listed<F, L: LookUp, V: Visitor<F>>(
-    search: &Search,
-    with_directories: bool,
-    scratch: &mut Scratch,
-    look_up: &mut L,
-    visitor: &mut V,
-    path: &[u8],
-    is_dir: bool,
-) -> Result<(), ListError<L::Fault, V::Stop>>
-    requires { Fits search.now.specs scratch.old }
-    ensures given { OnOk result (path.now ≢ [] →
-        V.given visitor.new ≡ path_if (is_listed with_directories
-        (L.table look_up.old) (specs_of search.now.specs) path.now is_dir)
-        path.now (V.given visitor.old)) }
-    ensures ended { OnErr result (path.now ≢ [] → MayGive (is_listed with_directories
-        (L.table look_up.old) (specs_of search.now.specs) path.now is_dir)
-        path.now (V.given visitor.old) (V.given visitor.new)) }
-    ensures room { scratch.new.room ≡ scratch.old.room }
-    ensures told { V.told visitor.new ≡ V.told visitor.old }
-    ensures table_stays { L.table look_up.new ≡ L.table look_up.old }
-{
-    let listed = is_listed(search, with_directories, scratch, look_up, path, is_dir)?;
-    give_if(listed, visitor, path, is_dir)
+    /// Gives a path if it is listed.
+    fn give_if_listed<F, L: LookUp, V: Visitor<F>>(
+        &self,
+        scratch: &mut Scratch,
+        look_up: &mut L,
+        visitor: &mut V,
+        path: &[u8],
+        is_dir: bool,
+    ) -> Result<(), ListError<L::Fault, V::Stop>>
+        requires { Fits self.now.search.now.specs scratch.old }
+        ensures given { OnOk result (path.now ≢ [] →
+            V.given visitor.new ≡ path_if (is_listed self.now.with_directories
+            (L.table look_up.old) (specs_of self.now.search.now.specs) path.now is_dir)
+            path.now (V.given visitor.old)) }
+        ensures ended { OnErr result (path.now ≢ [] → MayGive
+            (is_listed self.now.with_directories
+            (L.table look_up.old) (specs_of self.now.search.now.specs) path.now is_dir)
+            path.now (V.given visitor.old) (V.given visitor.new)) }
+        ensures room { scratch.new.room ≡ scratch.old.room }
+        ensures told { V.told visitor.new ≡ V.told visitor.old }
+        ensures table_stays { L.table look_up.new ≡ L.table look_up.old }
+    {
+        let listed = self.lists(scratch, look_up, path, is_dir)?;
+        give_if(listed, visitor, path, is_dir)
+    }
+
+    /// Whether a path is listed.
+    ///
+    /// # Errors
+    /// The look-up's fault.
+    fn lists<L: LookUp, S>(
+        &self,
+        scratch: &mut Scratch,
+        look_up: &mut L,
+        path: &[u8],
+        is_dir: bool,
+    ) -> Result<bool, ListError<L::Fault, S>>
+        requires { Fits self.now.search.now.specs scratch.old }
+        ensures listed { IfOk result (λ listed. path.now ≢ [] →
+            listed ≡ is_listed self.now.with_directories
+            (L.table look_up.old) (specs_of self.now.search.now.specs) path.now is_dir) }
+        ensures room { scratch.new.room ≡ scratch.old.room }
+        ensures table_stays { L.table look_up.new ≡ L.table look_up.old }
+    {
+        if is_dir && !self.with_directories {
+            return Ok(false);
+        }
+        let path = BStr::new(path);
+        match self
+            .search
+            .is_selected(path, Some(is_dir), scratch, look_up)
+        {
+            Ok(is_selected) => Ok(is_selected),
+            Err(fault) => Err(ListError::LookUp(fault)),
+        }
+    }
 }
 
 /// Gives a path, or doesn't.
@@ -295,33 +316,6 @@ fn tell<F, E, V: Visitor<F>>(
     match visitor.tell(path, fault) {
         Ok(()) => Ok(()),
         Err(stop) => Err(ListError::Stopped(stop)),
-    }
-}
-
-/// Whether a path is listed.
-///
-/// # Errors
-/// The look-up's fault.
-fn is_listed<L: LookUp, S>(
-    search: &Search,
-    with_directories: bool,
-    scratch: &mut Scratch,
-    look_up: &mut L,
-    path: &[u8],
-    is_dir: bool,
-) -> Result<bool, ListError<L::Fault, S>>
-    requires { Fits search.now.specs scratch.old }
-    ensures listed { IfOk result (λ listed. path.now ≢ [] → listed ≡ is_listed with_directories
-        (L.table look_up.old) (specs_of search.now.specs) path.now is_dir) }
-    ensures room { scratch.new.room ≡ scratch.old.room }
-    ensures table_stays { L.table look_up.new ≡ L.table look_up.old }
-{
-    if is_dir && !with_directories {
-        return Ok(false);
-    }
-    match search.is_selected(BStr::new(path), Some(is_dir), scratch, look_up) {
-        Ok(is_selected) => Ok(is_selected),
-        Err(fault) => Err(ListError::LookUp(fault)),
     }
 }
 

@@ -57,7 +57,7 @@ returns-in_err-visit-clause-part g c = λ es known.
     let here = course (g.V.Visitor.given c.paths.visitor) (g.V.Visitor.told c.paths.visitor) (g.D.Directories.opened c.paths.directories) (texts c.paths.pending.items) in
     course_ends (is_listed c.args.with_directories table specs) (can_hold specs) (listing_is_safe c.args.with_directories table specs c.nil_specs_lack_a_prefix.ensures) es (c.open_top.ensures.tree es known).0 start here
     c.in-Some.path.items (reverse (texts c.pop.new.self.items)) (stack_top c.paths.pending.items c.pop.new.self.items c.in-Some.path c.in-Some.ensures.items) (i.course es known) (g.V.Visitor.given c.visit.new.visitor)
-    (at_most_as c.args.with_directories table (g.L.LookUp.table c.paths.look_up) specs es c.in-Some.path.items c.as_slice.result.now (g.V.Visitor.given c.paths.visitor) (g.V.Visitor.given c.visit.new.visitor) i.table c.as_slice.ensures.value (c.in_err-visit.ensures.ended es (i.tree ∙ known)))
+    (at_most_as c.args.with_directories table (g.L.LookUp.table c.paths.look_up) specs es c.in-Some.path.items c.as_slice-path.result.now (g.V.Visitor.given c.paths.visitor) (g.V.Visitor.given c.visit.new.visitor) i.table c.as_slice-path.ensures.value (c.in_err-visit.ensures.ended es (i.tree ∙ known)))
 
 pub paths-preserved : goal.paths-preserved
 paths-preserved g c =
@@ -75,7 +75,7 @@ paths-preserved g c =
     record {
       course = λ es known. course_goes_on (is_listed c.args.with_directories table specs) (can_hold specs) (listing_is_safe c.args.with_directories table specs c.nil_specs_lack_a_prefix.ensures) es (c.open_top.ensures.tree es known).0 start here
           c.in-Some.path.items (reverse (texts c.pop.new.self.items)) (stack_top c.paths.pending.items c.pop.new.self.items c.in-Some.path c.in-Some.ensures.items) (i.course es known) after
-          (visit_as c.args.with_directories table (g.L.LookUp.table c.paths.look_up) specs (can_hold specs) es c.in-Some.path.items c.as_slice.result.now popped after i.table c.as_slice.ensures.value (v.visited es (i.tree ∙ known)));
+          (visit_as c.args.with_directories table (g.L.LookUp.table c.paths.look_up) specs (can_hold specs) es c.in-Some.path.items c.as_slice-path.result.now popped after i.table c.as_slice-path.ensures.value (v.visited es (i.tree ∙ known)));
       room = fits-kept _ (box_value c.paths.scratch) c.visit.new.scratch i.room (v.room ∙ ap (λ (s : ScratchContents). s.room) c.deref_mut.ensures.value);
       tree = v.tree_stays ∙ i.tree;
       table = v.table_stays ∙ i.table;

@@ -1,0 +1,131 @@
+//! The directories of a disk.
+ghost use Rattle.std.specs.Prelude.{None};
+
+use crate::names::{has_git, names_of};
+use crate::{DiskFault, Seen};
+use pathspec_list::Directories;
+use std::alloc::AllocError;
+use std::fs::{self, Files};
+use std::io::{ErrorKind, Read};
+use std::str;
+
+/// How many bytes a read of names takes at most. The system refuses one without the room for a name, so `read_to_end`, which reads
+/// into what is left of a list, fails in a large directory.
+const ROOM: usize = 32768;
+
+/// How the directories of a disk are opened.
+#[derive(Clone, Copy, Debug, Default, PartialEq, Eq)]
+pub struct DiskOptions {
+    /// Whether nested repositories are opened: directories below the top with a `.git` in them.
+    pub nested: bool,
+    /// Whether names come as the system gives them, and not in byte order.
+    pub unsorted: bool,
+}
+
+/// The directories of a disk below a top, which may be a link itself. No link below it is followed.
+#[derive(Drop)]
+pub struct Disk<'a, R> {
+    rt: &'a R,
+    top: &'a str,
+    options: DiskOptions,
+    seen: &'a Seen,
+    /// The room for one read of names.
+    room: Vec<u8>,
+}
+
+impl<'a, R: Files + AllocGlobal> Disk<'a, R> {
+    /// The directories below a top. What they see is counted in `seen`.
+    ///
+    /// # Errors
+    /// Memory ran out.
+    pub fn new(
+        rt: &'a R,
+        top: &'a str,
+        options: DiskOptions,
+        seen: &'a Seen,
+    ) -> Result<Disk<'a, R>, AllocError> {
+        let room = vec![in rt.alloc(); 0; ROOM]?;
+        Ok(Disk {
+            rt,
+            top,
+            options,
+            seen,
+            room,
+        })
+    }
+
+    /// The name that the system has for a path.
+    ///
+    /// # Errors
+    /// The path isn't UTF-8, or memory ran out.
+    fn name(&self, path: &[u8]) -> Result<String, DiskFault> {
+        match str::from_utf8(path) {
+            // The dot behind it follows a top that is a link.
+            Ok("") => Ok(format!(in self.rt.alloc(); "{}/.", self.top)?),
+            Ok(path) => Ok(format!(in self.rt.alloc(); "{}/{path}", self.top)?),
+            Err(_) => Err(DiskFault::NotUtf8),
+        }
+    }
+
+    /// Reads the names in a directory, each with the byte 0 at its end. None is given where something else stands.
+    ///
+    /// # Errors
+    /// What the system refuses.
+    fn read(&mut self, name: &str) -> Result<Option<Vec<u8>>, DiskFault> {
+        let mut directory = match self.rt.open_dir(name) {
+            Ok(directory) => directory,
+            Err(error) if error.kind() == ErrorKind::NotADirectory => return Ok(None),
+            Err(error) => return Err(DiskFault::from(error)),
+        };
+        let mut names = Vec::new(self.rt.alloc());
+        for _ in 0..u64::MAX {
+            let count = directory.read(self.room.as_mut_slice())?;
+            if count == 0 {
+                break;
+            }
+            names.extend_from_slice(&self.room[..count.min(self.room.len())])?;
+        }
+        Ok(Some(names))
+    }
+
+    /// Whether a `.git` lies in the directory with a name.
+    fn is_nested(&self, name: &str) -> Result<bool, DiskFault> {
+        let git = format!(in self.rt.alloc(); "{name}/.git")?;
+        Ok(fs::symlink_metadata(self.rt, git.as_str()).is_ok())
+    }
+}
+
+impl<'a, R: Files + AllocGlobal> Directories for Disk<'a, R> {
+    type Fault = DiskFault;
+
+    ghost tree = { λ _. None };
+
+    ghost opened = { λ _. None };
+
+    /// Opens a directory, reads the names in it and closes it. A nested repository that isn't to be opened has no names.
+    fn open(&mut self, path: &[u8]) -> Result<Option<Vec<Vec<u8>>>, DiskFault> {
+        self.seen.ask();
+        let name = self.name(path)?;
+        let Some(bytes) = self.read(name.as_str())? else {
+            return Ok(None);
+        };
+        if !path.is_empty() && !self.options.nested && has_git(&bytes) {
+            self.seen.open(0);
+            self.seen.meet_nested();
+            return Ok(Some(Vec::new(self.rt.alloc())));
+        }
+        let names = names_of(self.rt.alloc(), &bytes, self.options.unsorted)?;
+        self.seen.open(names.len());
+        Ok(Some(names))
+    }
+
+    fn is_dir(&mut self, path: &[u8]) -> Result<bool, DiskFault> {
+        self.seen.ask();
+        let name = self.name(path)?;
+        let is_dir = fs::symlink_metadata(self.rt, name.as_str())?.is_dir();
+        if is_dir && !self.options.nested && self.is_nested(name.as_str())? {
+            self.seen.meet_nested();
+        }
+        Ok(is_dir)
+    }
+}
