@@ -7,7 +7,7 @@ _pathspec() {
     COMPREPLY=()
     for ((place = 1; place < COMP_CWORD; place++)); do
         case ${COMP_WORDS[place]} in
-            filter | explain | show) command=${COMP_WORDS[place]}; break ;;
+            filter | list | explain | show) command=${COMP_WORDS[place]}; break ;;
         esac
     done
     # Behind `--` stand specs alone.
@@ -19,7 +19,7 @@ _pathspec() {
         fi
     done
     case $before in
-        --prefix | --root | --attributes)
+        --prefix | --root | --attributes | -C)
             compopt -o filenames 2>/dev/null
             mapfile -t COMPREPLY < <(compgen -d -- "$word")
             return ;;
@@ -29,13 +29,18 @@ _pathspec() {
             return ;;
     esac
     case $command in
-        '') mapfile -t COMPREPLY < <(compgen -W 'filter explain show --help --version' -- "$word"); return ;;
+        '') mapfile -t COMPREPLY < <(compgen -W 'filter list explain show --help --version' -- "$word"); return ;;
         filter) options="$specs $attributes --null --verbatim --invert --count --quiet --error-unmatch --stats" ;;
+        list) options="$specs $attributes -C --null --count --quiet --error-unmatch --stats --dirs --nested --unsorted --" ;;
         explain) options="$specs $attributes --path --null --all --json" ;;
         show) options=$specs ;;
     esac
     if [[ $word == -* ]]; then
         mapfile -t COMPREPLY < <(compgen -W "$options" -- "$word")
+    elif [[ $command == list ]]; then
+        # Before `--` stands a directory.
+        compopt -o filenames 2>/dev/null
+        mapfile -t COMPREPLY < <(compgen -d -- "$word")
     else
         compopt -o filenames 2>/dev/null
         mapfile -t COMPREPLY < <(compgen -f -- "$word")

@@ -49,7 +49,7 @@ fn reads_paths(task: &Task<'_>) -> bool {
     match task {
         Task::Filter(_) => true,
         Task::Explain(asked) => asked.paths.is_empty(),
-        Task::Show => false,
+        Task::List(_) | Task::Show => false,
     }
 }
 

@@ -18,7 +18,7 @@ pub(crate) fn advice(situation: &Situation<'_>) -> [&'static str; 3] {
     [
         separator_advice(situation),
         record_advice(situation),
-        attribute_advice(situation),
+        attribute_advice(situation.lacks_attributes),
     ]
 }
 
@@ -53,8 +53,8 @@ fn record_advice(situation: &Situation<'_>) -> &'static str {
 }
 
 /// On specs with attributes, where no path has any.
-fn attribute_advice(situation: &Situation<'_>) -> &'static str {
-    if situation.lacks_attributes {
+pub(crate) fn attribute_advice(lacks_attributes: bool) -> &'static str {
+    if lacks_attributes {
         "advice: a spec lists attributes, and no path has any: `--attributes .`?\n"
     } else {
         ""

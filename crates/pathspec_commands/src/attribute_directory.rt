@@ -1,25 +1,30 @@
 //! The attribute files of a directory, each read when a path comes to its directory.
 use crate::Failure;
+use crate::decided::{Decided, RulePlace, state_words};
+use crate::explaining::Path;
 use crate::spec_texts::read_file;
 use crate::telling::{quoted, read_fault, tell};
 use bstr::BStr;
-use pathspec_attributes::{AttributeFiles, LeftOut, Place, Reason};
+use pathspec_attributes::{AttributeFiles, LeftOut, Place, Reason, RuleAt};
 use pathspec_filter::{Selection, path_in};
+use pathspec_parts::attributes::{Assignment, Case, LookUp as _, Outcome, StateRef};
 use pathspec_parts::path::{is_clean_prefix, strip_last_slash};
 use pathspec_parts::records::is_bad;
-use std::alloc::AllocError;
+use std::alloc::{AllocError, Global};
 use std::collections::BTreeSet;
 use std::env::{self, VarError};
 use std::fs::{self, Files};
 use std::io::{ErrorKind, Write};
 use std::rt::Env;
-use std::str;
+use std::{slice, str};
 
 /// Attribute files below a directory.
 #[derive(Drop)]
 pub(crate) struct AttributeDirectory<'a> {
     directory: &'a str,
     pub(crate) files: AttributeFiles,
+    /// The path of the user's own file, where it was asked for.
+    global: Option<String>,
     /// The directories whose files were looked for, from the top, each with a slash at its end.
     known: BTreeSet<Vec<u8>>,
 }
@@ -42,6 +47,7 @@ impl<'a> AttributeDirectory<'a> {
         Ok(AttributeDirectory {
             directory,
             files,
+            global: None,
             known: BTreeSet::new(rt.alloc()),
         })
     }
@@ -55,9 +61,59 @@ impl<'a> AttributeDirectory<'a> {
         rt: &R,
         told: &mut T,
     ) -> Result<(), Failure> {
-        match global_path(rt)? {
-            Some(file) => add_file(rt, &mut self.files, Place::Global, file.as_str(), told),
-            None => Ok(()),
+        let Some(file) = global_path(rt)? else {
+            return Ok(());
+        };
+        add_file(rt, &mut self.files, Place::Global, file.as_str(), told)?;
+        self.global = Some(file);
+        Ok(())
+    }
+
+    /// What the files that were read say of an attribute that a spec lists.
+    ///
+    /// # Errors
+    /// Memory runs out.
+    pub(crate) fn decided(
+        &mut self,
+        alloc: Global,
+        path: Path<'_>,
+        listed: &Assignment,
+    ) -> Result<Decided, AllocError> {
+        let name = listed.name.as_bytes().as_bytes();
+        let rule = match self.files.decider(path.path, path.is_dir, name)? {
+            Some(RuleAt { place, line }) => Some(RulePlace {
+                file: self.file_name(alloc, place)?,
+                line,
+            }),
+            None => None,
+        };
+        let mut found = Outcome::for_assignments(alloc, slice::from_ref(listed))?;
+        self.files
+            .look_up(path.path, Case::Sensitive, path.is_dir, &mut found)?;
+        let state = if found.is_empty() {
+            StateRef::Unspecified
+        } else {
+            found.state(0)
+        };
+        Ok(Decided {
+            name: Vec::from_slice(alloc, name)?,
+            state: state_words(alloc, state)?,
+            rule,
+        })
+    }
+
+    /// The path of the file at a place, as it was read.
+    fn file_name(&self, alloc: Global, place: Place<'_>) -> Result<String, AllocError> {
+        let directory = self.directory;
+        match (place, &self.global) {
+            (Place::Global, Some(file)) => String::from_str(alloc, file.as_str()),
+            (Place::Global, None) => String::from_str(alloc, "attributes"),
+            (Place::Info, _) => format!(in alloc; "{directory}/.git/info/attributes"),
+            (Place::Directory(b""), _) => format!(in alloc; "{directory}/.gitattributes"),
+            (Place::Directory(path), _) => {
+                let path = String::from_utf8_lossy(alloc, path)?;
+                format!(in alloc; "{directory}/{path}/.gitattributes")
+            }
         }
     }
 
@@ -106,7 +162,10 @@ impl<'a> AttributeDirectory<'a> {
     }
 
     /// Reads the file of a directory.
-    fn enter<R: Files + AllocGlobal, T: Write>(
+    ///
+    /// # Errors
+    /// As for [`AttributeDirectory::reach`].
+    pub(crate) fn enter<R: Files + AllocGlobal, T: Write>(
         &mut self,
         rt: &R,
         path: &[u8],

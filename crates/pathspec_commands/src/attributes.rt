@@ -2,8 +2,11 @@
 use crate::Failure;
 use crate::attribute_directory::AttributeDirectory;
 use crate::attribute_rows::attribute_rows;
+use bstr::BStr;
+use pathspec_explain::{AskedSpec, Reason};
 use pathspec_options::SpecOptions;
 use pathspec_parts::attributes::Rows;
+use std::alloc::AllocError;
 use std::fs::Files;
 use std::io::Write;
 use std::rt::Env;
@@ -31,6 +34,22 @@ impl Attributes<'_> {
         match self {
             Attributes::Rows(_) => Ok(()),
             Attributes::Directory(directory) => directory.reach(rt, path, told),
+        }
+    }
+
+    /// Why a spec matches a path with these attributes, or why it doesn't.
+    ///
+    /// # Errors
+    /// Memory ran out.
+    pub(crate) fn reason(
+        &mut self,
+        spec: &mut AskedSpec<'_>,
+        path: BStr<'_>,
+        is_dir: bool,
+    ) -> Result<Reason, AllocError> {
+        match self {
+            Attributes::Rows(rows) => spec.reason(path, is_dir, rows),
+            Attributes::Directory(directory) => spec.reason(path, is_dir, &mut directory.files),
         }
     }
 }

@@ -5,6 +5,7 @@ ghost use Rattle.bstr.specs.BStr.{bstr_bytes};
 use crate::Failure;
 use crate::asked::{Asked, read_specs};
 use crate::attributes::{Attributes, attributes_of};
+use crate::decided::Decided;
 use crate::json::{explanation_object, write_object};
 use crate::reason_texts::reason_text;
 use crate::telling::{bad_path, push_spaces, quoted, read_fault};
@@ -68,20 +69,47 @@ impl Explainer<'_, '_> {
         let Some(spec) = self.specs.get_mut(place) else {
             return Ok(None);
         };
-        let reason = match &mut self.attributes {
-            Attributes::Rows(rows) => spec.reason(path.path, path.is_dir, rows)?,
-            Attributes::Directory(directory) => {
-                spec.reason(path.path, path.is_dir, &mut directory.files)?
-            }
-        };
-        Ok(Some(reason))
+        Ok(Some(self.attributes.reason(spec, path.path, path.is_dir)?))
     }
 
-    /// The words for a reason of the spec with a number.
-    pub(crate) fn reason_words(&self, number: usize, reason: Reason) -> Result<String, AllocError> {
+    /// The attributes that a reason of the spec with a number speaks of, as attribute files decide them. None where rows do.
+    pub(crate) fn decided(
+        &mut self,
+        number: usize,
+        reason: Reason,
+        path: Path<'_>,
+    ) -> Result<Vec<Decided>, AllocError> {
+        let mut decided = Vec::new(self.alloc);
+        let place = self.asked.place_of(number);
+        let (Some(spec), Attributes::Directory(directory)) = (
+            self.specs.get(place),
+            &mut self.attributes,
+        ) else {
+            return Ok(decided);
+        };
+        for (at, listed) in spec.pattern().attributes.iter().enumerate() {
+            let is_told = match reason {
+                Reason::Matches(_) => true,
+                Reason::OtherState(other) => at == other,
+                _ => false,
+            };
+            if is_told {
+                decided.push(directory.decided(self.alloc, path, listed)?)?;
+            }
+        }
+        Ok(decided)
+    }
+
+    /// The words for a reason of the spec with a number, which speaks of these attributes.
+    pub(crate) fn reason_words(
+        &self,
+        number: usize,
+        reason: Reason,
+        decided: &[Decided],
+    ) -> Result<String, AllocError> {
         let place = self.asked.place_of(number);
         match self.specs.get(place) {
-            Some(spec) => reason_text(self.alloc, reason, spec.pattern()),
+            Some(spec) => reason_text(self.alloc, reason, spec.pattern(), decided),
             None => Ok(String::new(self.alloc)),
         }
     }
@@ -102,7 +130,8 @@ impl Explainer<'_, '_> {
         let name = self.spec_name(number)?;
         match self.reason(number, path)? {
             Some(reason) => {
-                let words = self.reason_words(number, reason)?;
+                let decided = self.decided(number, reason, path)?;
+                let words = self.reason_words(number, reason, &decided)?;
                 format!(in self.alloc; "{name}: {words}")
             }
             None => Ok(name),

@@ -5,16 +5,14 @@ ghost use Rattle.pathspec_commands.specs.Filters.{separator_of, selection_of, ta
 use crate::Failure;
 use crate::advice::{Situation, advice};
 use crate::asked::{Asked, read_specs};
-use crate::attribute_rows::attribute_rows;
 use crate::attributes::{Attributes, attributes_of};
 use crate::devices::{FirstByte, FrontReader};
 use crate::piecewise::filter_pieces;
-use crate::telling::{quoted, tell};
-use crate::unmatched::Unmatched;
+use crate::telling::tell;
+use crate::unmatched::{Includes, Unmatched};
 use gix_pathspec::Search;
 use pathspec_filter::{Counts, FilterError, LeadingDot, Selection, filter};
 use pathspec_options::{FilterOptions, SpecOptions};
-use pathspec_parts::attributes::Rows;
 use std::alloc::{AllocError, Global};
 use std::fs::Files;
 use std::io::{self, Read, Write};
@@ -128,14 +126,20 @@ impl<D: Files + AllocGlobal, R: Read> Filter<'_, '_, '_, '_, D, R> {
     fn write_and_match<W: Write, T: Write>(
         &mut self,
         writer: &mut W,
-        rows: Rows,
+        attributes: Attributes<'_>,
         asked: &Asked<'_>,
         told: &mut T,
     ) -> Result<Ended, Failure> {
         let form = (self.separator(), !self.options.verbatim);
-        let mut unmatched = Unmatched::new(self.rt.alloc(), writer, self.search, rows, form)?;
-        let ended = self.write(&mut unmatched, told)?;
-        let count = tell_unmatched(self.rt.alloc(), &unmatched, asked, told)?;
+        let includes = Includes::new(self.rt, self.search, attributes)?;
+        let mut unmatched = Unmatched::new(writer, includes, form);
+        let ended = self.write(&mut unmatched, told);
+        if let Some(failure) = unmatched.failure.take() {
+            return Err(failure);
+        }
+        let ended = ended?;
+        let includes = unmatched.includes;
+        let count = includes.tell_unmatched(asked, "record", told)?;
         Ok(Ended {
             counts: ended.counts,
             status: if count > 0 { NONE_SELECTED } else { DONE },
@@ -156,27 +160,6 @@ fn selection(options: &FilterOptions) -> Selection
         leading_dot,
         is_inverted: options.invert,
     }
-}
-
-/// Tells, in the order in which they were given, which includes selected no record, and counts them.
-fn tell_unmatched<W: Write, T: Write>(
-    alloc: Global,
-    unmatched: &Unmatched<'_, W>,
-    asked: &Asked<'_>,
-    told: &mut T,
-) -> Result<usize, AllocError> {
-    let mut count = 0usize;
-    for (number, text) in asked.texts.iter().enumerate() {
-        if unmatched.is_unmatched(asked.place_of(number)) {
-            let spec = quoted(alloc, &text.text)?;
-            tell(
-                told,
-                format!(in alloc; "error: pathspec {spec} did not match any record\n")?.as_str(),
-            );
-            count = count.saturating_add(1);
-        }
-    }
-    Ok(count)
 }
 
 /// Writes the records of `reader` that specs select to `writer`, and lines for people to `told`. It gives the exit status.
@@ -200,7 +183,8 @@ pub(crate) fn run<R: Files + Env + AllocGlobal, I: Read, W: Write, T: Write>(
     let ended = if options.quiet {
         filter.find_first(told)
     } else if options.error_unmatch {
-        filter.write_and_match(writer, attribute_rows(rt, specs)?, &asked, told)
+        let attributes = attributes_of(rt, specs, &mut io::sink())?;
+        filter.write_and_match(writer, attributes, &asked, told)
     } else if options.count {
         filter.write(&mut io::sink(), told)
     } else {

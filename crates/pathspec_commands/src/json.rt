@@ -1,5 +1,6 @@
 //! Explanations as objects (JSON, RFC 8259).
 use crate::Failure;
+use crate::decided::{Decided, RulePlace};
 use crate::explaining::{Explainer, Path};
 use gix_pathspec::search::MatchKind;
 use pathspec_explain::{Explanation, Reason, Verdict};
@@ -92,7 +93,8 @@ fn reason_object(
     let Some(reason) = explainer.reason(number, path)? else {
         return Ok(Value::Object(members));
     };
-    let words = explainer.reason_words(number, reason)?;
+    let decided = explainer.decided(number, reason, path)?;
+    let words = explainer.reason_words(number, reason, &decided)?;
     let (name, kind, place) = parts_of(reason);
     put(
         &mut members,
@@ -112,7 +114,30 @@ fn reason_object(
         put(&mut members, alloc, "at", Value::from(place as u64))?;
     }
     put(&mut members, alloc, "text", Value::String(words))?;
+    if !decided.is_empty() {
+        put(&mut members, alloc, "rules", rules_value(alloc, decided)?)?;
+    }
     Ok(Value::Object(members))
+}
+
+/// The rules that decide attributes, each with the name of the attribute. An attribute of which no rule speaks has no file.
+fn rules_value(alloc: Global, decided: Vec<Decided>) -> Result<Value, AllocError> {
+    let mut rules = Vec::new(alloc);
+    for own in decided.into_iter() {
+        let Decided {
+            name,
+            state: _state,
+            rule,
+        } = own;
+        let mut members = Map::new(alloc);
+        put(&mut members, alloc, "attribute", text_value(alloc, &name)?)?;
+        if let Some(RulePlace { file, line }) = rule {
+            put(&mut members, alloc, "file", Value::String(file))?;
+            put(&mut members, alloc, "line", Value::from(line as u64))?;
+        }
+        push(&mut rules, Value::Object(members))?;
+    }
+    Ok(Value::Array(rules))
 }
 
 /// A reason's name, with its kind of match and its place.

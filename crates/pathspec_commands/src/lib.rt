@@ -1,4 +1,4 @@
-//! The commands of the program `pathspec`: filter, explain and show.
+//! The commands of the program `pathspec`: filter, list, explain and show.
 #![tactic(auto)]
 
 mod advice;
@@ -6,13 +6,17 @@ mod asked;
 mod attribute_directory;
 mod attribute_rows;
 mod attributes;
+mod decided;
 mod devices;
 mod explaining;
 mod failure;
 mod filtering;
 mod json;
+mod lister;
+mod listing;
 mod pieces;
 mod piecewise;
+mod reaching;
 mod reason_texts;
 mod running;
 mod showing;

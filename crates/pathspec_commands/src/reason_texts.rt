@@ -1,4 +1,5 @@
 //! Reasons in words.
+use crate::decided::Decided;
 use crate::telling::quoted;
 use gix_pathspec::Pattern;
 use gix_pathspec::search::MatchKind;
@@ -6,19 +7,25 @@ use pathspec_explain::Reason;
 use pathspec_glob::first_wildcard;
 use std::alloc::{AllocError, Global};
 
-/// Why a spec matches a path or doesn't, as `its glob matches`.
+/// Why a spec matches a path or doesn't, as `its glob matches`. Attributes of which it speaks may be decided by rules.
 pub(crate) fn reason_text(
     alloc: Global,
     reason: Reason,
     pattern: &Pattern,
+    decided: &[Decided],
 ) -> Result<String, AllocError> {
     let text = match reason {
-        Reason::Matches(kind) => kind_text(kind),
+        Reason::Matches(kind) => return match_text(alloc, kind, decided),
         Reason::NoStates => "no attributes are known of the path",
         Reason::OnlyDirectory(_) => "it would match a directory",
         Reason::WithoutCase(_) => "without case it would match",
         Reason::GlobFails => "its glob doesn't match",
-        Reason::OtherState(place) => return state_text(alloc, pattern, place),
+        Reason::OtherState(place) => {
+            return match decided.first() {
+                Some(own) => own.text(alloc),
+                None => state_text(alloc, pattern, place),
+            };
+        }
         Reason::OutsidePrefix(_) => {
             let directory = quoted(alloc, pattern.prefix_directory().as_bytes())?;
             return format!(in alloc;
@@ -38,6 +45,16 @@ pub(crate) fn kind_text(kind: MatchKind) -> &'static str {
         MatchKind::WildcardMatch => "its glob matches",
         MatchKind::Verbatim => "it is the path",
     }
+}
+
+/// How a spec matches, and by which rules a path has the attributes that it lists.
+fn match_text(alloc: Global, kind: MatchKind, decided: &[Decided]) -> Result<String, AllocError> {
+    let mut text = String::from_str(alloc, kind_text(kind))?;
+    for own in decided {
+        text.push_str("; ")?;
+        text.push_str(own.text(alloc)?.as_str())?;
+    }
+    Ok(text)
 }
 
 /// The attribute at a place of a spec's list, of which the path has another state.

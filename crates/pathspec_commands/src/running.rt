@@ -1,5 +1,5 @@
 //! Running a command.
-use crate::{Failure, explaining, filtering, showing};
+use crate::{Failure, explaining, filtering, listing, showing};
 use pathspec_options::{Options, Task};
 use std::fs::Files;
 use std::io::{Read, Write};
@@ -18,6 +18,7 @@ pub fn run<R: Files + Env + AllocGlobal, I: Read, W: Write, T: Write>(
     match &options.task {
         Task::Filter(asked) => filtering::run(rt, &options.specs, *asked, (reader, writer, told)),
         Task::Explain(asked) => { explaining::run(rt, &options.specs, asked, reader, writer, told) }
+        Task::List(asked) => listing::run(rt, &options.specs, asked, writer, told),
         Task::Show => showing::run(rt, &options.specs, writer),
     }
 }

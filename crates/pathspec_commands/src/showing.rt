@@ -142,12 +142,23 @@ fn walk_text(alloc: Global, pattern: &Pattern) -> Result<String, Failure> {
     let Ok(search) = Search::from_specs(alloc, alone, None, BStr::new(b"")) else {
         return Err(Failure::Memory);
     };
-    match kept_directory(pattern).or(search.longest_common_directory()) {
+    let only = only_path(pattern).or(kept_directory(pattern));
+    match only.or(search.longest_common_directory()) {
         Some(directory) => {
             let directory = quoted(alloc, directory.as_bytes())?;
             Ok(format!(in alloc; "enters only {directory} and below")?)
         }
-        None => Ok(String::from_str(alloc, "enters any directory")?),
+        None => Ok(String::from_str(alloc, "may enter any directory")?),
+    }
+}
+
+/// The path of a spec that matches only that and what lies below. None where a wildcard or another case could match.
+fn only_path(pattern: &Pattern) -> Option<BStr<'_>> {
+    let counts_case = !pattern.signature.contains(MagicSignature::ICASE);
+    if counts_case && !pattern.is_glob() && !pattern.is_nil() {
+        Some(pattern.path())
+    } else {
+        None
     }
 }
 

@@ -63,6 +63,23 @@ fn an_include_that_matches_nothing_is_told(rt: HostRuntime) -> Result<(), Fail> 
     assert_rows(&rt, ROWS)
 }
 
+// (What a walk lists is tried by bench/commands, with directories.)
+#[test]
+#[rattlefmt::skip]
+fn a_top_that_is_no_directory_is_told(rt: HostRuntime) -> Result<(), Fail> {
+    const ROWS: &[Row<'_>] = &[
+        (&["list", "is/not/there", "--", "a"], "", "", "error: 'is/not/there': No such file or directory (os error 2)\n", 2),
+        (&["list", "-C", "is", "not//"], "", "", "error: 'is/not//': No such file or directory (os error 2)\n", 2),
+        (&["list", "-qC", "is"], "", "", "error: 'is': No such file or directory (os error 2)\n", 2),
+        (&["list", "/dev/null"], "", "", "error: '/dev/null': Not a directory\n  specs stand behind `--`\n", 2),
+        (&["list", "-C", "is", "/dev/null", "--", ":(attr:x)a"], "", "",
+            "advice: a spec lists attributes, and no path has any: `--attributes .`?\nerror: '/dev/null': Not a directory\n  specs stand behind `--`\n", 2),
+        (&["list", "is", "--", ":(tpo)a"], "", "",
+            "error: spec 1: unknown keyword `tpo`\n  :(tpo)a\n    ^^^\n  did you mean `top`?\n  keywords: top, icase, exclude, literal, glob, attr:.., prefix:N\n", 2),
+    ];
+    assert_rows(&rt, ROWS)
+}
+
 #[test]
 #[rattlefmt::skip]
 fn mistakes_that_are_no_faults_get_advice(rt: HostRuntime) -> Result<(), Fail> {
@@ -163,13 +180,13 @@ fn specs_are_shown(rt: HostRuntime) -> Result<(), Fail> {
     const ROWS: &[Row<'_>] = &[
         (&["show", "--prefix=src", ":(icase,attr:a=b -c !d)B/", ":!gen"], "",
             "1 ':(icase,attr:a=b -c !d)B/'\n  path        src/B\n  magic       icase, directory\n  mode        glob; wildcards take slashes\n  attributes  a=b -c !d\n  prefix      src\n  long form   :(icase,prefix:3,attr:a=b -c !d)src/B/\n  walk        enters only 'src' and below\n2 ':!gen'\n  path        src/gen\n  magic       exclude\n  mode        glob; wildcards take slashes\n  prefix      src\n  long form   :(exclude,prefix:3)src/gen\n  walk        enters what it doesn't exclude\n", "", 0),
-        (&["show", ":(glob)*.c"], "", "1 ':(glob)*.c'\n  path        *.c\n  mode        glob; only `**` takes slashes\n  long form   :(glob)*.c\n  walk        enters any directory\n", "", 0),
+        (&["show", ":(glob)*.c"], "", "1 ':(glob)*.c'\n  path        *.c\n  mode        glob; only `**` takes slashes\n  long form   :(glob)*.c\n  walk        may enter any directory\n", "", 0),
         (&["show", "--prefix=a/b", ":(icase)C", ":(icase)../D"], "",
             "1 ':(icase)C'\n  path        a/b/C\n  magic       icase\n  mode        glob; wildcards take slashes\n  prefix      a/b\n  long form   :(icase,prefix:3)a/b/C\n  walk        enters only 'a/b' and below\n2 ':(icase)../D'\n  path        a/D\n  magic       icase\n  mode        glob; wildcards take slashes\n  prefix      a\n  long form   :(icase,prefix:1)a/D\n  walk        enters only 'a' and below\n", "", 0),
         // `a*/C` matches `a*x/C`, too.
         (&["show", "--prefix=a*", ":(icase)C"], "",
-            "1 ':(icase)C'\n  path        a*/C\n  magic       icase\n  mode        glob; wildcards take slashes\n  prefix      a*\n  long form   :(icase,prefix:2)a*/C\n  walk        enters any directory\n", "", 0),
-        (&["show", ":(literal)a*"], "", "1 ':(literal)a*'\n  path        a*\n  mode        literal\n  long form   :(literal)a*\n  walk        enters any directory\n", "", 0),
+            "1 ':(icase)C'\n  path        a*/C\n  magic       icase\n  mode        glob; wildcards take slashes\n  prefix      a*\n  long form   :(icase,prefix:2)a*/C\n  walk        may enter any directory\n", "", 0),
+        (&["show", ":(literal)a*"], "", "1 ':(literal)a*'\n  path        a*\n  mode        literal\n  long form   :(literal)a*\n  walk        enters only 'a*' and below\n", "", 0),
     ];
     assert_rows(&rt, ROWS)
 }

@@ -24,14 +24,18 @@ fn list<'a>(alloc: Global, name: &'a str, value: &'a str, help: &'a str) -> Arg<
     option(alloc, name, value, help).action(ArgAction::Append)
 }
 
-/// The specs of a command.
-fn specs<'a>(alloc: Global, command: Command<'a>) -> Result<Command<'a>, AllocError> {
-    let words = Arg::new(alloc, "specs")
+/// The specs among the words of a command.
+fn spec_words<'a>(alloc: Global) -> Arg<'a> {
+    Arg::new(alloc, "specs")
         .value_name("SPEC")
         .num_args(0..)
-        .action(ArgAction::Append);
+        .action(ArgAction::Append)
+        .help("Pathspecs, as git takes them")
+}
+
+/// The options that specs are read with.
+fn spec_options<'a>(alloc: Global, command: Command<'a>) -> Result<Command<'a>, AllocError> {
     command
-        .arg(words.help("Pathspecs, as git takes them"))?
         .arg(list(
             alloc,
             "specs-from",
@@ -54,6 +58,31 @@ fn specs<'a>(alloc: Global, command: Command<'a>) -> Result<Command<'a>, AllocEr
         .arg(flag(alloc, "glob", "Wildcards don't take slashes").conflicts_with("noglob")?)?
         .arg(flag(alloc, "noglob", "Specs have no wildcards"))?
         .arg(flag(alloc, "literal", "Specs are paths, magic and all"))
+}
+
+/// The specs of a command.
+fn specs<'a>(alloc: Global, command: Command<'a>) -> Result<Command<'a>, AllocError> {
+    spec_options(alloc, command.arg(spec_words(alloc))?)
+}
+
+/// What a command answers, and how.
+fn answers<'a>(alloc: Global, command: Command<'a>) -> Result<Command<'a>, AllocError> {
+    command
+        .arg(flag(
+            alloc,
+            "null",
+            "A byte 0 ends each path, and not a line feed",
+        )
+        .short('z'))?
+        .arg(flag(alloc, "count", "Writes how many are selected").short('c'))?
+        .arg(flag(
+            alloc,
+            "quiet",
+            "Writes nothing; status 1 if none is selected",
+        )
+        .short('q'))?
+        .arg(flag(alloc, "error-unmatch", "Status 1 if a spec selects nothing"))?
+        .arg(flag(alloc, "stats", "Writes counts to standard error"))
 }
 
 /// The attributes of paths.
@@ -96,26 +125,27 @@ fn filter<'a>(alloc: Global) -> Result<Command<'a>, AllocError> {
         .about("Writes the paths of standard input that pathspecs select")
         .before_help(pages::FILTER);
     let command = attributes(alloc, specs(alloc, command)?)?;
-    command
-        .arg(flag(
-            alloc,
-            "null",
-            "A byte 0 ends each path, and not a line feed",
-        )
-        .short('z'))?
+    answers(alloc, command)?
         .arg(flag(alloc, "verbatim", "Takes a leading `./` as part of a path"))?
-        .arg(flag(alloc, "invert", "Writes the paths that aren't selected").short('v'))?
-        .arg(flag(alloc, "count", "Writes how many are selected").short('c'))?
-        .arg(flag(
-            alloc,
-            "quiet",
-            "Writes nothing; status 1 if none is selected",
-        )
-        .short('q'))?
-        .arg(flag(alloc, "error-unmatch", "Status 1 if a spec selects nothing").conflicts_with(
-            "attributes",
-        )?)?
-        .arg(flag(alloc, "stats", "Writes counts to standard error"))
+        .arg(flag(alloc, "invert", "Writes the paths that aren't selected").short('v'))
+}
+
+/// `pathspec list`.
+fn list_files<'a>(alloc: Global) -> Result<Command<'a>, AllocError> {
+    let directory = Arg::new(alloc, "directory").value_name("DIR");
+    let change = Arg::new(alloc, "change").short('C').value_name("PATH");
+    let command = part(alloc, "list")
+        .about("Writes the files below a directory that pathspecs select")
+        .before_help(pages::LIST)
+        .arg(directory.help("The directory; the current one if left out"))?
+        .arg(spec_words(alloc).last(true))?;
+    let command = attributes(alloc, spec_options(alloc, command)?)?;
+    let command = answers(alloc, command)?;
+    command
+        .arg(change.help("Takes DIR from this directory, as git does"))?
+        .arg(flag(alloc, "dirs", "Lists directories too, with a slash"))?
+        .arg(flag(alloc, "nested", "Enters directories with a `.git` in them"))?
+        .arg(flag(alloc, "unsorted", "Takes names as the system gives them"))
 }
 
 /// `pathspec explain`.
@@ -151,11 +181,12 @@ fn show<'a>(alloc: Global) -> Result<Command<'a>, AllocError> {
 pub fn command<'a>(alloc: Global, version: &'a str) -> Result<Command<'a>, AllocError> {
     Command::new(alloc, "pathspec")
         .version(version)
-        .about("git's pathspecs, over lists of paths")
+        .about("git's pathspecs, over lists of paths and directories")
         .before_help(pages::PROGRAM)
         .subcommand_required(true)
         .disable_help_subcommand(true)
         .subcommand(filter(alloc)?)?
+        .subcommand(list_files(alloc)?)?
         .subcommand(explain(alloc)?)?
         .subcommand(show(alloc)?)
 }

@@ -6,4 +6,4 @@ mod options;
 mod pages;
 
 pub use commands::command;
-pub use options::{ExplainOptions, FilterOptions, Modes, Options, SpecOptions, Task};
+pub use options::{ExplainOptions, FilterOptions, ListOptions, Modes, Options, SpecOptions, Task};

@@ -60,10 +60,30 @@ pub struct ExplainOptions<'a> {
     pub json: bool,
 }
 
+/// What `pathspec list` is asked for.
+#[derive(Clone, Copy, Debug, Default, PartialEq, Eq)]
+pub struct ListOptions<'a> {
+    /// The directory from which the other one is taken. Empty, the current one.
+    pub change: &'a str,
+    /// The directory that is walked over. Empty, the one from which it would be taken.
+    pub directory: &'a str,
+    pub null: bool,
+    /// Whether directories are listed too.
+    pub dirs: bool,
+    /// Whether nested repositories are entered.
+    pub nested: bool,
+    pub unsorted: bool,
+    pub count: bool,
+    pub quiet: bool,
+    pub error_unmatch: bool,
+    pub stats: bool,
+}
+
 /// A command.
 #[derive(Debug, Drop)]
 pub enum Task<'a> {
     Filter(FilterOptions),
+    List(ListOptions<'a>),
     Explain(ExplainOptions<'a>),
     Show,
 }
@@ -119,6 +139,7 @@ impl<'a> Task<'a> {
     ) -> Result<Task<'a>, AllocError> {
         Ok(match name {
             "filter" => Task::Filter(FilterOptions::of_matches(inner)),
+            "list" => Task::List(ListOptions::of_matches(inner)),
             "explain" => Task::Explain(ExplainOptions::of_matches(alloc, inner)?),
             _ => Task::Show,
         })
@@ -131,6 +152,23 @@ impl FilterOptions {
             null: inner.get_flag("null"),
             verbatim: inner.get_flag("verbatim"),
             invert: inner.get_flag("invert"),
+            count: inner.get_flag("count"),
+            quiet: inner.get_flag("quiet"),
+            error_unmatch: inner.get_flag("error-unmatch"),
+            stats: inner.get_flag("stats"),
+        }
+    }
+}
+
+impl<'a> ListOptions<'a> {
+    fn of_matches(inner: &ArgMatches<'a>) -> ListOptions<'a> {
+        ListOptions {
+            change: inner.get_str("change").unwrap_or(""),
+            directory: inner.get_str("directory").unwrap_or(""),
+            null: inner.get_flag("null"),
+            dirs: inner.get_flag("dirs"),
+            nested: inner.get_flag("nested"),
+            unsorted: inner.get_flag("unsorted"),
             count: inner.get_flag("count"),
             quiet: inner.get_flag("quiet"),
             error_unmatch: inner.get_flag("error-unmatch"),

@@ -2,14 +2,21 @@
 
 pub(crate) const PROGRAM: &str = "Examples:
   git ls-files | pathspec filter '*.rs' ':!target'
+  pathspec list -- '*.rs' ':!target'
   pathspec explain '*.rs' ':!target' --path target/x.rs
   pathspec show ':(icase)readme*'
 ";
 
 pub(crate) const FILTER: &str = "Examples:
   git ls-files | pathspec filter 'src/*.rs' ':!src/gen'
-  find . -type f -print0 | pathspec filter -z ':!web' | xargs -0 rm
+  find . -type f -print0 | pathspec filter -z ':!web' | xargs -0 ls
   git diff --name-only | pathspec filter -q docs && make docs
+";
+
+pub(crate) const LIST: &str = "Examples:
+  pathspec list -- '*.rs' ':!target'
+  pathspec list -z -- ':(glob)src/**/*.c' | xargs -0 wc -l
+  pathspec list -q -- docs && make docs
 ";
 
 pub(crate) const EXPLAIN: &str = "Examples:

@@ -1,5 +1,5 @@
 //! What words ask for.
-use pathspec_options::{Options, Task};
+use pathspec_options::{ListOptions, Options, Task};
 use std::alloc::{AllocError, Global};
 use std::test::Fail;
 
@@ -44,6 +44,7 @@ fn add_task(line: &mut String, task: &Task<'_>) -> Result<(), AllocError> {
             ];
             add_flags(line, more.as_slice())
         }
+        Task::List(asked) => add_list(line, asked),
         Task::Explain(asked) => {
             line.push_str("explain")?;
             add_flags(
@@ -59,6 +60,27 @@ fn add_task(line: &mut String, task: &Task<'_>) -> Result<(), AllocError> {
         }
         Task::Show => line.push_str("show"),
     }
+}
+
+/// Adds `list` and its own options.
+fn add_list(line: &mut String, asked: &ListOptions<'_>) -> Result<(), AllocError> {
+    line.push_str("list")?;
+    let flags = [
+        ("null", asked.null),
+        ("dirs", asked.dirs),
+        ("nested", asked.nested),
+        ("unsorted", asked.unsorted),
+    ];
+    add_flags(line, flags.as_slice())?;
+    let more = [
+        ("count", asked.count),
+        ("quiet", asked.quiet),
+        ("error-unmatch", asked.error_unmatch),
+        ("stats", asked.stats),
+    ];
+    add_flags(line, more.as_slice())?;
+    add(line, "change", [asked.change].as_slice())?;
+    add(line, "directory", [asked.directory].as_slice())
 }
 
 /// Adds the specs and what they are read with.
@@ -195,7 +217,50 @@ const ROWS: &[Row] = &[
         &["pathspec", "show", ":(icase)readme*"],
         "show prefix= root= spec=:(icase)readme*",
     ),
+    Row(
+        &["pathspec", "list"],
+        "list change= directory= prefix= root=",
+    ),
+    Row(
+        &["pathspec", "list", "src", "-z", "--", ":!a", "-c"],
+        "list null change= directory=src prefix= root= spec=:!a spec=-c",
+    ),
+    Row(
+        &[
+            "pathspec",
+            "list",
+            "-C",
+            "a/b",
+            "--dirs",
+            "--nested",
+            "--unsorted",
+            "--glob",
+        ],
+        "list dirs nested unsorted change=a/b directory= glob prefix= root=",
+    ),
+    Row(
+        &[
+            "pathspec",
+            "list",
+            "-qc",
+            "--error-unmatch",
+            "--stats",
+            "--",
+            "a",
+            "--",
+            "b",
+        ],
+        "list count quiet error-unmatch stats change= directory= prefix= root= spec=a spec=-- spec=b",
+    ),
     // mistakes, and what is asked for
+    Row(
+        &["pathspec", "list", "a", "b"],
+        "2 error: unexpected argument 'b' found",
+    ),
+    Row(
+        &["pathspec", "list", "--error-unmatch", "--attributes", "."],
+        "list error-unmatch change= directory= prefix= root= attributes=.",
+    ),
     Row(
         &["pathspec", "filter", "--glob", "--noglob"],
         "2 error: the argument '--glob' cannot be used with '--noglob'",
@@ -230,7 +295,7 @@ fn words_ask_for_what_they_say(rt: HostRuntime) -> Result<(), Fail> {
 
 #[test]
 fn help_fits_in_80_columns(rt: HostRuntime) -> Result<(), Fail> {
-    for name in ["filter", "explain", "show"] {
+    for name in ["filter", "list", "explain", "show"] {
         let words = ["pathspec", name, "--help"];
         let Err(error) = Options::from_words(rt.alloc(), words.as_slice(), "1") else {
             return Err(Fail::from(AllocError));
