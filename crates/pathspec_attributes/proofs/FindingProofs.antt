@@ -8,9 +8,9 @@ use Rattle.pathspec_attributes.specs.Files.{Files, macros_of}
 use Rattle.pathspec_glob.specs.declared.Case.{Case}
 use Rattle.pathspec_attributes.specs.declared.file.File.{File}
 use Rattle.pathspec_attributes.specs.declared.file.RuleLine.{RuleLine}
-use Rattle.pathspec_attributes.specs.Deciding.{Macro, decided_by, knows}
-use Rattle.pathspec_attributes.specs.Rules.{Rule, fits}
-use Rattle.pathspec_attributes.specs.Sayings.{FilePlace, FirstDecides, IsDecider, RuleAt, Saying, sayings, all_said, base_of, decided_in, numbered, saying_of, sayings_of_file}
+use Rattle.pathspec_attributes.specs.Deciding.{Macro, knows}
+use Rattle.pathspec_attributes.specs.Rules.{Rule}
+use Rattle.pathspec_attributes.specs.Sayings.{FilePlace, FirstDecides, IsDecider, RuleAt, Saying, sayings, all_said, decided_in, numbered, saying_of, sayings_of_file}
 use Rattle.pathspec_attributes.specs.Views.{file_view, line_in, rule_in}
 use Rattle.pathspec_attributes.proofs.SayingProofs.{map-reverse, said-append}
 
@@ -33,24 +33,10 @@ module _ (case : Case) (path : List ℕ) (is_dir : Bool) (place : FilePlace) whe
       ∙ (ap (flat_map (saying_of case path is_dir place)) (sym (map-reverse pair file.rules.items))
       ∙ flat_map-map (saying_of case path is_dir place) pair (reverse file.rules.items))
 
-  -- one that fits, and one that doesn't
-  pub says-one : (own : RuleLine) → fits case (base_of place) own.rule path is_dir ≡ true → line_says own ≡ record { at = record { file = place; line = own.line }; said = reverse own.rule.assignments } ∷ []
-  says-one own fit = rw fit refl
-
-  pub says-none : (own : RuleLine) → fits case (base_of place) own.rule path is_dir ≡ false → line_says own ≡ []
-  says-none own fit = rw fit refl
-
--- what was found, once more is behind it
-module _ {X : Type 0} (old now new one more rest whole : List X) where
-  pub found-more : old ++ whole ≡ now ++ more → more ≡ one ++ rest → new ≡ now ++ one → old ++ whole ≡ new ++ rest
-  found-more h split pushed = h ∙ (ap (λ xs. now ++ xs) split ∙ (sym (append_assoc now one rest) ∙ ap (λ xs. xs ++ rest) (sym pushed)))
-
-  -- and where nothing is left
+-- what was found, where nothing is left
+module _ {X : Type 0} (old now more whole : List X) where
   pub found-all : old ++ whole ≡ now ++ more → more ≡ [] → now ≡ old ++ whole
   found-all h none = sym (h ∙ (ap (λ xs. now ++ xs) none ∙ append-nil now))
-
-  pub found-last : old ++ whole ≡ now ++ more → more ≡ one ++ [] → new ≡ now ++ one → new ≡ old ++ whole
-  found-last h split pushed = pushed ∙ sym (h ∙ ap (λ xs. now ++ xs) (split ∙ append-nil one))
 
 -- ---- the rule that decides
 

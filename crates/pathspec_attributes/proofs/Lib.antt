@@ -10,6 +10,7 @@ pub mod AskingProofs
 pub mod FileProofs
 pub mod PathProofs
 mod FileRows
+mod DeciderRows
 pub mod DirectoryProofs
 pub mod AnswerProofs
 pub mod LawProofs

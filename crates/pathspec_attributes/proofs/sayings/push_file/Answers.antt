@@ -16,5 +16,5 @@ returns c =
     let none : c.loop-left.left ≡ 0 = omega (arith, c.loop-left-test.false) in
     let more : List Saying = flat_map says (reverse (take c.loop-left.left rules)) in
     let nothing : more ≡ [] = ap (λ (k : ℕ). flat_map says (reverse (take k rules))) none in
-    found-all old now [] [] more [] (flat_map says (reverse rules)) c.loop-left.invariant.found nothing
+    found-all old now more (flat_map says (reverse rules)) c.loop-left.invariant.found nothing
     ∙ ap (λ xs. old ++ xs) (sym (by-lines asked.case asked.path.now asked.is_dir (place_view c.args.place) c.args.file.now))
