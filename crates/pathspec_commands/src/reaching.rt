@@ -33,6 +33,8 @@ impl<R: Files + AllocGlobal, T: Write> Directories for Reaching<'_, '_, '_, '_, 
 
     ghost opened = { λ _. None };
 
+    ghost asked = { λ _. None };
+
     fn open(&mut self, path: &[u8]) -> Result<Option<Vec<Vec<u8>>>, ReachFault> {
         let names = match self.disk.open(path) {
             Ok(Some(names)) => names,

@@ -102,6 +102,8 @@ impl<'a, R: Files + AllocGlobal> Directories for Disk<'a, R> {
 
     ghost opened = { λ _. None };
 
+    ghost asked = { λ _. None };
+
     /// Opens a directory, reads the names in it and closes it. A nested repository that isn't to be opened has no names.
     fn open(&mut self, path: &[u8]) -> Result<Option<Vec<Vec<u8>>>, DiskFault> {
         self.seen.ask();

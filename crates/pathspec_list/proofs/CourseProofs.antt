@@ -35,7 +35,7 @@ path_there es n e s = ap (λ o. unwrap_or (option_map (λ (x : Entry). x.path) o
 more_paths : (es : List Entry) (n : ℕ) (e : Entry) → slice_get es n ≡ Some e → (ns : List ℕ) → paths_at es (ns ++ n ∷ []) ≡ paths_at es ns ++ e.path ∷ []
 more_paths es n e s ns = map-append (λ k. unwrap_or (option_map (λ (x : Entry). x.path) (slice_get es k)) []) ns (n ∷ []) ∙ ap (λ ps. paths_at es ns ++ ps) (path_there es n e s)
 
-more_append : (start : Option (List (List ℕ))) (xs ys : List (List ℕ)) → append_paths (append_paths start xs) ys ≡ append_paths start (xs ++ ys)
+pub more_append : (start : Option (List (List ℕ))) (xs ys : List (List ℕ)) → append_paths (append_paths start xs) ys ≡ append_paths start (xs ++ ys)
 more_append None xs ys = refl
 more_append (Some s) xs ys = ap Some (append_assoc s xs ys)
 

@@ -1,8 +1,19 @@
--- What a visit to the top goes on to.
-use Rattle.std.proofs.Common.{◌≡◌, ℕ, refl, ◌∙◌, ap, List, [], ◌∷◌, ◌++◌, map, reverse, inr, Option}
+-- What a visit goes on to.
+use Rattle.std.proofs.Common.{◌≡◌, ℕ, Bool, true, false, ◌&&◌, cond, refl, sym, ◌∙◌, ap, List, [], ◌∷◌, ◌++◌, map, reverse, inl, inr, Option, Result, Ok, Err}
+use Rattle.std.specs.Prelude.{OnOk}
 use Rattle.pathspec_parts.specs.Entries.{Entry}
-use Rattle.pathspec_list.specs.Directories.{paths_of, entries_at_top, path_in, AreNamesIn, append_paths}
-use Rattle.pathspec_list.specs.Courses.{Course, IsTopVisit, course}
+use Rattle.pathspec_list.specs.Directories.{paths_of, entries_at_top, entries_in, path_in, AreNamesIn, append_paths}
+use Rattle.pathspec_list.specs.Listings.{path_if}
+use Rattle.pathspec_list.specs.Courses.{Course, after_fault, after_entry, IsVisit, IsTopVisit, IsLook, course}
+
+-- what holds on success, and what follows from it
+pub follows_on_ok : {A F : Type 0} (r : Result A F) (P Q : Type 0) → (P → Q) → OnOk r P → OnOk r Q
+follows_on_ok (Ok a) P Q f h = f h
+follows_on_ok (Err e) P Q f h = h
+
+and_false : (a b : Bool) → b ≡ false → (a && b) ≡ false
+and_false true b h = h
+and_false false b h = refl
 
 module _ (given told opened : Option (List (List ℕ))) (stack : List (List ℕ)) (given' told' opened' : Option (List (List ℕ))) (stack' : List (List ℕ)) where
   to_course : (c : Course) → given' ≡ c.given → told' ≡ c.told → opened' ≡ c.opened → reverse stack' ≡ c.pending → course given' told' opened' stack' ≡ c
@@ -19,3 +30,13 @@ module _ (given told opened : Option (List (List ℕ))) (stack : List (List ℕ)
       as_they_are : (ns : List (List ℕ)) → map (path_in []) ns ≡ ns
       as_they_are [] = refl
       as_they_are (x ∷ xs) = ap (λ ys. x ∷ ys) (as_they_are xs)
+
+  -- A look at a path that is not to be opened is a visit to it.
+  pub look_visits : (takes : List ℕ → Bool → Bool) (can_enter : List ℕ → Bool) (es : List Entry) (path : List ℕ) → can_enter path ≡ false → opened' ≡ opened → stack' ≡ stack → IsLook takes es path given told given' told' → IsVisit takes can_enter es path (course given told opened stack) (course given' told' opened' stack')
+  look_visits takes can_enter es path skips o s look = λ full n e stands is.
+      let shut : (e.is_dir && can_enter e.path) ≡ false = and_false e.is_dir (can_enter e.path) (ap can_enter is ∙ skips) in
+      let more : List (List ℕ) = paths_of (entries_in es n e) ++ reverse stack in
+      elim (look full n e stands is) [
+        | inl w ↦ inl (to_course (after_fault (course given told opened stack) path) w.0 w.1 o (ap reverse s))
+        | inr w ↦ inr (to_course (after_entry takes can_enter es n e (course given told opened stack)) w.0 w.1 (o ∙ sym (ap (λ b. path_if b e.path opened) shut)) (ap reverse s ∙ sym (ap (λ b. cond b more (reverse stack)) shut)))
+      ]

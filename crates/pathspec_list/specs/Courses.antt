@@ -44,6 +44,10 @@ MayGive passes path given given' = (given' ≡ given) ⊎ ((given' ≡ append_pa
 abbrev pub GivesAtMost : (List ℕ → Bool → Bool) → List Entry → List ℕ → Option (List (List ℕ)) → Option (List (List ℕ)) → Type 0
 GivesAtMost takes es path given given' = path ≢ [] → EachAt es path (λ n e. MayGive (takes e.path e.is_dir) path given given')
 
+-- At most this path was looked at, and only if a walk has to.
+abbrev pub MayAsk : Bool → List ℕ → Option (List (List ℕ)) → Option (List (List ℕ)) → Type 0
+MayAsk has_to path asked asked' = (asked' ≡ asked) ⊎ ((asked' ≡ append_paths asked (path ∷ [])) × (path ≢ [] → IsTrue has_to))
+
 -- a course whose paths to be visited lie on a stack, the next one on top
 abbrev pub course : Option (List (List ℕ)) → Option (List (List ℕ)) → Option (List (List ℕ)) → List (List ℕ) → Course
 course given told opened stack = record { given = given; told = told; opened = opened; pending = reverse stack }

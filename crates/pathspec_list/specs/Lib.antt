@@ -5,4 +5,5 @@ pub use Rattle.gix_pathspec.specs.Matching
 pub use Rattle.gix_pathspec.specs.Search
 pub mod Directories
 pub mod Listings
+pub mod ListAnswers
 pub mod Courses

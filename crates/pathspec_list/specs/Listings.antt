@@ -1,11 +1,11 @@
 -- What a walk over directories gives, opens and tells.
-use Rattle.std.specs.Prelude.{◌≡◌, ℕ, Bool, not, ◌&&◌, ◌||◌, List, [], ◌∷◌, map, length, slice_get, unwrap_or, Option, Some, option_map, IsTrue, Contains, if◌then◌else◌}
+use Rattle.std.specs.Prelude.{◌≡◌, ℕ, Bool, not, ◌&&◌, ◌||◌, List, [], ◌∷◌, map, length, slice_get, unwrap_or, Option, Some, option_map, IsTrue, All, Contains, false, true, if◌then◌else◌}
 use Rattle.std.specs.List.Sorted.{IsStrictlyIncreasing}
 use Rattle.pathspec_parts.specs.Attributes.{Table}
 use Rattle.pathspec_parts.specs.Entries.{Entry, entries_where}
 use Rattle.gix_pathspec.specs.Specs.{Spec}
 use Rattle.gix_pathspec.specs.Matching.{is_chosen}
-use Rattle.pathspec_walk.specs.Walks.{IsEntryWith, HasWalked}
+use Rattle.pathspec_walk.specs.Walks.{IsEntryWith, HasWalked, can_hold}
 use Rattle.pathspec_list.specs.Directories.{append_paths}
 
 -- whether an entry is listed: it is chosen, and a file unless directories are wanted too
@@ -19,6 +19,14 @@ paths_at es ns = map (λ n. unwrap_or (option_map (λ e. e.path) (slice_get es n
 -- a path more where the test passes
 abbrev pub path_if : Bool → List ℕ → Option (List (List ℕ)) → Option (List (List ℕ))
 path_if passes path paths = if passes then append_paths paths (path ∷ []) else paths
+
+-- whether a walk has to look at a path: something below it can be chosen, or it is listed, as a file or as a directory
+abbrev pub matters : (List ℕ → Bool → Bool) → List Spec → List ℕ → Bool
+matters takes specs path = can_hold specs path || takes path false || takes path true
+
+-- Each of these paths is one that a walk has to look at.
+abbrev pub AllMatter : (List ℕ → Bool → Bool) → List Spec → List (List ℕ) → Type 0
+AllMatter takes specs paths = All (λ path. IsTrue (matters takes specs path)) paths
 
 -- What was given is a part, in order, of the entries that pass.
 pub record GivesPart (takes : List ℕ → Bool → Bool) (es : List Entry) (given : List (List ℕ)) : Type 0 where

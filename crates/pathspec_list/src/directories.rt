@@ -1,8 +1,8 @@
 //! Directories that a walk opens by their paths.
-ghost use Rattle.std.specs.Prelude.{◌≡◌, ℕ, List, Option, map, IfOk};
+ghost use Rattle.std.specs.Prelude.{◌≡◌, ℕ, List, [], ◌∷◌, Option, map, IfOk};
 ghost use Rattle.std.specs.Option.{option_map};
 ghost use Rattle.pathspec_parts.specs.Entries.{Entry};
-ghost use Rattle.pathspec_list.specs.Directories.{EachAt, IsFoundAt, OfTree, IsTree, opened_after};
+ghost use Rattle.pathspec_list.specs.Directories.{EachAt, IsFoundAt, OfTree, IsTree, append_paths, opened_after};
 
 use std::fmt::Debug;
 
@@ -19,6 +19,9 @@ pub trait Directories {
     /// The paths of the directories that were opened, the first one first, if they are known.
     ghost opened: { Self → Option (List (List ℕ)) };
 
+    /// The paths that were looked at, the first one first, if they are known: one more for each call.
+    ghost asked: { Self → Option (List (List ℕ)) };
+
     /// Opens the directory at a path, and gives the names in it, in the order in which a walk is to come to them. None is given
     /// where something else stands, as a file, or a link to a directory.
     ///
@@ -28,6 +31,7 @@ pub trait Directories {
         ensures found { OfTree (tree self.old) (λ es. IfOk result (λ found.
             IsFoundAt es path.now (option_map (λ v. map (λ name. name.items) v.items) found))) }
         ensures opened { opened self.new ≡ opened_after (opened self.old) path.now result }
+        ensures asked { asked self.new ≡ append_paths (asked self.old) (path.now ∷ []) }
         ensures tree { OfTree (tree self.old) IsTree }
         ensures tree_stays { tree self.new ≡ tree self.old };
 
@@ -39,5 +43,6 @@ pub trait Directories {
         ensures found { OfTree (tree self.old) (λ es. IfOk result (λ is_dir.
             EachAt es path.now (λ n e. e.is_dir ≡ is_dir))) }
         ensures opened { opened self.new ≡ opened self.old }
+        ensures asked { asked self.new ≡ append_paths (asked self.old) (path.now ∷ []) }
         ensures tree_stays { tree self.new ≡ tree self.old };
 }

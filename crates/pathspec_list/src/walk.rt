@@ -5,8 +5,9 @@ ghost use Rattle.gix_pathspec.specs.Room.{Fits};
 ghost use Rattle.gix_pathspec.specs.Search.{specs_of};
 ghost use Rattle.pathspec_walk.specs.Walks.{can_hold};
 ghost use Rattle.pathspec_list.specs.Directories.{OfTree, IsTree, path_in, append_paths};
-ghost use Rattle.pathspec_list.specs.Listings.{is_listed, path_if, IsMore, NothingTold, GivesPart, GivesAll};
-ghost use Rattle.pathspec_list.specs.Courses.{IsVisit, IsTopVisit, IsLook, MayGive, GivesAtMost, course};
+ghost use Rattle.pathspec_list.specs.Listings.{is_listed, path_if, matters, AllMatter, IsMore, NothingTold, GivesPart, GivesAll};
+ghost use Rattle.pathspec_list.specs.Courses.{IsVisit, IsTopVisit, IsLook, MayAsk, MayGive, GivesAtMost, course};
+ghost use Rattle.pathspec_list.specs.ListAnswers.{CountsFailure, AsksInWalk, AsksNoLookUp};
 
 use crate::{Directories, Visitor};
 use bstr::BStr;
@@ -38,7 +39,7 @@ pub enum ListError<F, S> {
 ///
 /// It gives the paths of files, and those of directories too where they are wanted, a directory before what lies in it. It opens the
 /// top, and just the directories that it comes to and may not skip ([`Search::may_skip`]). No path that is selected is lost by that.
-/// Of a name that can't be selected, and in which nothing can be, nothing is asked.
+/// It looks only at paths that it may not skip, or that it gives if a file or a directory stands there, whatever fails.
 ///
 /// A path that can't be looked at is told to the visitor once, and the walk goes on if the visitor lets it. What it gave is then a part
 /// of all that is selected, in order. It depends on what the directories claim of their tree: of one that may change nothing is
@@ -47,8 +48,8 @@ pub enum ListError<F, S> {
 /// The call takes memory for a scratch of the search, and for the names in opened directories that it has still to visit.
 ///
 /// # Errors
-/// [`ListError::LookUp`], [`ListError::Stopped`], [`ListError::NoDirectory`] and [`ListError::Memory`]. What was given before is a
-/// part of all, in order.
+/// [`ListError::LookUp`], only where the look-up failed in this call, [`ListError::Stopped`], [`ListError::NoDirectory`] and
+/// [`ListError::Memory`]. What was given before is a part of all, in order.
 pub fn walk_selected<D: Directories, L: LookUp, V: Visitor<D::Fault>>(
     alloc: Global,
     directories: &mut D,
@@ -68,8 +69,13 @@ pub fn walk_selected<D: Directories, L: LookUp, V: Visitor<D::Fault>>(
         IsMore (D.opened directories.old) (D.opened directories.new) (
         GivesAll (is_listed with_directories (L.table look_up.old) (specs_of search.now.specs))
         (specs_of search.now.specs) es given)))) }
+    // What was looked at is at most what can be given, and what can hold something.
+    ensures asked { IsMore (D.asked directories.old) (D.asked directories.new) (AllMatter
+        (is_listed with_directories (L.table look_up.old) (specs_of search.now.specs))
+        (specs_of search.now.specs)) }
     ensures tree_stays { D.tree directories.new ≡ D.tree directories.old }
     ensures table_stays { L.table look_up.new ≡ L.table look_up.old }
+    ensures counts { CountsFailure (L.failures look_up.old) (L.failures look_up.new) result }
 {
     // The proof reads here that no nil spec has a prefix directory.
     laws::nil_specs_lack_a_prefix(search);
@@ -125,8 +131,10 @@ fn open_top<D: Directories, F, V: Visitor<D::Fault>>(
         (course (V.given visitor.new) (V.told visitor.new) (D.opened directories.new)
         (map (λ v. v.items) pending.new.items)))) }
     ensures given { V.given visitor.new ≡ V.given visitor.old }
+    ensures asked { D.asked directories.new ≡ append_paths (D.asked directories.old) ([] ∷ []) }
     ensures tree { OfTree (D.tree directories.old) IsTree }
     ensures tree_stays { D.tree directories.new ≡ D.tree directories.old }
+    ensures look_up { AsksNoLookUp result }
 {
     match directories.open(b"") {
         Ok(Some(names)) => match push_names(alloc, pending, b"", names) {
@@ -170,9 +178,14 @@ impl Walker<'_> {
             GivesAtMost
             (is_listed self.now.with_directories (L.table look_up.old) (specs_of self.now.search.now.specs))
             es path.now (V.given visitor.old) (V.given visitor.new))) }
+        ensures asked { MayAsk (matters
+            (is_listed self.now.with_directories (L.table look_up.old) (specs_of self.now.search.now.specs))
+            (specs_of self.now.search.now.specs) path.now)
+            path.now (D.asked directories.old) (D.asked directories.new) }
         ensures room { scratch.new.room ≡ scratch.old.room }
         ensures tree_stays { D.tree directories.new ≡ D.tree directories.old }
-        ensures table_stays { L.table look_up.new ≡ L.table look_up.old }
+        ensures look_up { AsksInWalk (L.table look_up.old) (L.failures look_up.old)
+            (L.table look_up.new) (L.failures look_up.new) result }
     {
         if self.search.may_skip(BStr::new(path), scratch) {
             return self.visit_skipped(directories, scratch, look_up, visitor, path);
@@ -208,10 +221,15 @@ impl Walker<'_> {
             GivesAtMost
             (is_listed self.now.with_directories (L.table look_up.old) (specs_of self.now.search.now.specs))
             es path.now (V.given visitor.old) (V.given visitor.new))) }
-        ensures room { scratch.new.room ≡ scratch.old.room }
+        ensures asked { MayAsk (matters
+            (is_listed self.now.with_directories (L.table look_up.old) (specs_of self.now.search.now.specs))
+            (specs_of self.now.search.now.specs) path.now)
+            path.now (D.asked directories.old) (D.asked directories.new) }
         ensures opened { D.opened directories.new ≡ D.opened directories.old }
+        ensures room { scratch.new.room ≡ scratch.old.room }
         ensures tree_stays { D.tree directories.new ≡ D.tree directories.old }
-        ensures table_stays { L.table look_up.new ≡ L.table look_up.old }
+        ensures look_up { AsksInWalk (L.table look_up.old) (L.failures look_up.old)
+            (L.table look_up.new) (L.failures look_up.new) result }
     {
         let file = self.lists(scratch, look_up, path, false)?;
         let directory = self.lists(scratch, look_up, path, true)?;
@@ -244,7 +262,8 @@ impl Walker<'_> {
             path.now (V.given visitor.old) (V.given visitor.new)) }
         ensures room { scratch.new.room ≡ scratch.old.room }
         ensures told { V.told visitor.new ≡ V.told visitor.old }
-        ensures table_stays { L.table look_up.new ≡ L.table look_up.old }
+        ensures look_up { AsksInWalk (L.table look_up.old) (L.failures look_up.old)
+            (L.table look_up.new) (L.failures look_up.new) result }
     {
         let listed = self.lists(scratch, look_up, path, is_dir)?;
         give_if(listed, visitor, path, is_dir)
@@ -266,7 +285,8 @@ impl Walker<'_> {
             listed ≡ is_listed self.now.with_directories
             (L.table look_up.old) (specs_of self.now.search.now.specs) path.now is_dir) }
         ensures room { scratch.new.room ≡ scratch.old.room }
-        ensures table_stays { L.table look_up.new ≡ L.table look_up.old }
+        ensures look_up { AsksInWalk (L.table look_up.old) (L.failures look_up.old)
+            (L.table look_up.new) (L.failures look_up.new) result }
     {
         if is_dir && !self.with_directories {
             return Ok(false);
@@ -291,6 +311,7 @@ fn give_if<F, E, V: Visitor<F>>(
 ) -> Result<(), ListError<E, V::Stop>>
     ensures given { V.given visitor.new ≡ path_if is_given path.now (V.given visitor.old) }
     ensures told { V.told visitor.new ≡ V.told visitor.old }
+    ensures look_up { AsksNoLookUp result }
 {
     if !is_given {
         return Ok(());
@@ -312,6 +333,7 @@ fn tell<F, E, V: Visitor<F>>(
 ) -> Result<(), ListError<E, V::Stop>>
     ensures given { V.given visitor.new ≡ V.given visitor.old }
     ensures told { V.told visitor.new ≡ append_paths (V.told visitor.old) (path.now ∷ []) }
+    ensures look_up { AsksNoLookUp result }
 {
     match visitor.tell(path, fault) {
         Ok(()) => Ok(()),

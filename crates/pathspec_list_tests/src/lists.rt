@@ -133,15 +133,18 @@ fn a_failed_look_up_ends_the_walk(rt: HostRuntime) -> Result<(), Fail> {
     let alloc = rt.alloc();
     let search = search_of_line(alloc, ":(attr:gen).", "")?;
     let mut directories = MemoryDirectories::new(alloc, DIRECTORIES, "");
+    let mut look_up = Marks::failing_after(1);
     let mut notes = Notes::new(alloc, true);
     let ended = walk_selected(
         alloc,
         &mut directories,
         &search,
         false,
-        &mut Marks::failing_after(1),
+        &mut look_up,
         &mut notes,
     );
     assert!(rt; matches!(ended, Err(ListError::LookUp(AllocError))) && notes.are(""));
+    assert!(rt; look_up.asked == 2 && look_up.failed == 1);
+    assert!(rt; directories.asked.as_slice() == b" Makefile a a/b ");
     Ok(())
 }

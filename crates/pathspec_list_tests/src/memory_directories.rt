@@ -76,6 +76,8 @@ impl<'a> Directories for MemoryDirectories<'a> {
 
     ghost opened = { λ _. None };
 
+    ghost asked = { λ _. None };
+
     fn open(&mut self, path: &[u8]) -> Result<Option<Vec<Vec<u8>>>, Fault> {
         self.ask(path)?;
         let Some(line) = self.names(path) else {
