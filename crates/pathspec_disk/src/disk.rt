@@ -31,6 +31,8 @@ pub struct Disk<'a, R> {
     seen: &'a Seen,
     /// The room for one read of names.
     room: Vec<u8>,
+    /// The name that the system has for the path that is looked at. It is kept, so that a path costs no memory of its own.
+    name: String,
 }
 
 impl<'a, R: Files + AllocGlobal> Disk<'a, R> {
@@ -51,28 +53,33 @@ impl<'a, R: Files + AllocGlobal> Disk<'a, R> {
             options,
             seen,
             room,
+            name: String::new(rt.alloc()),
         })
     }
 
-    /// The name that the system has for a path.
+    /// Turns to a path: takes the name that the system has for it.
     ///
     /// # Errors
     /// The path isn't UTF-8, or memory ran out.
-    fn name(&self, path: &[u8]) -> Result<String, DiskFault> {
-        match str::from_utf8(path) {
-            // The dot behind it follows a top that is a link.
-            Ok("") => Ok(format!(in self.rt.alloc(); "{}/.", self.top)?),
-            Ok(path) => Ok(format!(in self.rt.alloc(); "{}/{path}", self.top)?),
-            Err(_) => Err(DiskFault::NotUtf8),
-        }
+    fn turn_to(&mut self, path: &[u8]) -> Result<(), DiskFault> {
+        let Ok(path) = str::from_utf8(path) else {
+            return Err(DiskFault::NotUtf8);
+        };
+        // The dot behind it follows a top that is a link.
+        let path = if path.is_empty() { "." } else { path };
+        self.name.clear();
+        self.name.push_str(self.top)?;
+        self.name.push('/')?;
+        self.name.push_str(path)?;
+        Ok(())
     }
 
-    /// Reads the names in a directory, each with the byte 0 at its end. None is given where something else stands.
+    /// Reads the names in the directory, each with the byte 0 at its end. None is given where something else stands.
     ///
     /// # Errors
     /// What the system refuses.
-    fn read(&mut self, name: &str) -> Result<Option<Vec<u8>>, DiskFault> {
-        let mut directory = match self.rt.open_dir(name) {
+    fn read(&mut self) -> Result<Option<Vec<u8>>, DiskFault> {
+        let mut directory = match self.rt.open_dir(self.name.as_str()) {
             Ok(directory) => directory,
             Err(error) if error.kind() == ErrorKind::NotADirectory => return Ok(None),
             Err(error) => return Err(DiskFault::from(error)),
@@ -88,10 +95,10 @@ impl<'a, R: Files + AllocGlobal> Disk<'a, R> {
         Ok(Some(names))
     }
 
-    /// Whether a `.git` lies in the directory with a name.
-    fn is_nested(&self, name: &str) -> Result<bool, DiskFault> {
-        let git = format!(in self.rt.alloc(); "{name}/.git")?;
-        Ok(fs::symlink_metadata(self.rt, git.as_str()).is_ok())
+    /// Whether a `.git` lies in the directory. The disk turns to that.
+    fn is_nested(&mut self) -> Result<bool, DiskFault> {
+        self.name.push_str("/.git")?;
+        Ok(fs::symlink_metadata(self.rt, self.name.as_str()).is_ok())
     }
 }
 
@@ -107,8 +114,8 @@ impl<'a, R: Files + AllocGlobal> Directories for Disk<'a, R> {
     /// Opens a directory, reads the names in it and closes it. A nested repository that isn't to be opened has no names.
     fn open(&mut self, path: &[u8]) -> Result<Option<Vec<Vec<u8>>>, DiskFault> {
         self.seen.ask();
-        let name = self.name(path)?;
-        let Some(bytes) = self.read(name.as_str())? else {
+        self.turn_to(path)?;
+        let Some(bytes) = self.read()? else {
             return Ok(None);
         };
         if !path.is_empty() && !self.options.nested && has_git(&bytes) {
@@ -123,9 +130,9 @@ impl<'a, R: Files + AllocGlobal> Directories for Disk<'a, R> {
 
     fn is_dir(&mut self, path: &[u8]) -> Result<bool, DiskFault> {
         self.seen.ask();
-        let name = self.name(path)?;
-        let is_dir = fs::symlink_metadata(self.rt, name.as_str())?.is_dir();
-        if is_dir && !self.options.nested && self.is_nested(name.as_str())? {
+        self.turn_to(path)?;
+        let is_dir = fs::symlink_metadata(self.rt, self.name.as_str())?.is_dir();
+        if is_dir && !self.options.nested && self.is_nested()? {
             self.seen.meet_nested();
         }
         Ok(is_dir)
