@@ -8,7 +8,7 @@ use crate::asked::{Asked, read_specs};
 use crate::attributes::{Attributes, attributes_of};
 use crate::devices::{FirstByte, FrontReader};
 use crate::piecewise::filter_pieces;
-use crate::telling::tell;
+use crate::telling::{noun, tell};
 use crate::unmatched::{Includes, Unmatched};
 use gix_pathspec::Search;
 use pathspec_filter::{Counts, FilterError, LeadingDot, Selection, filter};
@@ -229,8 +229,10 @@ fn write_counts<W: Write, T: Write>(
             selected,
             skipped,
         } = counts;
+        let read = noun(records, "record", "records");
+        let directories = noun(skipped, "directory", "directories");
         let line = format!(in alloc;
-            "{records} records, {selected} selected, {skipped} directories passed over\n"
+            "{records} {read}, {selected} selected, {skipped} {directories} passed over\n"
         )?;
         tell(told, line.as_str());
     }

@@ -3,7 +3,7 @@ ghost use Rattle.std.specs.Prelude.{None};
 
 use crate::Failure;
 use crate::asked::Asked;
-use crate::telling::{quoted, tell};
+use crate::telling::{noun, quoted, tell};
 use crate::unmatched::Includes;
 use pathspec_disk::{DiskFault, Seen};
 use pathspec_list::Visitor;
@@ -140,8 +140,10 @@ impl<'w, 't, 's, 'o, 'r, 'i, 'd, D: Files + AllocGlobal, W: Write, T: Write> Lis
     /// Tells how much was opened, read and passed over.
     fn tell_counts(&mut self) -> Result<(), AllocError> {
         let counts = self.seen.counts();
+        let directories = noun(counts.opened, "directory", "directories");
+        let names = noun(counts.names, "name", "names");
         let line = format!(in self.alloc;
-            "{} directories opened, {} names, {} passed over, {} selected\n",
+            "{} {directories} opened, {} {names}, {} passed over, {} selected\n",
             counts.opened, counts.names, counts.passed_over, self.selected
         )?;
         tell(self.told, line.as_str());

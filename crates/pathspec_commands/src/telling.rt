@@ -17,6 +17,11 @@ pub(crate) fn quoted(alloc: Global, text: &[u8]) -> Result<String, AllocError> {
     Ok(shown)
 }
 
+/// The word for so many of something.
+pub(crate) fn noun(count: u64, one: &'static str, many: &'static str) -> &'static str {
+    if count == 1 { one } else { many }
+}
+
 /// Adds so many spaces.
 pub(crate) fn push_spaces(line: &mut String, count: usize) -> Result<(), AllocError> {
     for _ in 0..count {

@@ -37,7 +37,7 @@ fn a_filter_writes_what_is_asked_for(rt: HostRuntime) -> Result<(), Fail> {
         (&["filter", "-q", "a"], "b\na\n/\n", "", "", 0),
         (&["filter", "-q", "a"], "b\n", "", "", 1),
         (&["filter", "-qc", "b"], "b\n", "", "", 0),
-        (&["filter", "--stats", ":!a"], "a/x\na/y\nb\n", "b\n", "3 records, 1 selected, 1 directories passed over\n", 0),
+        (&["filter", "--stats", ":!a"], "a/x\na/y\nb\n", "b\n", "3 records, 1 selected, 1 directory passed over\n", 0),
         (&["filter", "--prefix=src/", "x"], "x\nsrc/x\n", "src/x\n", "", 0),
         (&["filter", "--prefix", "src"], "x\nsrc/x\n", "src/x\n", "", 0),
         (&["filter", "--root=/r", "/r/x"], "x\nsrc/x\n", "x\n", "", 0),
