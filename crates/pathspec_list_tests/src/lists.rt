@@ -145,6 +145,6 @@ fn a_failed_look_up_ends_the_walk(rt: HostRuntime) -> Result<(), Fail> {
     );
     assert!(rt; matches!(ended, Err(ListError::LookUp(AllocError))) && notes.are(""));
     assert!(rt; look_up.asked == 2 && look_up.failed == 1);
-    assert!(rt; directories.asked.as_slice() == b" Makefile a a/b ");
+    assert!(rt; directories.asked.as_slice() == b" Makefile a a/b ".as_slice());
     Ok(())
 }
