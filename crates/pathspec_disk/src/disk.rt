@@ -1,5 +1,5 @@
 //! The directories of a disk.
-ghost use Rattle.std.specs.Prelude.{None};
+ghost use Rattle.std.specs.Prelude.{◌≡◌, ◌≢◌, [], ◌++◌, None, OnOk, codes, string_bytes};
 
 use crate::names::{has_git, names_of};
 use crate::{DiskFault, Seen};
@@ -61,7 +61,11 @@ impl<'a, R: Files + AllocGlobal> Disk<'a, R> {
     ///
     /// # Errors
     /// The path isn't UTF-8, or memory ran out.
-    fn turn_to(&mut self, path: &[u8]) -> Result<(), DiskFault> {
+    fn turn_to(&mut self, path: &[u8]) -> Result<(), DiskFault>
+        // Nothing stands behind the path, so the system sees a link as a link. It would follow one before a slash.
+        ensures name { OnOk result (path.now ≢ [] →
+            string_bytes self.new.name ≡ self.old.top.now ++ codes "/" ++ path.now) }
+    {
         let Ok(path) = str::from_utf8(path) else {
             return Err(DiskFault::NotUtf8);
         };

@@ -1,10 +1,11 @@
 //! Specs that are asked why they match paths.
-ghost use Rattle.std.specs.Prelude.{◌≡◌, IfOk};
+ghost use Rattle.std.specs.Prelude.{◌≡◌, IfOk, IfErr};
 ghost use Rattle.bstr.specs.BStr.{bstr_bytes};
 ghost use Rattle.pathspec_parts.specs.Attributes.{AsksLookUp};
 ghost use Rattle.gix_pathspec.specs.Patterns.{pattern_spec};
 ghost use Rattle.gix_pathspec.specs.Matching.{spec_matches};
 ghost use Rattle.gix_pathspec.specs.Room.{glob_size};
+ghost use Rattle.gix_pathspec.specs.Errors.{IsMemory};
 ghost use Rattle.gix_pathspec.specs.Search.{specs_of};
 ghost use Rattle.pathspec_explain.specs.Reasons.{IsReason, is_match, without_case};
 
@@ -50,7 +51,8 @@ impl<'p> AskedSpec<'p> {
     /// # Errors
     /// [`Error::Memory`] alone.
     pub fn new(alloc: Global, pattern: &'p Pattern) -> Result<AskedSpec<'p>, Error>
-        ensures { IfOk result (λ asked. asked ≡ pattern_spec pattern.now) }
+        ensures ok { IfOk result (λ asked. asked ≡ pattern_spec pattern.now) }
+        ensures err { IfErr result IsMemory }
     {
         let folded = without_case(pattern)?;
         let glob = compile_glob(alloc, pattern, pattern.has_wildcard())?;
@@ -109,7 +111,8 @@ impl<'p> AskedSpec<'p> {
 /// # Errors
 /// [`Error::Memory`] alone.
 pub fn asked_specs(alloc: Global, search: &Search) -> Result<Vec<AskedSpec<'_>>, Error>
-    ensures { IfOk result (λ asked. asked.items ≡ specs_of search.now.specs) }
+    ensures ok { IfOk result (λ asked. asked.items ≡ specs_of search.now.specs) }
+    ensures err { IfErr result IsMemory }
 {
     let mut asked = Vec::new(alloc);
     let mut patterns = search.patterns();
@@ -121,7 +124,8 @@ pub fn asked_specs(alloc: Global, search: &Search) -> Result<Vec<AskedSpec<'_>>,
 
 /// A copy of a pattern for which case doesn't count.
 fn without_case(pattern: &Pattern) -> Result<Pattern, Error>
-    ensures { IfOk result (λ folded. pattern_spec folded ≡ without_case (pattern_spec pattern.now)) }
+    ensures ok { IfOk result (λ folded. pattern_spec folded ≡ without_case (pattern_spec pattern.now)) }
+    ensures err { IfErr result IsMemory }
 {
     let mut folded = pattern.try_clone()?;
     folded.signature.insert(MagicSignature::ICASE);

@@ -16,7 +16,7 @@ pub invariant_of-result : goal.invariant_of-result
 invariant_of-result c =
     let size : c.in_ok-globs.globs.tokens ≡ tokens_of (pattern_spec c.args.pattern.now) = ap (λ (r : Room). r.tokens) c.in_ok-globs.ensures ∙ (c.tokens.ensures ∙ ap glob_size c.in_ok-glob.ensures) in
     record {
-      is_folded = c.in_ok-folded.ensures;
+      is_folded = c.in_ok-folded.ensures.ok;
       is_glob = c.in_ok-glob.ensures;
       has_room = omega (arith, size);
       has_names = ap names_of c.in_ok-outcome.ensures ∙ reset-names _ _ c.deref.ensures.value;
