@@ -12,8 +12,7 @@ use Rattle.pathspec_glob_set.specs.Sets.{member_matches, AreEnds, AreMovesOf, Is
 use Rattle.pathspec_glob_set.specs.Meanings.{is_over_before, is_wide_before, may_cut, stands, takes_before}
 use Rattle.pathspec_glob_set.specs.Answers.{IsFound, IsMatch, LeavesOutNone, MemberMatches, NoneCuts}
 use Rattle.pathspec_glob.proofs.GlobProofs.{glob_is_relation}
-use Rattle.pathspec_glob_set.specs.declared.table.Table.{Table}
-use Rattle.pathspec_glob_set.specs.Tables.{is_unknown, Finds, IsInUse, IsKnown}
+use Rattle.pathspec_glob_set.specs.Tables.{is_unknown, IsKnown}
 use Rattle.pathspec_glob.specs.BitVecs.{holds}
 use Rattle.pathspec_glob_set.proofs.CutProofs.{free-or, says-matches, settled-cuts, settled-matches, IsFirstSettled}
 
@@ -136,17 +135,3 @@ some-match-alike some others text from gave_up later (Some number) alike e is = 
 -- moves are those that they are
 pub alike-self : (moves : Moves) → AreAlike moves moves
 alike-self moves = record { wide = refl; over = refl; cuts = refl; start = refl; classes = refl; takes = refl; ends = refl }
-
--- ---- rows in use
-
-pub row-in-use : (table : Table) (k : ℕ) → k < table.used → IsInUse table (Row k)
-row-in-use table k low r e = let same : k ≡ r = cc in subst (λ j. j < table.used) same low
-
-pub unknown-in-use : (table : Table) → IsInUse table Unknown
-unknown-in-use table r e = cc
-
--- a walk tells of a row in use
-pub found-in-use : (table : Table) (text : List ℕ) (lead : Lead) → Finds table text lead → IsInUse table lead
-found-in-use table text (Row k) found = row-in-use table k found.0
-found-in-use table text Nowhere found = λ r e. cc
-found-in-use table text Unknown found = unknown-in-use table

@@ -1,13 +1,13 @@
 -- A set of globs is made: its places and the classes of bytes.
-use Rattle.std.proofs.Common.{◌≡◌, ℕ, zero, suc, ◌+◌, ◌<◌, Bool, refl, sym, ◌∙◌, ap, subst, arith, inl, inr, List, [], ◌∷◌, ◌++◌, length, get_or, take}
+use Rattle.std.proofs.Common.{◌≡◌, ℕ, zero, suc, ◌+◌, ◌<◌, Bool, refl, sym, ◌∙◌, ap, subst, arith, inl, inr, List, [], ◌∷◌, ◌++◌, length, get_or, set, take}
 use Rattle.std.proofs.lemmas.Bool.{cases_eq, cases_lt}
-use Rattle.std.proofs.lemmas.List.{get_or_default, get_or_append_left, get_or_push, length_push, take_all}
+use Rattle.std.proofs.lemmas.List.{get_or_default, get_or_append_left, get_or_push, get_or-set_other, get_or-set_same, length_push, take_all}
 use Rattle.std.proofs.lemmas.List.Sums.{sum_by_more}
 use Rattle.std.specs.List.{sum_by}
 use Rattle.pathspec_glob_set.specs.declared.member.Member.{Member}
 use Rattle.pathspec_glob_set.specs.declared.building.Classes.{Classes}
 use Rattle.pathspec_glob_set.specs.Meanings.{takes_before}
-use Rattle.pathspec_glob_set.specs.Questions.{AddsClass, AreClasses}
+use Rattle.pathspec_glob_set.specs.Questions.{AddsClass, AreClasses, AreTakenAlike}
 use Rattle.pathspec_glob_set.specs.Sets.{count_places, size_of, AreEnds, IsAt, IsColumn}
 use Rattle.pathspec_glob_set.specs.Sizes.{row_at}
 use Rattle.pathspec_glob_set.proofs.ColumnProofs.{later}
@@ -104,3 +104,15 @@ more-classes globs ends places byte old new column class are adds size is here o
         subst (IsColumn globs ends (λ glob i. takes_before glob.tokens glob.case i b)) (sym there) (are.takes b low)
   ];
 }
+
+-- one byte more, of the class of the byte before
+pub same-class : (globs : List Member) (ends : List ℕ) (places byte b : ℕ) (old : Classes) → AreClasses globs ends places byte old → suc b ≡ byte → AreTakenAlike globs byte b → byte < length old.of_byte
+    → AreClasses globs ends places (byte + 1) (record { of_byte = set old.of_byte byte (get_or old.of_byte b 0); takes = old.takes })
+same-class globs ends places byte b old are e alike long =
+    let class = get_or old.of_byte b 0 in
+    let new : Classes = record { of_byte = set old.of_byte byte class; takes = old.takes } in
+    let low : b < byte = omega (arith, e) in
+    let column = row_at old.takes.items class in
+    more-classes globs ends places byte old new column class are (there-already old.takes.items column class (are.within b low) refl) (are.sizes class (are.within b low))
+    (λ g glob i k at few stands. are.takes b low g glob i k at few stands ∙ sym (alike g glob at i few))
+    (get_or-set_same old.of_byte byte class 0 long) (λ k h. get_or-set_other old.of_byte byte k class 0 (λ same. omega (arith, same, h)))

@@ -4,6 +4,7 @@ pub mod SetProofs
 pub mod StartProofs
 pub mod ColumnProofs
 pub mod BuildingProofs
+pub mod BorderProofs
 pub mod CutProofs
 pub mod TableProofs
 pub mod AnswerProofs

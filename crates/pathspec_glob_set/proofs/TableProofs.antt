@@ -1,18 +1,18 @@
 -- Tables of rows that texts led to.
 use Rattle.std.proofs.Common.{◌≡◌, ◌≢◌, ℕ, zero, suc, ◌+◌, ◌-◌, ◌*◌, ◌<◌, ◌≤◌, Bool, true, false, ◌&&◌, ◌||◌, refl, sym, ◌∙◌, ap, subst, arith, inl, inr, List, [], ◌∷◌, length, get_or, set, replicate, drop, ◌^◌}
-use Rattle.std.proofs.lemmas.Bool.{cases_eq, cases_lt}
+use Rattle.std.proofs.lemmas.Bool.{cases_eq, cases_lt, true≢false}
 use Rattle.std.proofs.lemmas.List.{get_or-set_same, get_or-set_other, length-set, get_or-replicate, length-replicate, get_or_past, drop_more}
 use Rattle.std.proofs.Math.Nat.{mul-le-mul_right}
 use Rattle.std.proofs.lemmas.Nat.{same_from_place, mul-add-lt}
 use Rattle.pathspec_glob.specs.GlobCells.{further}
 use Rattle.pathspec_glob.specs.BitVecs.{holds}
 use Rattle.pathspec_glob_set.specs.declared.moves.Moves.{Moves}
-use Rattle.pathspec_glob_set.specs.Moves.{entered_by, HoldsNone, IsLost, IsStep, LeadsNowhere, LeadsTo, takes_of}
+use Rattle.pathspec_glob_set.specs.Moves.{class_of, entered_by, HoldsNone, IsLost, IsSink, IsStep, LeadsNowhere, LeadsTo, takes_of}
 use Rattle.pathspec_glob_set.specs.Moves.LeadsTo.{byte, empty}
 use Rattle.pathspec_glob_set.specs.Rows.{leads_on, taken_of}
 use Rattle.pathspec_glob_set.specs.Sizes.{row_at, IsFirst}
 use Rattle.pathspec_glob_set.specs.declared.table.Table.{Table}
-use Rattle.pathspec_glob_set.specs.Tables.{cell_of, most_misses, nowhere, row_of, unknown, AddsSpare, AreCells, AreFewSteps, AreRows, IsRight, IsTable}
+use Rattle.pathspec_glob_set.specs.Tables.{cell_of, most_misses, nowhere, row_of, unknown, AddsSpare, AreCells, AreFewSteps, AreRows, AreSinks, IsRight, IsTable}
 
 -- ---- rows
 
@@ -146,6 +146,122 @@ pub lost-front : (moves : Moves) (k : ℕ) (text : List ℕ) → ((i : ℕ) → 
 lost-front moves zero text fits nowhere = nowhere
 lost-front moves (suc k) [] fits nowhere = nowhere
 lost-front moves (suc k) (b ∷ text) fits nowhere = lost-more moves b text (fits 0) (lost-front moves k text (λ i. fits (suc i)) nowhere)
+
+-- ---- sinks
+
+-- where the end of a text leads to a sink, the text does
+pub sink-front : (moves : Moves) (k : ℕ) (text : List ℕ) (row : List Bool) → ((i : ℕ) → get_or text i 0 < 256) → IsSink moves row → LeadsTo moves (drop k text) row → LeadsTo moves text row
+sink-front moves zero text row fits sink leads = leads
+sink-front moves (suc k) [] row fits sink leads = leads
+sink-front moves (suc k) (b ∷ text) row fits sink leads =
+    byte (fits 0) (sink-front moves k text row (λ i. fits (suc i)) sink leads) (sink (class_of moves b) (moves.sizes.each_byte b (fits 0)))
+
+further-same : (f g : ℕ → Bool) (i : ℕ) → ((j : ℕ) → suc j ≡ i → f j ≡ g j) → further false f i ≡ further false g i
+further-same f g zero same = refl
+further-same f g (suc i) same = same i refl
+
+-- where bytes are taken at the same places of a row as those that lead to itself, they do so, too
+pub sink-step : (moves : Moves) (some others row : List Bool) → IsStep moves some row row → ((i : ℕ) → i < length row → taken_of some row i ≡ taken_of others row i) → IsStep moves others row row
+sink-step moves some others row step same = record {
+  size = step.size;
+  places = λ i h uncut.
+      let here : (j : ℕ) → j ≤ i → taken_of some row j ≡ taken_of others row j = λ j low. same j (omega (arith, low, h, step.size)) in
+      step.places i h uncut
+      ∙ ap (λ x. (x || (taken_of some row i && holds moves.wide i)) || leads_on (holds moves.wide) (holds moves.over) (holds row) i) (further-same (taken_of some row) (taken_of others row) i (λ j e. here j (omega (arith, e))))
+      ∙ ap (λ x. (further false (taken_of others row) i || (x && holds moves.wide i)) || leads_on (holds moves.wide) (holds moves.over) (holds row) i) (here i (omega arith));
+}
+
+-- the first row alone
+pub one-sink : (moves : Moves) (rows : List (List Bool)) (used : ℕ) (sinks : List Bool) → 0 < used → AreSinks moves rows used sinks → AreSinks moves rows 1 sinks
+one-sink moves rows used sinks some are = record { alike = are.alike; stay = λ r h. are.stay r (omega (arith, h, some)) }
+
+-- no row is known for a sink
+pub no-sinks : (moves : Moves) (rows : List (List Bool)) (used count : ℕ) → length rows ≡ count → AreSinks moves rows used (replicate count false)
+no-sinks moves rows used count e = record {
+  alike = length-replicate count false ∙ sym e;
+  stay = λ r h known. absurd (true≢false (sym known ∙ none r));
+}
+  where
+    none : (k : ℕ) → get_or (replicate count false) k false ≡ false
+    none k = elim (cases_lt k count) [
+      | inl l ↦ get_or-replicate count k false false l
+      | inr g ↦ get_or_past (replicate count false) k false (omega (arith, g, length-replicate count false))
+    ]
+
+-- one row more is known for a sink
+pub put-sink : (moves : Moves) (rows : List (List Bool)) (used row : ℕ) (sinks : List Bool) → AreSinks moves rows used sinks → row < length rows → IsSink moves (row_at rows row) → AreSinks moves rows used (set sinks row true)
+put-sink moves rows used row sinks are low sink = record {
+  alike = length-set sinks row true ∙ are.alike;
+  stay = λ r h known. elim (cases_eq r row) [
+    | inl e ↦ subst (λ k. IsSink moves (row_at rows k)) (sym e) sink
+    | inr n ↦ are.stay r h (sym (get_or-set_other sinks row r true false n) ∙ known)
+  ];
+}
+
+-- a row that is added isn't yet
+pub added-sinks : (moves : Moves) (rows : List (List Bool)) (used : ℕ) (sinks : List Bool) (row : List Bool) → AreSinks moves rows used sinks → used < length rows
+    → AreSinks moves (set rows used row) (used + 1) (set sinks used false)
+added-sinks moves rows used sinks row are room = record {
+  alike = length-set sinks used false ∙ are.alike ∙ sym (length-set rows used row);
+  stay = λ r h known. elim (cases_eq r used) [
+    | inl e ↦ absurd (true≢false (sym known ∙ ap (λ k. get_or (set sinks used false) k false) e ∙ get_or-set_same sinks used false false (omega (arith, room, are.alike))))
+    | inr n ↦ subst (IsSink moves) (sym (row-other rows used r row n)) (are.stay r (below n h) (sym (get_or-set_other sinks used r false false n) ∙ known))
+  ];
+}
+  where
+    below : {r : ℕ} → (r ≡ used → ⊥) → r < used + 1 → r < used
+    below n h = omega (arith, h, n)
+
+-- ---- a row that is added
+
+-- the rows with one more
+pub added-rows : (moves : Moves) (rows : List (List Bool)) (firsts : List ℕ) (used : ℕ) (row : List Bool) (first : ℕ) → AreRows moves rows firsts used → used < length rows
+    → length row ≡ length moves.wide → IsFirst moves.ends.items row 0 first → AreRows moves (set rows used row) (set firsts used first) (used + 1)
+added-rows moves rows firsts used row first are room size is = record {
+  sizes = λ r h. elim (cases_eq r used) [
+    | inl e ↦ ap (λ k. length (row_at (set rows used row) k)) e ∙ ap length (row-same rows used row room) ∙ size
+    | inr n ↦ ap length (row-other rows used r row n) ∙ are.sizes r (subst (λ k. r < k) (length-set rows used row) h)
+  ];
+  few = subst (λ k. k ≤ nowhere) (sym (length-set rows used row)) are.few;
+  many = subst (λ k. 2 ≤ k) (sym (length-set rows used row)) are.many;
+  within = omega (arith, room, length-set rows used row);
+  some = omega arith;
+  first = row-other rows used 0 row (λ e. omega (arith, e, are.some)) ∙ are.first;
+  alike = length-set firsts used first ∙ are.alike ∙ sym (length-set rows used row);
+  globs = λ r h. elim (cases_eq r used) [
+    | inl e ↦
+        let last : IsFirst moves.ends.items (row_at (set rows used row) used) 0 (get_or (set firsts used first) used 0) =
+        subst (λ x. IsFirst moves.ends.items x 0 (get_or (set firsts used first) used 0)) (sym (row-same rows used row room))
+        (subst (λ x. IsFirst moves.ends.items row 0 x) (sym (get_or-set_same firsts used first 0 (omega (arith, room, are.alike)))) is) in
+        subst (λ k. IsFirst moves.ends.items (row_at (set rows used row) k) 0 (get_or (set firsts used first) k 0)) (sym e) last
+    | inr n ↦
+        subst (λ x. IsFirst moves.ends.items x 0 (get_or (set firsts used first) r 0)) (sym (row-other rows used r row n))
+        (subst (λ x. IsFirst moves.ends.items (row_at rows r) 0 x) (sym (get_or-set_other firsts used r first 0 n)) (are.globs r (below n h)))
+  ];
+}
+  where
+    below : {r : ℕ} → (r ≡ used → ⊥) → r < used + 1 → r < used
+    below n h = omega (arith, h, n)
+
+-- what the cells say stays right
+pub added-cells : (moves : Moves) (rows : List (List Bool)) (used : ℕ) (cells : List ℕ) (row : List Bool) → AreCells moves rows used cells → AreCells moves (set rows used row) (used + 1) cells
+added-cells moves rows used cells row are = record {
+  size = are.size ∙ ap (λ k. k * length moves.takes.items) (sym (length-set rows used row));
+  filled = λ r c h known.
+      let was = are.filled r c h known in
+      let cell = cell_of moves cells r c in
+      let here : row_at (set rows used row) r ≡ row_at rows r = row-other rows used r row (λ e. omega (arith, e, was.0)) in (
+        omega (arith, was.0),
+        record {
+          lost = λ e. subst (IsLost moves (row_at moves.takes.items c)) (sym here) (was.1.lost e);
+          within = λ n. omega (arith, was.1.within n);
+          leads = λ n.
+              let there : row_at (set rows used row) cell ≡ row_at rows cell = row-other rows used cell row (λ e. omega (arith, e, was.1.within n)) in
+              subst (λ x. IsStep moves (row_at moves.takes.items c) x (row_at (set rows used row) cell)) (sym here)
+              (subst (λ x. IsStep moves (row_at moves.takes.items c) (row_at rows r) x) (sym there) (was.1.leads n));
+        },
+      );
+}
 
 -- ---- a walk
 

@@ -28,6 +28,10 @@ pub data LeadsTo (moves : Moves) : List ℕ → List Bool → Type 0 where
   empty : LeadsTo moves [] moves.start
   byte : {text : List ℕ} {old : List Bool} {b : ℕ} {new : List Bool} → b < 256 → LeadsTo moves text old → IsStep moves (takes_of moves b) old new → LeadsTo moves (b ∷ text) new
 
+-- from a row each byte leads to itself
+abbrev pub IsSink : Moves → List Bool → Type 0
+IsSink moves row = (c : ℕ) → c < length moves.takes.items → IsStep moves (row_at moves.takes.items c) row row
+
 -- no place stands
 abbrev pub HoldsNone : List Bool → Type 0
 HoldsNone row = (i : ℕ) → holds row i ≡ false

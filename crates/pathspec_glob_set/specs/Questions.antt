@@ -6,7 +6,7 @@ use Rattle.pathspec_glob_set.specs.declared.member.Member.{Member}
 use Rattle.pathspec_glob_set.specs.Meanings.{is_over_before, is_wide_before, may_cut, takes_before}
 use Rattle.pathspec_glob_set.specs.declared.building.Classes.{Classes}
 use Rattle.pathspec_glob_set.specs.Sizes.{row_at}
-use Rattle.pathspec_glob_set.specs.Sets.{size_of, IsColumn}
+use Rattle.pathspec_glob_set.specs.Sets.{size_of, IsAt, IsColumn}
 
 -- the answer for a place of a glob
 abbrev pub answer_of : Question → Member → ℕ → Bool
@@ -15,6 +15,14 @@ answer_of Over glob i = is_over_before glob.tokens i
 answer_of (Takes b) glob i = takes_before glob.tokens glob.case i b
 answer_of Behind glob i = i == size_of glob
 answer_of Cuts glob i = may_cut glob i
+
+-- each token of a glob takes both bytes or neither
+abbrev pub IsTakenAlike : Member → ℕ → ℕ → Type 0
+IsTakenAlike glob b other = (i : ℕ) → i ≤ size_of glob → takes_before glob.tokens glob.case i b ≡ takes_before glob.tokens glob.case i other
+
+-- each token of globs takes both bytes or neither
+abbrev pub AreTakenAlike : List Member → ℕ → ℕ → Type 0
+AreTakenAlike globs b other = (g : ℕ) (glob : Member) → IsAt globs g glob → IsTakenAlike glob b other
 
 -- The first so many bytes have a class each, whose places are those that take the byte.
 pub record AreClasses (globs : List Member) (ends : List ℕ) (places bytes : ℕ) (classes : Classes) : Type 0 where

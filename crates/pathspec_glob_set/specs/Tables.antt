@@ -4,7 +4,7 @@ use Rattle.pathspec_glob_set.specs.declared.moves.Moves.{Moves}
 use Rattle.pathspec_glob_set.specs.declared.table.Table.{Table}
 use Rattle.pathspec_glob_set.specs.declared.table.Lead.{Lead}
 use Rattle.pathspec_glob_set.specs.declared.table.Lead.TheVariants.{Row, Nowhere, Unknown}
-use Rattle.pathspec_glob_set.specs.Moves.{IsLost, IsStep, LeadsNowhere, LeadsTo}
+use Rattle.pathspec_glob_set.specs.Moves.{IsLost, IsSink, IsStep, LeadsNowhere, LeadsTo}
 use Rattle.pathspec_glob_set.specs.Sizes.{row_at, IsFirst}
 
 -- a cell that wasn't asked, and one whose bytes lead to no place
@@ -49,10 +49,16 @@ pub record AreCells (moves : Moves) (rows : List (List Bool)) (used : ℕ) (cell
   pub filled : (r c : ℕ) → c < length moves.takes.items → cell_of moves cells r c ≢ unknown
       → (r < used) × IsRight moves rows used (row_at moves.takes.items c) (row_at rows r) (cell_of moves cells r c)
 
+-- From each row that is known for a sink all bytes lead to itself.
+pub record AreSinks (moves : Moves) (rows : List (List Bool)) (used : ℕ) (sinks : List Bool) : Type 0 where
+  pub alike : length sinks ≡ length rows
+  pub stay : (r : ℕ) → r < used → get_or sinks r false ≡ true → IsSink moves (row_at rows r)
+
 -- The rows and cells of a table are right, and its room is there.
 pub record IsTable (table : Table) : Type 0 where
   pub rows : AreRows table.moves table.rows.items table.firsts.items table.used
   pub cells : AreCells table.moves table.rows.items table.used table.cells.items
+  pub sinks : AreSinks table.moves table.rows.items table.used table.sinks.items
   pub spare : length table.spare ≡ length table.moves.wide
   pub index : 0 < length table.index.items
   pub misses : table.misses ≤ most_misses
@@ -61,6 +67,14 @@ pub record IsTable (table : Table) : Type 0 where
 pub record KeepsRoom (old new : Table) : Type 0 where
   pub moves : new.moves ≡ old.moves
   pub rows : length new.rows.items ≡ length old.rows.items
+
+-- what is known of sinks may be more, and all else stays
+pub record IsSameButSinks (old new : Table) : Type 0 where
+  pub moves : new.moves ≡ old.moves
+  pub rows : new.rows ≡ old.rows
+  pub used : new.used ≡ old.used
+  pub steps : new.steps ≡ old.steps
+  pub misses : new.misses ≡ old.misses
 
 -- nothing of a text is counted yet
 pub record BeginsText (table : Table) : Type 0 where
@@ -108,6 +122,7 @@ pub record AddsSpare (old new : Table) (added : ℕ) : Type 0 where
   pub used : new.used ≡ old.used + 1
   pub rows : new.rows.items ≡ set old.rows.items old.used old.spare
   pub cells : new.cells ≡ old.cells
+  pub sinks : new.sinks.items ≡ set old.sinks.items old.used false
   pub moves : new.moves ≡ old.moves
   pub spare : new.spare ≡ old.spare
   pub steps : new.steps ≡ old.steps

@@ -5,6 +5,7 @@ ghost use Rattle.pathspec_glob_set.specs.Sets.{count_places, AreEnds, AreMovesOf
 ghost use Rattle.pathspec_glob_set.specs.Sizes.{most_places};
 ghost use Rattle.pathspec_glob_set.specs.Tables.{nowhere};
 
+use crate::borders::borders_of;
 use crate::columns::{Question, column, ends_of, place_of, places_of};
 use crate::member::Member;
 use crate::moves::Moves;
@@ -82,7 +83,8 @@ pub fn rows_for(moves: &Moves) -> usize
     MOST_BYTES.checked_div(bytes).unwrap_or(2).max(2).min(most)
 }
 
-/// Sorts bytes into classes: those of one class are taken by the same tokens.
+/// Sorts bytes into classes: those of one class are taken by the same tokens. A byte is of the class of the byte before, unless some
+/// token tells them apart, so each token makes few columns.
 fn classes_of(
     alloc: Global,
     globs: &[Member],
@@ -93,14 +95,19 @@ fn classes_of(
     requires places { (g : ℕ) → g < length ends.now → get_or ends.now g 0 < places }
     ensures { IfOk result (λ classes. AreClasses globs.now ends.now places 256 classes) }
 {
+    let borders = borders_of(globs);
     let mut classes = Classes {
         of_byte: [0; 256],
         takes: Vec::new(alloc),
     };
+    let mut class = 0;
     for byte in 0..256usize {
-        let takes = column(alloc, globs, ends, places, Question::Takes(byte as u8))?;
-        let class = class_of(&mut classes.takes, takes)?;
-        classes.of_byte[byte] = class as u8;
+        if byte == 0 || borders[byte] {
+            let takes = column(alloc, globs, ends, places, Question::Takes(byte as u8))?;
+            let found = class_of(&mut classes.takes, takes)?;
+            class = found as u8;
+        }
+        classes.of_byte[byte] = class;
     }
     Ok(classes)
 }

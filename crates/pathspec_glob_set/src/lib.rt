@@ -1,6 +1,7 @@
 //! Many globs at once: a set of globs tells which of them match a text, in one pass over the text from its end.
 #![tactic(auto)]
 
+mod borders;
 mod building;
 mod columns;
 mod member;

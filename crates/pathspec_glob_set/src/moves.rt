@@ -28,7 +28,7 @@ pub struct Moves {
 }
 
 impl Moves {
-    ghost use Rattle.pathspec_glob_set.specs.Moves.{class_of, AreAlike, IsStep};
+    ghost use Rattle.pathspec_glob_set.specs.Moves.{class_of, AreAlike, IsSink, IsStep};
 
     /// The count of places.
     pub fn places(&self) -> usize
@@ -67,6 +67,21 @@ impl Moves {
         row::enter(row, &self.wide, &self.takes[class], old);
         row::close(row, &self.wide, &self.over);
         row::cut(row, &self.cuts, &self.ends);
+    }
+
+    /// Whether all bytes lead from a row to itself, as those of a class do.
+    pub fn is_sink(&self, class: usize, row: &BitVec) -> bool
+        requires class { class < length self.now.takes.items }
+        requires row { length row.now ≡ length self.now.wide }
+        requires stays { IsStep self.now (row_at self.now.takes.items class) row.now row.now }
+        ensures { IsTrue result → IsSink self.now row.now }
+    {
+        for other in 0..self.takes.len() {
+            if !row::are_alike(row, &self.takes[class], &self.takes[other]) {
+                return false;
+            }
+        }
+        true
     }
 
     /// Whether others are the same. Copies are, and others may be said not to be.

@@ -1,8 +1,8 @@
 //! Rows of places, one bit each, and how a byte leads from one row to the next.
-ghost use Rattle.std.specs.Prelude.{◌≡◌, ◌<◌, ◌≤◌, ◌*◌, ◌&&◌, ◌||◌, ℕ, suc, false, true, length, get_or};
+ghost use Rattle.std.specs.Prelude.{◌≡◌, ◌<◌, ◌≤◌, ◌*◌, ◌&&◌, ◌||◌, ℕ, suc, false, true, length, get_or, IsTrue};
 ghost use Rattle.pathspec_glob.specs.BitVecs.{holds};
 ghost use Rattle.pathspec_glob.specs.GlobCells.{further, has};
-ghost use Rattle.pathspec_glob_set.specs.Rows.{is_settled, leads_on, IsCarriedWord, IsClosedRow, IsEntered, IsUncut};
+ghost use Rattle.pathspec_glob_set.specs.Rows.{is_settled, leads_on, taken_of, IsCarriedWord, IsClosedRow, IsEntered, IsUncut};
 
 use pathspec_glob::BitVec;
 
@@ -41,6 +41,22 @@ pub fn enter(row: &mut BitVec, wide: &BitVec, takes: &BitVec, old: &BitVec)
         row.set_word(index, entered);
         carry = (held & takers) >> 63;
     }
+}
+
+/// Whether two columns have the same places of a row.
+pub fn are_alike(row: &BitVec, some: &BitVec, others: &BitVec) -> bool
+    requires some { length some.now ≡ length row.now }
+    requires others { length others.now ≡ length row.now }
+    ensures { IsTrue result → (i : ℕ) → i < length row.now
+        → taken_of some.now row.now i ≡ taken_of others.now row.now i }
+{
+    for index in 0..row.len() / 64 + 1 {
+        let held = row.word(index);
+        if held & some.word(index) != held & others.word(index) {
+            return false;
+        }
+    }
+    true
 }
 
 /// Leaves out all places behind the first glob that cuts and matches whatever stands before.

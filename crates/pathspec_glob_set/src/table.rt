@@ -1,9 +1,9 @@
 //! Rows that texts led to, with a cell for each class of bytes: where it leads, once that was asked.
 ghost use Rattle.std.specs.Prelude.{◌≡◌, ◌+◌, ◌*◌, ◌-◌, ◌<◌, ◌≤◌, ◌^◌, ℕ, length, get_or, set, replicate, IfOk, IfSome, IsTrue};
 ghost use Rattle.pathspec_glob.specs.BitVecs.{holds};
-ghost use Rattle.pathspec_glob_set.specs.Moves.{takes_of};
+ghost use Rattle.pathspec_glob_set.specs.Moves.{takes_of, IsSink, IsStep};
 ghost use Rattle.pathspec_glob_set.specs.Sizes.{row_at, AreLooks, IsFirst};
-ghost use Rattle.pathspec_glob_set.specs.Tables.{nowhere, unknown, AddsSpare, BeginsText, Counts, IsKnown, IsSpare, IsTable, KeepsRoom, Leads};
+ghost use Rattle.pathspec_glob_set.specs.Tables.{nowhere, unknown, AddsSpare, BeginsText, Counts, IsKnown, IsSameButSinks, IsSpare, IsTable, KeepsRoom, Leads};
 
 use crate::moves::Moves;
 use pathspec_glob::BitVec;
@@ -40,6 +40,8 @@ pub struct Table {
     /// For each row the first glob that a text matches which leads there.
     firsts: Vec<usize>,
     cells: Vec<u16>,
+    /// Whether a row is known for a sink: each byte leads from it to itself.
+    sinks: Vec<bool>,
     /// The count of rows in use. The first is that of the empty text.
     used: usize,
     /// Rows by what their places hash to. A number that stands for no such row does no harm.
@@ -73,12 +75,14 @@ impl Table {
         };
         let firsts = vec![in alloc; first; count]?;
         let cells = vec![in alloc; UNKNOWN; size]?;
+        let sinks = vec![in alloc; false; count]?;
         let index = vec![in alloc; UNKNOWN; 2 * count]?;
         Ok(Table {
             moves,
             rows,
             firsts,
             cells,
+            sinks,
             used: 1,
             index,
             spare,
@@ -142,6 +146,16 @@ impl Table {
         } else {
             Lead::Row(next as usize)
         }
+    }
+
+    /// Whether each byte leads from a row to itself, as far as it is known.
+    #[inline(always)]
+    pub fn is_sink(&self, row: usize) -> bool
+        requires table { IsTable self.now }
+        requires row { row < self.now.used }
+        ensures { IsTrue result → IsSink self.now.moves (row_at self.now.rows.items row) }
+    {
+        self.sinks[row]
     }
 
     /// The place of the cell of a row and a class.
@@ -237,6 +251,7 @@ impl Table {
         }
         if let Some(found) = self.find() {
             put(&mut self.cells, at, found as u16);
+            self.note_sink(row, class, found);
             return Lead::Row(found);
         }
         if self.used == self.rows.len() {
@@ -248,6 +263,21 @@ impl Table {
         let added = self.add();
         put(&mut self.cells, at, added as u16);
         Lead::Row(added)
+    }
+
+    /// Notes whether a row is a sink, where the bytes of a class lead from it to one that was found.
+    fn note_sink(&mut self, row: usize, class: usize, found: usize)
+        requires table { IsTable self.old }
+        requires row { row < self.old.used }
+        requires class { class < length self.old.moves.takes.items }
+        requires leads { IsStep self.old.moves (row_at self.old.moves.takes.items class)
+            (row_at self.old.rows.items row) (row_at self.old.rows.items found) }
+        ensures table { IsTable self.new }
+        ensures rows { IsSameButSinks self.old self.new }
+    {
+        if found == row && self.moves.is_sink(class, &self.rows[row]) {
+            self.sinks[row] = true;
+        }
     }
 
     /// A row in use with the places of the spare one.
@@ -278,6 +308,7 @@ impl Table {
         let moves = &self.moves;
         let first = first_from(&moves.ends, &self.spare, 0);
         self.firsts[added] = first;
+        self.sinks[added] = false;
         self.used += 1;
         remember(&mut self.index, self.spare.digest(), added);
         added

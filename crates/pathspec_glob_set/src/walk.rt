@@ -5,7 +5,7 @@ ghost use Rattle.pathspec_glob_set.specs.Tables.{AreFewSteps, Finds, IsTable, Ke
 use crate::table::{Lead, Table};
 
 impl Table {
-    /// Finds the row that a text leads to. The text is read from its end, and only as far as some glob may match.
+    /// Finds the row that a text leads to. The text is read from its end, and only as far as bytes may still tell globs apart.
     ///
     /// The call counts a step for each byte that it reads, and all places and one more for each cell that it fills. It takes no
     /// memory.
@@ -20,7 +20,12 @@ impl Table {
         let mut row = 0;
         for back in 0..text.len() {
             match self.lead(row, text[text.len() - 1 - back]) {
-                Lead::Row(next) => row = next,
+                Lead::Row(next) => {
+                    if next == row && self.is_sink(next) {
+                        return Lead::Row(next);
+                    }
+                    row = next;
+                }
                 Lead::Nowhere => return Lead::Nowhere,
                 Lead::Unknown => return Lead::Unknown,
             }

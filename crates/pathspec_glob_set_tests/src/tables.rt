@@ -222,3 +222,27 @@ fn a_text_of_a_million_bytes_is_walked(rt: HostRuntime) -> Result<(), Fail> {
     assert_eq!(rt; next(&mut searched, &text, 3, 3), None);
     Ok(())
 }
+
+// Behind the dot of an end, or before a slash, each byte leads back to its row, and so ends the walk.
+#[test]
+fn a_text_is_read_as_far_as_bytes_tell(rt: HostRuntime) -> Result<(), Fail> {
+    const ROWS: &[(&[u8], Option<usize>, u128)] = &[
+        (b"src/lib.rs", Some(1), 4),
+        (b".rs", Some(1), 3),
+        (b"a.txt", None, 1),
+        (b"a.mrs", None, 3),
+        (b"", None, 0),
+        (b"a/b/d/aa/b", Some(2), 6),
+        (b"a/b/d/ab/c", None, 1),
+    ];
+    let alloc = rt.alloc();
+    let written = listed(alloc, &[b"*.md", b"*.rs", b"*/aa/b"], Shell, Sensitive)?;
+    let mut searched = made(alloc, &written)?;
+    for (text, found, steps) in ROWS {
+        // The first round fills the cells.
+        next(&mut searched, text, 0, 3);
+        assert_eq!(rt; next(&mut searched, text, 0, 3), *found);
+        assert_eq!(rt; searched.scratch.last_steps(), *steps);
+    }
+    Ok(())
+}

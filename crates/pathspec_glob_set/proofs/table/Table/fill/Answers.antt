@@ -3,7 +3,7 @@ use Rattle.std.proofs.lemmas.List.{get_or_default}
 use Rattle.pathspec_glob_set.specs.Moves.{IsStep}
 use Rattle.pathspec_glob_set.specs.Sizes.{row_at}
 use Rattle.pathspec_glob_set.specs.Tables.{nowhere, row_of, AreCells}
-use Rattle.pathspec_glob_set.proofs.TableProofs.{added-right, fill-cells, no-cells, one-row, right-nowhere, right-row}
+use Rattle.pathspec_glob_set.proofs.TableProofs.{added-right, fill-cells, no-cells, one-row, one-sink, right-nowhere, right-row}
 use Rattle.pathspec_glob_set.proofs.table.Table.fill.Goals as goal
 
 pub returns-then-holds_none-clause-table : goal.returns-then-holds_none-clause-table
@@ -17,6 +17,7 @@ returns-then-holds_none-clause-table c =
       rows = was.rows;
       cells = fill-cells table c.args.row c.args.class nowhere c.place-at.result c.put.new.cells.items was c.requires.row c.requires.class c.place-at.ensures.place
           (right-nowhere table.moves table.rows.items table.used takes (row_of table c.args.row) c.step.new.row step (c.if-holds_none.ensures refl)) c.put.ensures;
+      sinks = was.sinks;
       spare = step.size;
       index = was.index;
       misses = was.misses;
@@ -32,8 +33,8 @@ returns-then-holds_none-clause-leads c =
     let right = right-nowhere table.moves table.rows.items table.used takes (row_of table c.args.row) c.step.new.row step (c.if-holds_none.ensures refl) in
     right.lost refl
 
-pub returns-in-Some-clause-table : goal.returns-in-Some-clause-table
-returns-in-Some-clause-table c =
+pub note_sink-requires : goal.note_sink-requires
+note_sink-requires c =
     let table = c.args.self.now in
     let was = c.requires.table in
     let found = c.in-Some.found in
@@ -43,12 +44,18 @@ returns-in-Some-clause-table c =
     let step : IsStep table.moves takes (row_of table c.args.row) c.step.new.row = subst (λ r. IsStep table.moves takes r c.step.new.row) here c.step.ensures.row in
     let leads : IsStep table.moves takes (row_of table c.args.row) (row_of table found) = subst (λ r. IsStep table.moves takes (row_of table c.args.row) r) (sym is.1) step in
     record {
-      rows = was.rows;
-      cells = fill-cells table c.args.row c.args.class found c.place-at.result c.put-in-Some.new.cells.items was c.requires.row c.requires.class c.place-at.ensures.place
-          (right-row table.moves table.rows.items table.used takes (row_of table c.args.row) found (omega (arith, was.rows.within, was.rows.few)) is.0 leads) c.put-in-Some.ensures;
-      spare = step.size;
-      index = was.index;
-      misses = was.misses;
+      table = record {
+        rows = was.rows;
+        cells = fill-cells table c.args.row c.args.class found c.place-at.result c.put-in-Some.new.cells.items was c.requires.row c.requires.class c.place-at.ensures.place
+            (right-row table.moves table.rows.items table.used takes (row_of table c.args.row) found (omega (arith, was.rows.within, was.rows.few)) is.0 leads) c.put-in-Some.ensures;
+        sinks = was.sinks;
+        spare = step.size;
+        index = was.index;
+        misses = was.misses;
+      };
+      row = c.requires.row;
+      class = c.requires.class;
+      leads = leads;
     }
 
 pub add-requires-clause-table : goal.add-requires-clause-table
@@ -58,6 +65,7 @@ add-requires-clause-table c =
     record {
       rows = one-row table.moves table.rows.items table.firsts.items table.used was.rows;
       cells = subst (AreCells table.moves table.rows.items 1) (sym c.clear.ensures) (no-cells table.moves table.rows.items table.used 1 table.cells.items was.cells);
+      sinks = one-sink table.moves table.rows.items table.used table.sinks.items was.rows.some was.sinks;
       spare = c.step.ensures.row.size;
       index = was.index;
       misses = was.misses;
@@ -82,6 +90,7 @@ returns-clause-table c =
           (subst (λ m. class < length m.takes.items) (sym adds.moves) c.requires.class)
           (c.place-at.ensures.place ∙ ap (λ m. row * length m.takes.items + class) (sym adds.moves))
           (added-right row class adds is room c.requires.row step) c.put-2.ensures;
+      sinks = is.sinks;
       spare = is.spare;
       index = is.index;
       misses = is.misses;

@@ -1,7 +1,7 @@
 use Rattle.std.proofs.Common.{◌≡◌, ◌*◌, ◌∙◌, sym, subst, ap, arith, length}
 use Rattle.pathspec_glob_set.specs.Sizes.{IsFirst}
-use Rattle.pathspec_glob_set.specs.Tables.{AreCells}
-use Rattle.pathspec_glob_set.proofs.TableProofs.{new-rows, unknown-cells}
+use Rattle.pathspec_glob_set.specs.Tables.{AreCells, AreSinks}
+use Rattle.pathspec_glob_set.proofs.TableProofs.{new-rows, no-sinks, unknown-cells}
 use Rattle.pathspec_glob_set.proofs.table.Table.new.Goals as goal
 
 pub returns-clause-table : goal.returns-clause-table
@@ -16,6 +16,7 @@ returns-clause-table c =
     record {
       rows = new-rows moves rows c.in_ok-firsts.firsts.items c.args.count first c.requires.many c.requires.few c.in_ok-rows.ensures.len c.in_ok-rows.ensures.rows (c.in_ok-firsts.ensures.items_if_clones_equal (λ y h. h)) is;
       cells = subst (AreCells moves rows 1) (sym (c.in_ok-cells.ensures.items_if_clones_equal (λ y h. h))) (unknown-cells moves rows 1 c.in-Some.size size);
+      sinks = subst (AreSinks moves rows 1) (sym (c.in_ok-sinks.ensures.items_if_clones_equal (λ y h. h))) (no-sinks moves rows 1 c.args.count c.in_ok-rows.ensures.len);
       spare = ap length c.in_ok-spare.ensures ∙ moves.sizes.start_alike;
       index = omega (arith, c.in_ok-index.ensures.len, c.requires.many);
       misses = omega arith;

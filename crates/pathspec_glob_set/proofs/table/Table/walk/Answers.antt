@@ -1,9 +1,9 @@
-use Rattle.std.proofs.Common.{◌≡◌, ◌+◌, ◌-◌, [], sym, ◌∙◌, subst, ap, arith, length, drop, get_or}
+use Rattle.std.proofs.Common.{◌≡◌, ◌+◌, ◌-◌, [], refl, sym, ◌∙◌, subst, ap, arith, length, drop, get_or}
 use Rattle.std.proofs.Math.ListN.{drop_of_length-le}
 use Rattle.pathspec_glob_set.specs.Moves.{LeadsNowhere, LeadsTo}
 use Rattle.pathspec_glob_set.specs.Moves.LeadsTo.{empty}
 use Rattle.pathspec_glob_set.specs.Tables.{row_of}
-use Rattle.pathspec_glob_set.proofs.TableProofs.{before-read, begun-steps, counts-more, few-steps, leads-more, lost-front, lost-step, steps-fit}
+use Rattle.pathspec_glob_set.proofs.TableProofs.{before-read, begun-steps, counts-more, few-steps, leads-more, lost-front, lost-step, sink-front, steps-fit}
 use Rattle.pathspec_glob_set.proofs.table.Table.walk.Goals as goal
 
 pub loop-back-init : goal.loop-back-init
@@ -49,6 +49,20 @@ loop-back-preserved c =
       steps = counts-more old.steps new.steps old.misses new.misses back (length c.args.self.now.moves.wide) (length old.moves.wide) (ap (λ m. length m.wide) (sym was.room.moves)) was.steps said.counted.steps;
       room = record { moves = said.room.moves ∙ was.room.moves; rows = said.room.rows ∙ was.room.rows };
     }
+
+pub returns-then-is_sink-clause-found : goal.returns-then-is_sink-clause-found
+returns-then-is_sink-clause-found c =
+    let was = c.loop-back.invariant in
+    let said = c.in-Row.ensures in
+    let old = c.loop-back.self in
+    let new = c.lead.new.self in
+    let text = c.args.text.now in
+    let back = c.loop-back.back in
+    let i = length text - 1 - back in
+    let next = row_of new c.in-Row.next in
+    let leads = subst (λ t. LeadsTo new.moves t next) (sym (before-read text back c.loop-back-test.true))
+    (leads-more old.moves new.moves (drop (length text - back) text) (get_or text i 0) (row_of old c.loop-back.row) next said.room.moves (c.type_inv.text i).fits was.leads said.leads.1) in
+    (said.leads.0, sink-front new.moves (length text - (back + 1)) text next (λ k. (c.type_inv.text k).fits) (c.if-is_sink.ensures refl) leads)
 
 pub returns-in-Nowhere : goal.returns-in-Nowhere
 returns-in-Nowhere c =
