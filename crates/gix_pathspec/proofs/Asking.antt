@@ -18,6 +18,8 @@ use Rattle.gix_pathspec.specs.Pruning.{reaches, can_match}
 use Rattle.gix_pathspec.specs.Skipping.{takes_whole, takes_rest, shadows, holds_nothing, may_skip}
 use Rattle.gix_pathspec.specs.Directories.{directory_matches, common_directory}
 use Rattle.gix_pathspec.specs.Search.{Numbered, Answer, search_of, answer, selects, specs_of}
+use Rattle.gix_pathspec.specs.Room.{source_of}
+use Rattle.gix_pathspec.specs.Sets.{member_places}
 use Rattle.pathspec_pattern.proofs.Asking.{parse}
 
 -- each row has the answer that is computed
@@ -34,6 +36,11 @@ unfoldable pub kind : List ℕ → List ℕ → Option MatchKind
 unfolding fitted
 kind text path = fitted text path false
 
+-- whether a text's spec is a member of a set, and if so, whether it decides where its glob matches
+unfoldable pub set_member : List ℕ → List ℕ → Option Bool
+unfolding parse normal_form climb
+set_member prefix text = option_map (λ source. source.cuts) (option_and_then source_of (result_ok (parse text >>= λ s. normal_form prefix [] s)))
+
 -- a look-up that knows of no attribute
 abbrev pub nothing_known : Table
 nothing_known q = record { found = true; states = map (λ name. Unspecified) q.names }
@@ -46,6 +53,11 @@ known_of path q = record { found = bytes_eq q.path path; states = Set ∷ [] }
 unfoldable pub searched : List ℕ → List (List ℕ) → Option (List Numbered)
 unfolding parse normal_form climb search_of
 searched prefix texts = option_and_then (λ specs. result_ok (search_of prefix [] specs)) (result_ok (all_ok (map parse texts)))
+
+-- the places of the members of a search
+unfoldable pub set_places : List ℕ → List (List ℕ) → Option (List ℕ)
+unfolding searched
+set_places prefix texts = option_map member_places (searched prefix texts)
 
 -- what it answers to a path
 unfoldable pub answered : List ℕ → List (List ℕ) → List ℕ → Bool → Option (Option Answer)

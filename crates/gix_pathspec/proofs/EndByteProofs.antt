@@ -19,7 +19,7 @@ use Rattle.gix_pathspec.specs.Bytes.{begins_with, is_empty, is_wildcard, slash, 
 use Rattle.gix_pathspec.specs.Specs.{Spec, ignores_case, has_wildcard, always_matches}
 use Rattle.gix_pathspec.specs.Matching.{case_of, glob_matches, has_attributes, is_verbatim_match, is_prefix_match, takes_kind, spec_matches, fits}
 use Rattle.gix_pathspec.specs.Prefixes.{stem}
-use Rattle.gix_pathspec.specs.EndBytes.{first_byte, has_wildcard_at, BeginsPaths, EndsPaths}
+use Rattle.gix_pathspec.specs.EndBytes.{first_byte, has_wildcard_at, BeginsPaths, EndsPaths, NeverMatches}
 use Rattle.gix_pathspec.proofs.HeadProofs.{stem-at_false, verbatim_is, fits-ways, first_two, fitted_begins_stem}
 use Rattle.gix_pathspec.proofs.BeginsProofs.{IsBelow-from_is_below, length-folded}
 
@@ -138,6 +138,25 @@ ends-paths s byte wild own table path is_dir h =
         ]
       ]
     ]
+
+-- Where neither a wildcard stands in the path behind the stem, nor the glob matches, a spec with a wildcard doesn't match.
+pub never-behind : (s : Spec) (path : List ℕ) → has_wildcard s ≡ true → has_wildcard_at path (length (stem s)) ≡ false → glob_matches s.mode s path ≡ false → NeverMatches s path
+unfolding spec_matches
+never-behind s path wild plain off table is_dir = elim (cases_Bool (spec_matches table s path is_dir)) [
+  | inr away ↦ away
+  | inl h ↦
+      let fitted = (and_parts (fits s path is_dir) (has_attributes table s path is_dir) h).0 in
+      elim (fits-ways s path is_dir fitted).1 [
+        | inl always ↦ absurd (both_ways (always_matches s) (not_always s wild) always)
+        | inr w ↦ elim w [
+          | inl g ↦ absurd (both_ways (glob_matches s.mode s path) off (first_two (has_wildcard s) (glob_matches s.mode s path) (takes_kind s is_dir) g).1)
+          | inr w ↦ elim w [
+            | inl v ↦ absurd (both_ways (has_wildcard_at path (length (stem s))) plain (verbatim-wild s wild path is_dir v))
+            | inr b ↦ absurd (both_ways (has_wildcard_at path (length (stem s))) plain (prefix-wild s wild path b))
+          ]
+        ]
+      ]
+]
 
 pub ends-known : (s : Spec) → has_wildcard s ≡ true → IfSome (own_end s.path) (EndsPaths s)
 ends-known s wild = at (own_end s.path) refl

@@ -9,40 +9,42 @@ use Rattle.gix_pathspec.specs.Bytes.{begins_with}
 
 -- ---- how many candidates are left
 
-got-within : {X : Type 0} (xs : List X) (i : ℕ) (x : X) → slice_get xs i ≡ Some x → i < length xs
+pub got-within : {X : Type 0} (xs : List X) (i : ℕ) (x : X) → slice_get xs i ≡ Some x → i < length xs
 got-within [] i x h = cc
 got-within (y ∷ xs) zero x h = omega arith
 got-within (y ∷ xs) (suc i) x h = omega (arith, got-within xs i x h)
 
-element-within : {X : Type 0} (xs : List X) (i : ℕ) → i < length xs → (x : X) × (slice_get xs i ≡ Some x)
+pub element-within : {X : Type 0} (xs : List X) (i : ℕ) → i < length xs → (x : X) × (slice_get xs i ≡ Some x)
 element-within [] i l = absurd (omega (arith, l))
 element-within (x ∷ xs) zero l = (x, refl)
 element-within (x ∷ xs) (suc i) l = element-within xs i (omega (arith, l))
 
-drop-all : {X : Type 0} (xs : List X) (n : ℕ) → length xs ≤ n → drop n xs ≡ []
+pub drop-all : {X : Type 0} (xs : List X) (n : ℕ) → length xs ≤ n → drop n xs ≡ []
 drop-all [] zero h = refl
 drop-all [] (suc n) h = refl
 drop-all (x ∷ xs) zero h = absurd (omega (arith, h))
 drop-all (x ∷ xs) (suc n) h = drop-all xs n (omega (arith, h))
 
-module _ {X : Type 0} (head : X → List ℕ) (path : List ℕ) where
-  -- how many heads begin the path
+module _ {X : Type 0} (test : X → Bool) where
+  -- how many pass the test
   abbrev count : List X → ℕ
-  count xs = length (filter (λ x. begins_with path (head x)) xs)
+  count xs = length (filter test xs)
 
-  count-one : (xs : List X) (p : ℕ) → p < length xs → begins_with path (head_at (map head xs) p) ≡ true → count (drop p xs) ≡ count (drop (p + 1) xs) + 1
-  count-one [] p l h = absurd (omega (arith, l))
-  count-one (x ∷ xs) zero l h = counted-one (begins_with path (head x)) h
+  count-one : (xs : List X) (p : ℕ) (x : X) → slice_get xs p ≡ Some x → test x ≡ true → count (drop p xs) ≡ count (drop (p + 1) xs) + 1
+  count-one [] p x is h = cc
+  count-one (y ∷ xs) zero x is h =
+      let same : y ≡ x = cc in
+      counted-one (test y) (ap test same ∙ h)
     where
-      counted-one : (b : Bool) → b ≡ true → length (cond b (x ∷ filter (λ y. begins_with path (head y)) xs) (filter (λ y. begins_with path (head y)) xs)) ≡ count xs + 1
+      counted-one : (b : Bool) → b ≡ true → length (cond b (y ∷ filter test xs) (filter test xs)) ≡ count xs + 1
       counted-one true h = omega arith
       counted-one false h = cc
-  count-one (x ∷ xs) (suc p) l h = let e : suc (p + 1) ≡ suc p + 1 = omega arith in count-one xs p (omega (arith, l)) h ∙ ap (λ m. count (drop m (x ∷ xs)) + 1) e
+  count-one (y ∷ xs) (suc p) x is h = let e : suc (p + 1) ≡ suc p + 1 = omega arith in count-one xs p x is h ∙ ap (λ m. count (drop m (y ∷ xs)) + 1) e
 
   count-tail : (x : X) (xs : List X) → count xs ≤ count (x ∷ xs)
-  count-tail x xs = at (begins_with path (head x))
+  count-tail x xs = at (test x)
     where
-      at : (b : Bool) → count xs ≤ length (cond b (x ∷ filter (λ y. begins_with path (head y)) xs) (filter (λ y. begins_with path (head y)) xs))
+      at : (b : Bool) → count xs ≤ length (cond b (x ∷ filter test xs) (filter test xs))
       at true = omega arith
       at false = omega arith
 
@@ -61,10 +63,20 @@ module _ {X : Type 0} (head : X → List ℕ) (path : List ℕ) where
   count-drops (x ∷ xs) (suc a) zero h = absurd (omega (arith, h))
   count-drops (x ∷ xs) (suc a) (suc b) h = count-drops xs a b (omega (arith, h))
 
-  -- one more is asked
-  pub few-more : (xs : List X) (from place tested : ℕ) → from ≤ place → place < length xs → begins_with path (head_at (map head xs) place) ≡ true
+  -- one more is asked that passes the test
+  pub few-test : (xs : List X) (from place tested : ℕ) (x : X) → from ≤ place → slice_get xs place ≡ Some x → test x ≡ true
       → tested + count (drop from xs) ≤ count xs → tested + 1 + count (drop (place + 1) xs) ≤ count xs
-  few-more xs from place tested a l h few = omega (arith, few, count-drops xs from place a, count-one xs place l h)
+  few-test xs from place tested x a is h few = omega (arith, few, count-drops xs from place a, count-one xs place x is h)
+
+module _ {X : Type 0} (head : X → List ℕ) (path : List ℕ) where
+  -- one more is asked whose head begins the path
+  pub few-more : (xs : List X) (from place tested : ℕ) → from ≤ place → place < length xs → begins_with path (head_at (map head xs) place) ≡ true
+      → tested + length (filter (λ x. begins_with path (head x)) (drop from xs)) ≤ length (filter (λ x. begins_with path (head x)) xs)
+      → tested + 1 + length (filter (λ x. begins_with path (head x)) (drop (place + 1) xs)) ≤ length (filter (λ x. begins_with path (head x)) xs)
+  few-more xs from place tested a l h few =
+      let r = element-within xs place l in
+      let headed : head_at (map head xs) place ≡ head r.0 = get_or-map head xs place r.0 [] l ∙ ap head (get_or_from_slice_get xs place r.0 r.0 r.1) in
+      few-test (λ x. begins_with path (head x)) xs from place tested r.0 a r.1 (subst (λ k. begins_with path k ≡ true) headed h) few
 
 -- ---- elements that don't pass a test are passed over
 
@@ -82,7 +94,7 @@ module _ {X : Type 0} (test : X → Bool) where
       skip-many xs k from (λ p a b. h p a (omega (arith, b))) ∙ (skip-one xs (from + k) (h (from + k) (omega arith) (omega arith)) ∙ ap (λ m. find test (drop m xs)) e)
 
   -- those before a place don't matter
-  skip-to : (xs : List X) (from place : ℕ) → from ≤ place → ((p : ℕ) → from ≤ p → p < place → (x : X) → slice_get xs p ≡ Some x → test x ≡ false) → find test (drop from xs) ≡ find test (drop place xs)
+  pub skip-to : (xs : List X) (from place : ℕ) → from ≤ place → ((p : ℕ) → from ≤ p → p < place → (x : X) → slice_get xs p ≡ Some x → test x ≡ false) → find test (drop from xs) ≡ find test (drop place xs)
   skip-to xs from place a h =
       let e : from + (place - from) ≡ place = omega (arith, a) in
       skip-many xs (place - from) from (λ p b c. h p b (omega (arith, c, e))) ∙ ap (λ m. find test (drop m xs)) e

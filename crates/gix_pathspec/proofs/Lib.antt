@@ -36,4 +36,11 @@ mod DirectoryPremiseRows
 pub mod EffortProofs
 pub mod HeadSearchProofs
 pub mod EndByteProofs
+pub mod SetProofs
+pub mod SetMadeProofs
+pub mod CandidateProofs
+pub mod MemberProofs
+pub mod MemberStepProofs
+pub mod NextMemberProofs
+mod SetRows
 pub mod ReachProofs

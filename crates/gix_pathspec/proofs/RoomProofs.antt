@@ -5,7 +5,7 @@ use Rattle.std.proofs.lemmas.List.Elements.{All-get_or, All-push}
 use Rattle.pathspec_parts.specs.Outcomes.{NamedState, names_of}
 use Rattle.pathspec_parts.proofs.ListProofs.{map-at, map-more}
 use Rattle.gix_pathspec.specs.Search.{Numbered}
-use Rattle.gix_pathspec.specs.Room.{Room, HasRoom, ScratchContents, Fits, attribute_names, tokens_of, names_in_order}
+use Rattle.gix_pathspec.specs.Room.{HasGlobRoom, HasRoom, ScratchContents, Fits, attribute_names, tokens_of, names_in_order}
 
 -- a scratch that fits goes on to, as long as its room stays
 pub fits-kept : (specs : List Numbered) (a b : ScratchContents) → Fits specs a → b.room ≡ a.room → Fits specs b
@@ -17,17 +17,13 @@ names-at outcomes ns i o n e l p q = map-at names_of (λ m. attribute_names m.sp
 
 -- ---- spec by spec
 
--- room for so many tokens, with the names of these outcomes
-abbrev pub room_of : ℕ → List (List NamedState) → Room
-room_of tokens outcomes = record { tokens = tokens; names = map names_of outcomes }
-
 module _ (specs : List Numbered) (outcomes : List (List NamedState)) (tokens i : ℕ) (n : Numbered) (o : List NamedState) (l : i < length specs) (read : n ≡ get_or specs i n) (got : o ≡ get_or outcomes i o) where
   -- where all have room, the spec at a place has
-  pub room-at : HasRoom specs (room_of tokens outcomes) → (tokens_of n.spec ≤ tokens) × (names_of o ≡ attribute_names n.spec)
+  pub room-at : HasGlobRoom specs tokens (map names_of outcomes) → (tokens_of n.spec ≤ tokens) × (names_of o ≡ attribute_names n.spec)
   room-at h = (subst (λ (m : Numbered). tokens_of m.spec ≤ tokens) (sym read) (All-get_or (λ m. tokens_of m.spec ≤ tokens) specs i n l h.globs), names-at outcomes specs i o n h.outcomes l got read)
 
   -- one more spec has room
-  pub room-more : length outcomes ≡ length specs → (tokens_of n.spec ≤ tokens) × (names_of o ≡ attribute_names n.spec) → HasRoom (take i specs) (room_of tokens (take i outcomes)) → HasRoom (take (i + 1) specs) (room_of tokens (take (i + 1) outcomes))
+  pub room-more : length outcomes ≡ length specs → (tokens_of n.spec ≤ tokens) × (names_of o ≡ attribute_names n.spec) → HasGlobRoom (take i specs) tokens (map names_of (take i outcomes)) → HasGlobRoom (take (i + 1) specs) tokens (map names_of (take (i + 1) outcomes))
   room-more same fits h =
       let front : take (i + 1) specs ≡ take i specs ++ n ∷ [] = take_more specs i n l ∙ ap (λ m. take i specs ++ m ∷ []) (sym read) in
       record {
@@ -36,7 +32,7 @@ module _ (specs : List Numbered) (outcomes : List (List NamedState)) (tokens i :
       }
 
 -- the last spec was seen
-pub room-whole : (specs : List Numbered) (outcomes : List (List NamedState)) (tokens i : ℕ) → length outcomes ≡ length specs → length specs ≤ i → HasRoom (take i specs) (room_of tokens (take i outcomes)) → HasRoom specs (room_of tokens outcomes)
+pub room-whole : (specs : List Numbered) (outcomes : List (List NamedState)) (tokens i : ℕ) → length outcomes ≡ length specs → length specs ≤ i → HasGlobRoom (take i specs) tokens (map names_of (take i outcomes)) → HasGlobRoom specs tokens (map names_of outcomes)
 room-whole specs outcomes tokens i same l h =
-    subst (λ os. HasRoom specs (room_of tokens os)) (take_all i outcomes (omega (arith, same)))
-    (subst (λ ns. HasRoom ns (room_of tokens (take i outcomes))) (take_all i specs l) h)
+    subst (λ os. HasGlobRoom specs tokens (map names_of os)) (take_all i outcomes (omega (arith, same)))
+    (subst (λ ns. HasGlobRoom ns tokens (map names_of (take i outcomes))) (take_all i specs l) h)

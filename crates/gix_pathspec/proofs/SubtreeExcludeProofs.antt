@@ -34,7 +34,7 @@ same-test false true f g = g refl
 same-test false false f g = refl
 
 -- the answer of a glob in its mode
-in-mode : (m : SearchMode) (s : Spec) (g : GlobSource) (text : List ℕ) → Some g ≡ glob_in_mode m s.path → matches g.mode (case_of s) (tokens g.mode g.pattern) text ≡ glob_matches m s text
+pub in-mode : (m : SearchMode) (s : Spec) (g : GlobSource) (text : List ℕ) → Some g ≡ glob_in_mode m s.path → matches g.mode (case_of s) (tokens g.mode g.pattern) text ≡ glob_matches m s text
 in-mode ShellGlob s g text e = cc
 in-mode Literal s g text e = cc
 in-mode PathAwareGlob s g text e = cc

@@ -34,6 +34,9 @@ pub mod Compiled
 pub mod Found
 pub mod EndBytes
 pub mod Effort
+pub mod Sets
+pub mod Members
+pub mod Candidates
 pub mod Building
 pub mod Reach
 pub mod Lines

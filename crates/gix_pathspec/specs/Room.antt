@@ -1,10 +1,16 @@
 -- The room that the matches of a search work in, which each walker has of its own.
-use Rattle.std.specs.Prelude.{◌≡◌, ℕ, ◌≤◌, List, length, map, All, if◌then◌else◌, Option, Some, None}
+use Rattle.std.specs.Prelude.{◌≡◌, ℕ, ◌≤◌, Bool, not, ◌&&◌, List, [], length, ltb, map, filter_map, All, if◌then◌else◌, Option, Some, None}
+use Rattle.std.specs.Option.{option_map}
+use Rattle.pathspec_glob.specs.declared.Case.{Case}
 use Rattle.pathspec_pattern.specs.declared.SearchMode.{SearchMode}
 use Rattle.pathspec_pattern.specs.declared.SearchMode.TheVariants.{ShellGlob, Literal, PathAwareGlob}
 use Rattle.pathspec_glob.specs.declared.Mode.TheVariants.{Shell, PathAware}
 use Rattle.pathspec_glob.specs.Globs.{GlobSource, glob_tokens}
-use Rattle.gix_pathspec.specs.Specs.{Spec, has_wildcard}
+use Rattle.gix_pathspec.specs.Specs.{Spec, has_wildcard, wants_directory}
+use Rattle.gix_pathspec.specs.Bytes.{is_empty}
+use Rattle.gix_pathspec.specs.Plain.{has_one_case}
+use Rattle.gix_pathspec.specs.Matching.{case_of}
+use Rattle.gix_pathspec.specs.Prefixes.{head, stem}
 use Rattle.gix_pathspec.specs.Search.{Numbered, MatchCounts}
 
 -- the glob of a pattern in a search mode; a literal one has none
@@ -34,20 +40,57 @@ tokens_of s = glob_size (glob_of s)
 abbrev pub names_in_order : List Numbered → List (List (List ℕ))
 names_in_order specs = map (λ n. attribute_names n.spec) specs
 
--- The room that specs are asked in: for globs of so many tokens, and an outcome for each spec, of which the names are seen.
+-- what a member of a set is made of: a glob, whether case counts, and whether it decides where it matches
+pub record MemberSource : Type 0 where
+  pub glob : GlobSource
+  pub case : Case
+  pub cuts : Bool
+
+-- The room that specs are asked in: for globs of so many tokens, an outcome for each spec, of which the names are seen, and what the set is made of.
 pub record Room : Type 0 where
   pub tokens : ℕ
   pub names : List (List (List ℕ))
+  pub members : List MemberSource
 
 -- room, and how often a spec was asked in it, modulo 2 ^ 128
 pub record SpecRoom : Type 0 where
   pub room : Room
   pub tested : ℕ
 
--- the room has what the globs and the attributes of the specs want
+-- Where its glob matches, the spec does: it lists no attribute, wants no directory, and keeps no prefix directory.
+abbrev pub asks_no_more : Spec → Bool
+asks_no_more s = is_empty s.attributes && not (wants_directory s) && has_one_case s
+
+-- the spec with its glob, as the source of a member
+abbrev pub source_with : Spec → GlobSource → MemberSource
+source_with s glob = record { glob = glob; case = case_of s; cuts = asks_no_more s }
+
+-- The spec begins with a wildcard, and each path may match it: it has a glob, and neither a stem nor a head.
+abbrev pub source_of : Spec → Option MemberSource
+source_of s = if is_empty (stem s) && is_empty (head s) then option_map (source_with s) (glob_of s) else None
+
+-- the sources of the specs that may be members of a set, in search order
+abbrev pub sources_in_order : List Numbered → List MemberSource
+sources_in_order specs = filter_map (λ n. source_of n.spec) specs
+
+-- they are four or more, and so a set is made of them
+abbrev pub has_set : List Numbered → Bool
+has_set specs = not (ltb (length (sources_in_order specs)) 4)
+
+-- the sources of the members of the set, if there is one
+abbrev pub set_sources : List Numbered → List MemberSource
+set_sources specs = if has_set specs then sources_in_order specs else []
+
+-- room for so many tokens, and outcomes with these names, are what the globs and the attributes of the specs want
+pub record HasGlobRoom (specs : List Numbered) (tokens : ℕ) (names : List (List (List ℕ))) : Type 0 where
+  pub globs : All (λ n. tokens_of n.spec ≤ tokens) specs
+  pub outcomes : names ≡ names_in_order specs
+
+-- the room has what the globs and the attributes of the specs want, and its set is theirs
 pub record HasRoom (specs : List Numbered) (room : Room) : Type 0 where
   pub globs : All (λ n. tokens_of n.spec ≤ room.tokens) specs
   pub outcomes : room.names ≡ names_in_order specs
+  pub members : room.members ≡ set_sources specs
 
 -- the contents of a walker's scratch: the room that its matches work in, and their counts
 pub record ScratchContents : Type 0 where

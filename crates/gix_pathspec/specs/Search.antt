@@ -23,26 +23,39 @@ abbrev pub specs_of : List Numbered → List Spec
 specs_of search = map (λ n. n.spec) search
 
 -- How many specs the last match asked, or the last question whether a walk may skip a directory, and how many heads it
--- compared with the path; and how many all of them asked and compared, modulo 2 ^ 128.
+-- compared with the path; and how many all of them asked and compared, modulo 2 ^ 128. The same of the steps of the set. And
+-- whether the set told which of its specs the last match asked, and whether it gave up in that match.
 pub record MatchCounts : Type 0 where
   pub last_tested : ℕ
   pub last_compared : ℕ
+  pub last_stepped : ℕ
+  pub last_by_set : Bool
+  pub last_gave_up : Bool
   pub tested : ℕ
   pub compared : ℕ
+  pub stepped : ℕ
 
 -- nothing was asked and compared yet
 pub record IsFresh (counts : MatchCounts) : Type 0 where
   pub last_tested : counts.last_tested ≡ 0
   pub last_compared : counts.last_compared ≡ 0
+  pub last_stepped : counts.last_stepped ≡ 0
+  pub last_by_set : counts.last_by_set ≡ false
+  pub last_gave_up : counts.last_gave_up ≡ false
   pub tested : counts.tested ≡ 0
   pub compared : counts.compared ≡ 0
+  pub stepped : counts.stepped ≡ 0
 
 -- the counts of the last call begin anew, and the totals stay
 pub record BeginsCounts (old new : MatchCounts) : Type 0 where
   pub last_tested : new.last_tested ≡ 0
   pub last_compared : new.last_compared ≡ 0
+  pub last_stepped : new.last_stepped ≡ 0
+  pub last_by_set : new.last_by_set ≡ false
+  pub last_gave_up : new.last_gave_up ≡ false
   pub tested : new.tested ≡ old.tested
   pub compared : new.compared ≡ old.compared
+  pub stepped : new.stepped ≡ old.stepped
 
 -- The contents of a search: its specs in search order, where they come from, and the counts of its own matches.
 pub record SearchContents : Type 0 where

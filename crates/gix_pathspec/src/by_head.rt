@@ -3,41 +3,60 @@
 //! A match stands outside of the module `search`, which alone reads specs and makes scratches. It asks which heads begin a
 //! path and how the spec at a place matches it, and the scratch that it borrows counts both. It asks nothing of an empty path,
 //! nor of one that lacks the common prefix.
-ghost use Rattle.std.specs.Prelude.{◌≡◌, ◌<◌, ◌≤◌, length, IsSome, IsTrue, IfOk, OnOk, OnErr};
+ghost use Rattle.std.specs.Prelude.{◌≡◌, ◌+◌, ◌*◌, ◌<◌, ◌≤◌, ℕ, Bool, true, false, List, Some, length, is_some, IfSome, IsSome, IsTrue, IfOk, OnOk, OnErr};
+ghost use Rattle.std.specs.Option.{ForSome};
+ghost use Rattle.pathspec_glob_set.specs.declared.set.SetScratch.{SetScratch};
+ghost use Rattle.gix_pathspec.specs.Sets.{places_of, ArePlacesBeside, IsSetMade};
 ghost use Rattle.std.specs.Box.{box_value};
 ghost use Rattle.bstr.specs.BStr.{bstr_bytes};
 ghost use Rattle.pathspec_parts.specs.Attributes.{AsksLookUp};
 ghost use Rattle.pathspec_glob.specs.Counts.{Counts};
-ghost use Rattle.pathspec_heads.specs.Heads.{IsChainOf};
+ghost use Rattle.pathspec_heads.specs.Groups.{earlier};
 ghost use Rattle.gix_pathspec.specs.Found.{IsFirstFound};
 ghost use Rattle.gix_pathspec.specs.Prefixes.{common_prefix};
 ghost use Rattle.gix_pathspec.specs.Search.{specs_of, BeginsCounts, IsFresh};
-ghost use Rattle.gix_pathspec.specs.Room.{HasRoom, Fits};
-ghost use Rattle.gix_pathspec.specs.Effort.{ArePlacesOf, candidate_count, IsCounted, IsLittleCompared, is_settled_early};
+ghost use Rattle.gix_pathspec.specs.Room.{set_sources, HasRoom, Fits, MemberSource};
+ghost use Rattle.gix_pathspec.specs.Paths.{IsBytes};
+ghost use Rattle.gix_pathspec.specs.Attributes.{Table};
+ghost use Rattle.gix_pathspec.specs.Search.{Numbered};
+ghost use Rattle.gix_pathspec.specs.Members.{AreMembersOf, IsRead, IsScratchOf};
+ghost use Rattle.gix_pathspec.specs.EndBytes.{has_wildcard_at};
+ghost use Rattle.gix_pathspec.specs.Candidates.{AreCandidates, AreKept, HasSameMoves, SetGaveUp};
+ghost use Rattle.gix_pathspec.specs.Effort.{ArePlacesOf, candidate_count, unsettled_count, IsCounted, IsLittleCompared, IsSetCounted, is_settled_early};
 
 pub(crate) mod subtree_excludes;
 
 use crate::search::MatchKind;
 use crate::search::counted::{CountedHeads, CountedSpecs, SpecScratch};
+use crate::search::members::{Members, read};
 use crate::search::spec_matching::begins_with;
 use bstr::BStr;
+use pathspec_glob_set::SetScratch;
 use pathspec_heads::places::{CompareScratch, LongestHead};
 use pathspec_heads::tables::StemScratch;
 use pathspec_parts::attributes::LookUp;
 use std::fmt;
 use std::marker::Model;
 
-/// The effort of one match or skip question: specs asked, and heads compared with the path.
+/// The effort of one match or skip question: specs asked, heads compared with the path, and steps of the set.
 #[derive(Clone, Copy)]
 struct Effort {
     tested: usize,
     compared: usize,
+    stepped: u128,
+    /// Whether the set told which of its specs to ask.
+    by_set: bool,
+    /// Whether the set read the path, and gave up.
+    gave_up: bool,
 }
 
-/// The effort before a question: no spec asked, and no head compared.
+/// The effort before a question: no spec asked, no head compared, and no step taken.
 const NO_EFFORT: Effort = Effort {
     tested: 0,
     compared: 0,
+    stepped: 0,
+    by_set: false,
+    gave_up: false,
 };
 
 /// The room that a walker's matches and skip questions (`may_skip`) work in, with the counts of what they asked and compared.
@@ -46,10 +65,14 @@ const NO_EFFORT: Effort = Effort {
 /// totals are never set back.
 pub struct Scratch {
     specs: SpecScratch,
+    /// Where the set of the specs reads paths, if there is one.
+    set: Option<SetScratch>,
     heads: CompareScratch,
     // Written by questions whether a directory may be skipped. No call tells its comparisons.
     pub(crate) stems: StemScratch,
     effort: Effort,
+    /// The steps of the set in all matches, modulo 2^128.
+    stepped: u128,
 }
 
 // Written out, so that whoever drops a scratch needn't prove anew what becomes of its lists.
@@ -57,9 +80,11 @@ impl Drop for Scratch {
     fn drop(self) {
         let Scratch {
             specs: _specs,
+            set: _set,
             heads: _heads,
             stems: _stems,
             effort: _effort,
+            stepped: _stepped,
         } = self;
     }
 }
@@ -75,15 +100,20 @@ impl fmt::Debug for Scratch {
 
 impl Model for Scratch {
     ghost use Rattle.gix_pathspec.specs.Room.{ScratchContents};
+    ghost use Rattle.gix_pathspec.specs.Members.{IsSetIn};
 
     ghost Value = { ScratchContents };
 
-    ghost view = { λ s. record { room = s.specs.room; counts = record { last_tested = s.effort.tested; last_compared = s.effort.compared; tested = s.specs.tested; compared = s.heads } } };
+    ghost view = { λ s. record { room = s.specs.room; counts = record { last_tested = s.effort.tested; last_compared = s.effort.compared; last_stepped = s.effort.stepped; last_by_set = s.effort.by_set; last_gave_up = s.effort.gave_up; tested = s.specs.tested; compared = s.heads; stepped = s.stepped } } };
+
+    ghost invariant = { λ s. IsSetIn s.specs.room.members s.set s.effort.gave_up };
 }
 
 impl Scratch {
     /// Makes a scratch of the given room, with all counts at 0.
-    pub(crate) fn new(specs: SpecScratch, heads: CompareScratch) -> Scratch
+    pub(crate) fn new(specs: SpecScratch, set: Option<SetScratch>, heads: CompareScratch) -> Scratch
+        requires set { ForSome set (IsScratchOf specs.room.members) }
+        requires made { IsSetMade specs.room.members → is_some set ≡ true }
         requires specs_unasked { specs.tested ≡ 0 }
         requires heads_unasked { heads ≡ 0 }
         ensures room { result.room ≡ specs.room }
@@ -91,9 +121,11 @@ impl Scratch {
     {
         Scratch {
             specs,
+            set,
             heads,
             stems: StemScratch::new(),
             effort: NO_EFFORT,
+            stepped: 0,
         }
     }
 
@@ -129,6 +161,31 @@ impl Scratch {
         self.effort.compared as u128
     }
 
+    /// The count of steps that the set of the search took in the last match: one for each byte of the path that it read, and
+    /// one for each of its places, and one more, for each cell of its table that it filled. It is 0 where no set was asked: the
+    /// path was empty, lacked the common prefix or begins with a wildcard byte, or the search has no set.
+    pub fn last_stepped(&self) -> u128
+        ensures { result ≡ self.now.counts.last_stepped }
+    {
+        self.effort.stepped
+    }
+
+    /// Whether the set of the search told which of its specs the last match had to ask. It tells nothing where no set was
+    /// asked ([`Scratch::last_stepped`]), nor where it gave up ([`Scratch::last_gave_up`]); else it tells.
+    pub fn last_by_set(&self) -> bool
+        ensures { result ≡ self.now.counts.last_by_set }
+    {
+        self.effort.by_set
+    }
+
+    /// Whether the set of the search was asked in the last match, and gave up: the path filled more than eight cells of its
+    /// table, or too many paths before did. Then the match asked specs by their heads alone.
+    pub fn last_gave_up(&self) -> bool
+        ensures { result ≡ self.now.counts.last_gave_up }
+    {
+        self.effort.gave_up
+    }
+
     /// The count of specs that all matches and skip questions in this scratch asked, modulo 2^128.
     pub fn total_tested(&self) -> u128
         ensures { result ≡ self.now.counts.tested }
@@ -142,6 +199,13 @@ impl Scratch {
     {
         self.heads.compared()
     }
+
+    /// The count of steps that the set of the search took in all matches in this scratch, modulo 2^128.
+    pub fn total_stepped(&self) -> u128
+        ensures { result ≡ self.now.counts.stepped }
+    {
+        self.stepped
+    }
 }
 
 /// The specs of a search, with their places in search order by their heads. No match writes to them.
@@ -150,12 +214,15 @@ pub(crate) struct SpecsByHead {
     specs: CountedSpecs,
     /// The places of the specs in search order, by their heads.
     heads: Box<CountedHeads>,
+    /// The set of the specs that begin with a wildcard, where they are four or more.
+    members: Option<Box<Members>>,
     common_prefix: Vec<u8>,
 }
 
 impl Model for SpecsByHead {
     ghost use Rattle.std.specs.Prelude.{List};
     ghost use Rattle.std.specs.Box.{box_value};
+    ghost use Rattle.std.specs.Option.{option_map};
     ghost use Rattle.gix_pathspec.specs.Search.{Numbered};
     ghost use Rattle.gix_pathspec.specs.Effort.{IsByHead};
 
@@ -163,23 +230,30 @@ impl Model for SpecsByHead {
 
     ghost view = { λ s. s.specs };
 
-    ghost invariant = { λ s. IsByHead s.specs (box_value s.heads) s.common_prefix.items };
+    ghost invariant = { λ s. IsByHead s.specs (box_value s.heads) (option_map box_value s.members) s.common_prefix.items };
 }
 
 impl SpecsByHead {
-    ghost use Rattle.std.specs.Option.{ForSome};
     ghost use Rattle.gix_pathspec.specs.Found.{is_directory, answer_found};
     ghost use Rattle.gix_pathspec.specs.Search.{answer};
 
     /// Puts specs together with their places and their common prefix.
-    pub(crate) fn new(specs: CountedSpecs, heads: Box<CountedHeads>, common: Vec<u8>) -> SpecsByHead
+    pub(crate) fn new(
+        specs: CountedSpecs,
+        heads: Box<CountedHeads>,
+        members: Option<Box<Members>>,
+        common: Vec<u8>,
+    ) -> SpecsByHead
         requires places { ArePlacesOf specs (box_value heads) }
+        requires members { ForSome members (λ set. AreMembersOf specs (box_value set)) }
+        requires made { IsSetMade (set_sources specs) → is_some members ≡ true }
         requires common { common.items ≡ common_prefix (specs_of specs) }
         ensures { result ≡ specs }
     {
         SpecsByHead {
             specs,
             heads,
+            members,
             common_prefix: common,
         }
     }
@@ -210,6 +284,17 @@ impl SpecsByHead {
         ensures { ArePlacesOf self.now result.now }
     {
         &self.heads
+    }
+
+    /// The set of the specs that begin with a wildcard, if there is one.
+    pub(crate) fn members(&self) -> Option<&Members>
+        ensures members { ForSome result (λ set. AreMembersOf self.now set.now) }
+        ensures made { IsSetMade (set_sources self.now) → is_some result ≡ true }
+    {
+        match &self.members {
+            Some(members) => Some(&**members),
+            None => None,
+        }
     }
 
     /// The specs by value.
@@ -249,13 +334,25 @@ impl SpecsByHead {
             → (1 ≤ scratch.new.counts.last_tested) × (1 ≤ scratch.new.counts.last_compared)) }
         ensures unasked { IsTrue (is_settled_early self.now (bstr_bytes path.entry))
             → (scratch.new.counts.last_tested ≡ 0) × (scratch.new.counts.last_compared ≡ 0) }
+
+        // Counts the steps of the set. It tells which of its specs to ask unless it gives up, and then few are asked.
+        ensures by_set { IsSetCounted self.now (bstr_bytes path.entry)
+            scratch.old.counts scratch.new.counts }
     {
         if self.is_settled_early(path.as_bytes()) {
             scratch.effort = NO_EFFORT;
             return Ok(None);
         }
         let is_dir = is_dir.unwrap_or(false);
-        first_match(&self.specs, &self.heads, scratch, path, is_dir, look_up)
+        first_match(
+            &self.specs,
+            &self.heads,
+            self.members(),
+            scratch,
+            path,
+            is_dir,
+            look_up,
+        )
     }
 
     /// Whether a path is empty or lacks the common prefix, so that its answer needs no look at the specs.
@@ -268,17 +365,152 @@ impl SpecsByHead {
     }
 }
 
+/// The specs that may match a path: those whose head begins it, and beside a set that read the path, the members whose glob
+/// matches.
+#[derive(Clone, Copy)]
+struct Candidates<'a> {
+    heads: &'a CountedHeads,
+    /// The number of the longest head that begins the path, if one does.
+    head: Option<usize>,
+    /// The set, where it read the path.
+    members: Option<&'a Members>,
+}
+
+impl Candidates<'_> {
+    ghost use Rattle.std.specs.Prelude.{true};
+    ghost use Rattle.gix_pathspec.specs.Candidates.{AreBeside, AreNext, IsAsMany, IsRank};
+    ghost use Rattle.gix_pathspec.specs.Sets.{any_spec, is_beside, IsHit, IsKindAt, IsNext, NoneBefore};
+
+    /// The number of the first member that may match, or the count of members; 0 without a set.
+    fn first(&self, set: &mut Option<SetScratch>) -> usize
+        requires { IsAsMany self.now set.old }
+        ensures rank { IsRank self.now result }
+        ensures next { (specs : List Numbered) (path : List ℕ) → IsBytes path
+            → AreCandidates specs path self.now set.old → AreNext specs path self.now 0 result }
+        ensures kept { AreKept set.old set.new }
+    {
+        let Some(members) = self.members else {
+            return 0;
+        };
+        match set {
+            Some(set) => members.first(set),
+            None => 0,
+        }
+    }
+
+    /// The next place from one on of a spec that may match. `rank` is the number of the member that was next before, and then of
+    /// the next one.
+    fn next(&self, from: usize, rank: &mut usize, set: &mut Option<SetScratch>) -> Option<usize>
+        requires set { IsAsMany self.now set.old }
+        requires rank { IsRank self.now rank.old }
+        requires head { IfSome self.now.head (λ head. head < length self.now.heads.now.heads) }
+        ensures rank { IsRank self.now rank.new }
+        ensures next { (specs : List Numbered) (path : List ℕ) (table : Table) (is_dir : Bool)
+            → IsBytes path → AreCandidates specs path self.now set.old
+            → NoneBefore table specs path is_dir from → AreNext specs path self.now from rank.old
+            → IsNext any_spec specs path from result × AreNext specs path self.now from rank.new }
+        ensures hit { (specs : List Numbered) (path : List ℕ) (table : Table) (is_dir : Bool)
+            → IsBytes path → AreCandidates specs path self.now set.old
+            → NoneBefore table specs path is_dir from → AreNext specs path self.now from rank.old
+            → is_some self.now.members ≡ true → IfSome result (IsHit specs path) }
+        ensures kept { AreKept set.old set.new }
+    {
+        let other = self.next_beside(from);
+        let Some(members) = self.members else {
+            return other;
+        };
+        let Some(set) = set else {
+            return other;
+        };
+        earlier(other, members.next(from, rank, set))
+    }
+
+    /// The next place from one on of a spec that is looked for by its head, and whose head begins the path.
+    fn next_beside(&self, from: usize) -> Option<usize>
+        requires { IfSome self.now.head (λ head. head < length self.now.heads.now.heads) }
+        ensures next { (specs : List Numbered) (path : List ℕ) (is_set_asked : Bool)
+            → AreBeside specs path self.now.heads.now self.now.head is_set_asked
+            → IsNext (is_beside is_set_asked) specs path from result }
+        ensures beside { (specs : List Numbered) (path : List ℕ) (is_set_asked : Bool)
+            → AreBeside specs path self.now.heads.now self.now.head is_set_asked
+            → IfSome result (IsKindAt (is_beside is_set_asked) specs) }
+    {
+        match self.head {
+            Some(head) => self.heads.next_place(head, from),
+            None => None,
+        }
+    }
+}
+
+/// The lesser of two places, of those that are there.
+fn earlier(left: Option<usize>, right: Option<usize>) -> Option<usize>
+    ensures { result ≡ earlier left right }
+{
+    match (left, right) {
+        (Some(left), Some(right)) => Some(left.min(right)),
+        (Some(place), None) | (None, Some(place)) => Some(place),
+        (None, None) => None,
+    }
+}
+
+/// The heads by which specs are looked for, where a set is asked or isn't.
+fn heads_beside<'a>(heads: &'a CountedHeads, members: Option<&'a Members>) -> &'a CountedHeads
+    ensures { (specs : List Numbered) → ArePlacesOf specs heads.now
+        → ForSome members.entry (λ set. AreMembersOf specs set.now)
+        → ArePlacesBeside (is_some members.entry) specs result.now }
+{
+    match members {
+        Some(members) => members.others(),
+        None => heads,
+    }
+}
+
+/// The set, where it read a path, and so tells which of its specs may match. `stepped` counts its steps, and `gave_up` tells whether
+/// it read the path and gave up.
+fn set_for<'a>(
+    members: Option<&'a Members>,
+    path: &[u8],
+    set: &mut Option<SetScratch>,
+    stepped: &mut u128,
+    gave_up: &mut bool,
+) -> Option<&'a Members>
+    requires none { stepped.old ≡ 0 }
+    requires going { gave_up.old ≡ false }
+    ensures told { is_some members.entry ≡ true → is_some set.old ≡ true
+        → has_wildcard_at path.now 0 ≡ false → gave_up.new ≡ false → is_some result ≡ true }
+    ensures gave_up { gave_up.new ≡ true → SetGaveUp path.now set.old set.new
+        × (is_some members.entry ≡ true) × (is_some result ≡ false) }
+    ensures same { ForSome result (λ asked. members.entry ≡ Some asked) }
+    ensures read { IsTrue (is_some result) → (scratch : SetScratch) × (set.new ≡ Some scratch)
+        × IsRead path.now scratch }
+    ensures kept { HasSameMoves set.old set.new }
+    ensures few { (sources : List MemberSource) → ForSome set.old (IsScratchOf sources)
+        → stepped.new ≤ length path.now * (places_of sources + 2) }
+{
+    let Some(members) = members else {
+        return None;
+    };
+    let Some(set) = set else {
+        return None;
+    };
+    read(path, set, stepped, gave_up).then_some(members)
+}
+
 /// Finds the place of the first spec that matches a path, and the way in which it matches. It asks no more specs than have a
 /// head that begins the path.
 fn first_match<L: LookUp>(
     specs: &CountedSpecs,
     heads: &CountedHeads,
+    members: Option<&Members>,
     scratch: &mut Scratch,
     path: BStr<'_>,
     is_dir: bool,
     look_up: &mut L,
 ) -> Result<Option<(usize, MatchKind)>, L::Fault>
     requires grouped { ArePlacesOf specs.now heads.now }
+    requires members { ForSome members (λ set. AreMembersOf specs.now set.now) }
+    requires made { IsSetMade (set_sources specs.now) → is_some members ≡ true }
+    requires late { is_settled_early specs.now (bstr_bytes path) ≡ false }
     requires fits { Fits specs.now scratch.old }
     ensures room { scratch.new.room ≡ scratch.old.room }
     ensures first { IfOk result (λ found.
@@ -289,45 +521,66 @@ fn first_match<L: LookUp>(
         scratch.old.counts scratch.new.counts }
     ensures looked { IfOk result (λ found. IsSome found
         → (1 ≤ scratch.new.counts.last_tested) × (1 ≤ scratch.new.counts.last_compared)) }
+    ensures by_set { IsSetCounted specs.now (bstr_bytes path.entry)
+        scratch.old.counts scratch.new.counts }
 {
-    let LongestHead { head, compared } = heads.longest_head_of(path.as_bytes(), &mut scratch.heads);
+    let bytes = path.as_bytes();
+    let mut stepped = 0;
+    let mut gave_up = false;
+    let members = set_for(members, bytes, &mut scratch.set, &mut stepped, &mut gave_up);
+    let heads = heads_beside(heads, members);
+    let LongestHead { head, compared } = heads.longest_head_of(bytes, &mut scratch.heads);
     let mut tested = 0;
-    let Some(head) = head else {
-        scratch.effort = Effort { tested, compared };
-        return Ok(None);
+    let candidates = Candidates {
+        heads,
+        head,
+        members,
     };
     let found = first_candidate(
         specs,
-        heads,
-        head,
+        &candidates,
+        &mut scratch.set,
         &mut scratch.specs,
         &mut tested,
         path,
         is_dir,
         look_up,
     );
-    scratch.effort = Effort { tested, compared };
+    scratch.effort = Effort {
+        tested,
+        compared,
+        stepped,
+        by_set: members.is_some(),
+        gave_up,
+    };
+    scratch.stepped = add_to(scratch.stepped, stepped);
     found
 }
 
-/// Finds the first spec that matches a path, of those whose head begins the head with this number. `tested` counts those
-/// asked.
+/// The total with so many steps more, modulo 2^128.
+fn add_to(total: u128, steps: u128) -> u128
+    ensures { Counts total steps result }
+{
+    total.wrapping_add(steps)
+}
+
+/// Finds the first spec that matches a path, of those that may. `tested` counts those asked.
 fn first_candidate<L: LookUp>(
     specs: &CountedSpecs,
-    heads: &CountedHeads,
-    head: usize,
+    candidates: &Candidates<'_>,
+    set: &mut Option<SetScratch>,
     scratch: &mut SpecScratch,
     tested: &mut usize,
     path: BStr<'_>,
     is_dir: bool,
     look_up: &mut L,
 ) -> Result<Option<(usize, MatchKind)>, L::Fault>
-    requires grouped { ArePlacesOf specs.now heads.now }
+    requires candidates { AreCandidates specs.now (bstr_bytes path) candidates.now set.old }
+    requires bytes { IsBytes (bstr_bytes path) }
     requires room { HasRoom specs.now scratch.old.room }
-    requires head { head < length heads.now.heads }
-    requires chain { IsChainOf heads.now.heads (bstr_bytes path) head }
     requires none { tested.old ≡ 0 }
     ensures room { scratch.new.room ≡ scratch.old.room }
+    ensures kept { AreKept set.old set.new }
     ensures first { IfOk result (λ found.
         IsFirstFound (L.table look_up.old) specs.now (bstr_bytes path.entry) is_dir found) }
     ensures look_up { AsksLookUp (L.table look_up.old) (L.failures look_up.old)
@@ -335,11 +588,14 @@ fn first_candidate<L: LookUp>(
     ensures counted { Counts scratch.old.tested tested.new scratch.new.tested }
     ensures few { tested.new ≤ candidate_count specs.now (bstr_bytes path.entry) }
     ensures asked { IfOk result (λ found. IsSome found → 1 ≤ tested.new) }
+    ensures once { IsTrue (is_some candidates.now.members)
+        → tested.new ≤ unsettled_count specs.now (bstr_bytes path.entry) + 1 }
 {
     let count = specs.len();
     let mut from = 0;
+    let mut rank = candidates.first(set);
     while from < count {
-        let place = match heads.next_place(head, from) {
+        let place = match candidates.next(from, &mut rank, set) {
             Some(place) => place,
             None => return Ok(None),
         };

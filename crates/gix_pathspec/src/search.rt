@@ -5,6 +5,7 @@ mod directories;
 mod init;
 pub mod laws;
 mod matching;
+pub(crate) mod members;
 mod patterns;
 mod pruning;
 mod reach;

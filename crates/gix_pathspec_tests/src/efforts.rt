@@ -186,7 +186,8 @@ fn specs_of_one_head_are_compared_once(rt: HostRuntime) -> Result<(), Fail> {
         rt.alloc(),
         65,
         Texts::Same("*.rs"),
-        &[(0, "a.c", (None, 65), None)],
+        // Those that begin with a wildcard stand in a set, which is asked of no path that does.
+        &[(0, "a.c", (None, 0), None), (0, "?.c", (None, 65), None)],
     )
 }
 

@@ -28,4 +28,6 @@ mod scratches;
 #[cfg(test)]
 mod searches;
 #[cfg(test)]
+mod sets;
+#[cfg(test)]
 mod skipping;

@@ -141,6 +141,12 @@ fn a_scratch_fits_what_wants_no_other_room(rt: HostRuntime) -> Result<(), Fail> 
         (&["x", "y"], &["x"], false),
         (&["a*b"], &["a*bc"], true),
         (&["a*bcd", "e*"], &["e*", "a*bc"], false),
+        // Where four specs or more begin with a wildcard, these are the same.
+        (&["*a", "*b", "*c"], &["*a", "*b", "*d"], true),
+        (&["*a", "*b", "*c", "*d"], &["*a", "*b", "*c", "*d"], true),
+        (&["*a", "*b", "*c", "*d"], &["*a", "*b", "*c", "*e"], false),
+        (&["*a", "*b", "*c", "*d"], &["*a", "*b", "*c", "*d/"], false),
+        (&["*a", "*b", "*c", "*d"], &["*a", "*b", "*c", ":(icase)*d"], false),
     ];
     for (texts, others, want) in ROWS {
         assert!(rt; fits(rt.alloc(), texts, others)? == *want, "{texts:?}");

@@ -8,9 +8,10 @@ ghost use Rattle.pathspec_parts.specs.Attributes.{AsksLookUp};
 ghost use Rattle.pathspec_glob.specs.Counts.{Counts};
 ghost use Rattle.gix_pathspec.specs.Effort.{kind_at};
 ghost use Rattle.pathspec_parts.specs.Outcomes.{names_of};
-ghost use Rattle.gix_pathspec.specs.Room.{HasRoom, tokens_of, names_in_order};
+ghost use Rattle.gix_pathspec.specs.Room.{HasGlobRoom, HasRoom, tokens_of, names_in_order, set_sources, sources_in_order};
 
 use crate::search::MatchKind;
+use crate::search::members::{SetMember, has_set, set_sources};
 use crate::search::spec::CompiledSpec;
 use crate::search::subtree_excludes::SubtreeExclude;
 use bstr::BStr;
@@ -70,6 +71,8 @@ pub(crate) struct SpecScratch {
     globs: glob::Scratch,
     /// An outcome for each spec in search order, with a place for each attribute that the spec lists.
     outcomes: Vec<Outcome>,
+    /// What the set of the specs is made of.
+    members: Vec<SetMember>,
     tested: u128,
 }
 
@@ -80,7 +83,7 @@ impl Model for SpecScratch {
 
     ghost Value = { SpecRoom };
 
-    ghost view = { λ s. record { room = record { tokens = s.globs.tokens; names = map names_of s.outcomes.items }; tested = s.tested } };
+    ghost view = { λ s. record { room = record { tokens = s.globs.tokens; names = map names_of s.outcomes.items; members = s.members.items }; tested = s.tested } };
 }
 
 impl CountedSpecs {
@@ -227,8 +230,8 @@ impl CountedHeads {
 }
 
 impl SpecScratch {
-    /// Makes room for questions to the specs, with the count at 0. The cost is linear in the tokens of the largest glob and in
-    /// the names of attributes that the specs list.
+    /// Makes room for questions to the specs, with the count at 0. The cost is linear in the tokens of the largest glob, in the
+    /// names of attributes that the specs list, and in the bytes of those that begin with a wildcard.
     ///
     /// # Errors
     /// Memory runs out.
@@ -239,15 +242,18 @@ impl SpecScratch {
         Ok(SpecScratch {
             globs: glob::Scratch::for_tokens(alloc, most_tokens(&specs.all))?,
             outcomes: outcomes(alloc, &specs.all)?,
+            members: set_sources(alloc, &specs.all)?,
             tested: 0,
         })
     }
 
-    /// Whether there is room for questions to the specs. The cost is linear in the names of their attributes.
+    /// Whether there is room for questions to the specs. The cost is linear in the names of their attributes and in the specs.
     pub(super) fn fits(&self, specs: &CountedSpecs) -> bool
         ensures { IsTrue result ↔ HasRoom specs.now self.now.room }
     {
-        self.outcomes.len() == specs.all.len() && have_room(&specs.all, &self.globs, &self.outcomes)
+        self.outcomes.len() == specs.all.len()
+            && have_room(&specs.all, &self.globs, &self.outcomes)
+            && are_set_sources(&specs.all, &self.members)
     }
 
     /// The count of questions to specs, modulo 2^128.
@@ -283,8 +289,7 @@ fn outcomes(alloc: Global, specs: &[CompiledSpec]) -> Result<Vec<Outcome>, Alloc
 /// Whether each spec has room in the scratch of globs, and in the outcome at its place.
 fn have_room(specs: &[CompiledSpec], globs: &glob::Scratch, outcomes: &[Outcome]) -> bool
     requires { length outcomes.now ≡ length specs.now }
-    ensures { IsTrue result ↔ HasRoom specs.now
-        (record { tokens = globs.now.tokens; names = map names_of outcomes.now }) }
+    ensures { IsTrue result ↔ HasGlobRoom specs.now globs.now.tokens (map names_of outcomes.now) }
 {
     for (place, spec) in specs.iter().enumerate() {
         if !spec.fits(globs, &outcomes[place]) {
@@ -292,4 +297,31 @@ fn have_room(specs: &[CompiledSpec], globs: &glob::Scratch, outcomes: &[Outcome]
         }
     }
     true
+}
+
+/// Whether these are the sources of the members of the specs' set, in order; none without a set.
+fn are_set_sources(specs: &[CompiledSpec], sources: &[SetMember]) -> bool
+    ensures { IsTrue result ↔ (sources.now ≡ set_sources specs.now) }
+{
+    if has_set(specs) {
+        are_sources(specs, sources)
+    } else {
+        sources.is_empty()
+    }
+}
+
+/// Whether these are the sources of the specs that may be members of a set, in order.
+fn are_sources(specs: &[CompiledSpec], sources: &[SetMember]) -> bool
+    ensures { IsTrue result ↔ (sources.now ≡ sources_in_order specs.now) }
+{
+    let mut rank = 0;
+    for spec in specs {
+        if spec.is_member() {
+            match sources.get(rank) {
+                Some(source) if spec.has_source(source) => rank += 1,
+                _ => return false,
+            }
+        }
+    }
+    rank == sources.len()
 }

@@ -1,5 +1,5 @@
 //! Makes searches: puts normalised specs in search order, and groups them by their heads.
-ghost use Rattle.std.specs.Prelude.{◌≡◌, List, Ok, Err, None, map, IfOk, IfErr, IsTrue, Some, OnOk};
+ghost use Rattle.std.specs.Prelude.{◌≡◌, List, Ok, Err, None, is_some, true, map, IfOk, IfErr, IfSome, IsTrue, Some, OnOk};
 ghost use Rattle.std.specs.Iterator.{Drains, IsFinite};
 ghost use Rattle.std.specs.Option.{option_map};
 ghost use Rattle.std.specs.Box.{box_value};
@@ -16,7 +16,9 @@ ghost use Rattle.gix_pathspec.specs.Effort.{ArePlacesOf, heads_in_order};
 ghost use Rattle.gix_pathspec.specs.SubtreeExcludes.{subtree_excludes_of};
 ghost use Rattle.gix_pathspec.specs.Building.{prefix_bytes, TellsFault, Builds, IsErrorAt, AreNumbered, AddsNext, with_next, default_numbered_to_prefix, search_of_numbered};
 ghost use Rattle.gix_pathspec.specs.Reach.{IsReachOf};
-ghost use Rattle.gix_pathspec.specs.Room.{Fits};
+ghost use Rattle.gix_pathspec.specs.Room.{set_sources, Fits};
+ghost use Rattle.gix_pathspec.specs.Members.{AreMembersOf};
+ghost use Rattle.gix_pathspec.specs.Sets.{head_beside, IsSetMade};
 ghost use Rattle.gix_pathspec.specs.SelectionLaws.{NoNilPrefix, SpecPathsAreBytes};
 ghost use Rattle.gix_pathspec.specs.Reading.{reading};
 ghost use Rattle.gix_pathspec.specs.Lines.{numbered_of_lines, search_of_lines};
@@ -26,6 +28,7 @@ use crate::by_head::subtree_excludes::ExcludesByHead;
 use crate::search::compiling::{compile, compile_all, compile_lines};
 use crate::search::counted::{CountedExcludes, CountedHeads, CountedSpecs};
 use crate::search::matching::boxed_scratch;
+use crate::search::members::{Members, has_set};
 use crate::search::reach::Reach;
 use crate::search::spec::CompiledSpec;
 use crate::search::subtree_excludes::excludes_with_heads;
@@ -290,7 +293,8 @@ fn by_head(alloc: Global, specs: Vec<CompiledSpec>) -> Result<SpecsByHead, Alloc
 {
     let common = common_prefix(alloc, specs.as_slice())?;
     let heads = places_by_head(alloc, specs.as_slice())?;
-    Ok(SpecsByHead::new(CountedSpecs::new(specs), heads, common))
+    let members = set_of(alloc, specs.as_slice())?;
+    Ok(SpecsByHead::new(CountedSpecs::new(specs), heads, members, common))
 }
 
 /// The subtree excludes among the specs, by their heads.
@@ -308,6 +312,33 @@ fn places_by_head(alloc: Global, specs: &[CompiledSpec]) -> Result<Box<CountedHe
 {
     let heads = heads_in_order(alloc, specs)?;
     boxed_heads(alloc, &heads)
+}
+
+/// The set of the specs that begin with a wildcard, if there is one.
+fn set_of(alloc: Global, specs: &[CompiledSpec]) -> Result<Option<Box<Members>>, AllocError>
+    ensures members { IfOk result (λ made. IfSome made (λ members.
+        AreMembersOf specs.now (box_value members))) }
+    ensures made { IfOk result (λ made. IsSetMade (set_sources specs.now)
+        → is_some made ≡ true) }
+{
+    // Most searches have no set, and then need no second list of heads.
+    if !has_set(specs) {
+        return Ok(None);
+    }
+    let others = boxed_heads(alloc, &heads_beside(alloc, specs)?)?;
+    Members::of_specs(alloc, specs, others)
+}
+
+/// The heads by which specs are looked for beside the set, in their order.
+fn heads_beside(alloc: Global, specs: &[CompiledSpec]) -> Result<Vec<&[u8]>, AllocError>
+    ensures { IfOk result (λ heads. map (λ head. head.now) heads.items
+        ≡ map (λ n. head_beside true n.spec) specs.now) }
+{
+    let mut heads = Vec::with_capacity(alloc, specs.len())?;
+    for spec in specs {
+        heads.push(spec.head_beside())?;
+    }
+    Ok(heads)
 }
 
 /// Heads with their places, in a box.

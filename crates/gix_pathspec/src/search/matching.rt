@@ -1,5 +1,5 @@
 //! Matching: the spec that settles a path, and the room that a match works in.
-ghost use Rattle.std.specs.Prelude.{◌≡◌, ◌≢◌, ◌↔◌, ◌<◌, ◌≤◌, [], length, IsTrue, IfOk, OnOk, OnErr};
+ghost use Rattle.std.specs.Prelude.{◌≡◌, ◌≢◌, ◌↔◌, ◌<◌, ◌≤◌, true, [], length, is_some, IsTrue, IfOk, OnOk, OnErr};
 ghost use Rattle.std.specs.Option.{option_map, ForSome};
 ghost use Rattle.bstr.specs.BStr.{bstr_bytes};
 ghost use Rattle.pathspec_parts.specs.Attributes.{AsksLookUp};
@@ -8,8 +8,10 @@ ghost use Rattle.gix_pathspec.specs.Patterns.{pattern_spec};
 ghost use Rattle.gix_pathspec.specs.Matching.{is_chosen, IsChosen};
 ghost use Rattle.gix_pathspec.specs.Found.{is_directory, answer_found, match_view};
 ghost use Rattle.gix_pathspec.specs.Search.{specs_of, answer, selects, IsFresh};
-ghost use Rattle.gix_pathspec.specs.Room.{Fits};
-ghost use Rattle.gix_pathspec.specs.Effort.{IsCounted, IsLittleCompared, IsBySpec, is_settled_early};
+ghost use Rattle.gix_pathspec.specs.Room.{set_sources, Fits};
+ghost use Rattle.gix_pathspec.specs.Members.{IsScratchOf};
+ghost use Rattle.gix_pathspec.specs.Sets.{IsSetMade};
+ghost use Rattle.gix_pathspec.specs.Effort.{IsCounted, IsLittleCompared, IsSetCounted, IsBySpec, is_settled_early};
 ghost use Rattle.gix_pathspec.specs.SkipLaws.{FoundIsSkipped};
 ghost use Rattle.std.specs.Box.{box_value};
 
@@ -18,6 +20,7 @@ use crate::by_head::SpecsByHead;
 use crate::search::counted::SpecScratch;
 use crate::search::{MatchKind, Scratch, Search};
 use bstr::BStr;
+use pathspec_glob_set::SetScratch;
 use pathspec_parts::attributes::LookUp;
 use std::alloc::{AllocError, Global};
 
@@ -61,7 +64,8 @@ impl Search {
     ghost use Rattle.gix_pathspec.specs.SelectionLaws.{SelectsChosen, SelectsCommon, OrderIsFree, ChosenIsTest, FittedBeginsHead, FittedBeginsStem, FittedMatches};
 
     /// Makes room for matches of the search, with all counts at 0. Each walker that shares a search has a scratch of its own.
-    /// The cost is linear in the tokens of the largest glob and in the names of attributes that the specs list.
+    /// The cost is linear in the tokens of the largest glob and in the names of attributes that the specs list. If four specs or
+    /// more begin with a wildcard, it is also linear in the size of their set, of which the scratch has a table of at most 6 MiB.
     ///
     /// # Errors
     /// Memory runs out.
@@ -73,8 +77,8 @@ impl Search {
     }
 
     /// Whether a scratch has room for matches of the search. One that [`Search::new_scratch`] made for it has. So has one of a
-    /// search whose specs list the same attributes and have globs that are no shorter. The cost is linear in the names of
-    /// attributes that the specs list.
+    /// search whose specs list the same attributes and have globs that are no shorter; if four or more begin with a wildcard,
+    /// these are the same. The cost is linear in the names of attributes that the specs list, and in the bytes of those specs.
     pub fn fits(&self, scratch: &Scratch) -> bool
         ensures { IsTrue result ↔ Fits self.now.specs scratch.now }
     {
@@ -94,6 +98,11 @@ impl Search {
     /// ([`Scratch::last_tested`]). A spec looks at the path's first and last byte. Then it looks at each byte of its own path
     /// a fixed number of times, and takes its glob's steps. Where it lists attributes and fits, it resets an outcome and asks
     /// the look-up.
+    ///
+    /// If four specs or more begin with a wildcard, a set of their globs reads the path once, from its end, before any spec is
+    /// asked ([`Scratch::last_stepped`]). It tells which of them match, and the others aren't asked. Of those that list no
+    /// attributes and aren't for directories alone, at most one is asked. The set tells nothing of a path that begins with a
+    /// wildcard byte, nor where it gave up ([`Scratch::last_by_set`], [`Scratch::last_gave_up`]).
     ///
     /// # Errors
     /// The look-up's fault, and only where the look-up failed in this call.
@@ -135,6 +144,10 @@ impl Search {
             → (1 ≤ scratch.new.counts.last_tested) × (1 ≤ scratch.new.counts.last_compared)) }
         ensures unasked { IsTrue (is_settled_early self.now.specs (bstr_bytes path.entry))
             → (scratch.new.counts.last_tested ≡ 0) × (scratch.new.counts.last_compared ≡ 0) }
+
+        // Counts the steps of the set. It tells which of its specs to ask unless it gives up, and then few are asked.
+        ensures by_set { IsSetCounted self.now.specs (bstr_bytes path.entry)
+            scratch.old.counts scratch.new.counts }
     {
         let found = self.specs.find_match(path, is_dir, scratch, look_up)?;
         Ok(self.match_found(path, found))
@@ -167,6 +180,8 @@ impl Search {
             scratch.old.counts scratch.new.counts }
         ensures little_compared { IsLittleCompared self.now.specs (bstr_bytes path.entry)
             scratch.new.counts.last_compared }
+        ensures by_set { IsSetCounted self.now.specs (bstr_bytes path.entry)
+            scratch.old.counts scratch.new.counts }
         ensures look_up { AsksLookUp (L.table look_up.old) (L.failures look_up.old)
             (L.table look_up.new) (L.failures look_up.new) result }
     {
@@ -276,7 +291,20 @@ fn scratch_for(alloc: Global, specs: &SpecsByHead) -> Result<Scratch, AllocError
     ensures fresh { IfOk result (λ scratch. IsFresh scratch.counts) }
 {
     let room = SpecScratch::for_specs(alloc, specs.counted())?;
-    Ok(Scratch::new(room, specs.heads().new_scratch()))
+    let set = set_scratch(alloc, specs)?;
+    Ok(Scratch::new(room, set, specs.heads().new_scratch()))
+}
+
+/// Makes room for the set of the specs to read paths in, if there is a set.
+fn set_scratch(alloc: Global, specs: &SpecsByHead) -> Result<Option<SetScratch>, AllocError>
+    ensures own { IfOk result (λ set. ForSome set (IsScratchOf (set_sources specs.now))) }
+    ensures made { IfOk result (λ set. IsSetMade (set_sources specs.now)
+        → is_some set ≡ true) }
+{
+    match specs.members() {
+        Some(members) => Ok(Some(members.new_scratch(alloc)?)),
+        None => Ok(None),
+    }
 }
 
 /// Makes room for matches of the specs, in a box: whoever drops a search needn't prove anew what becomes of a scratch's lists.

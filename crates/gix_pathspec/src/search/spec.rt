@@ -1,5 +1,5 @@
 //! Specs ready for matching.
-ghost use Rattle.std.specs.Prelude.{◌≡◌, ◌↔◌, ◌≤◌, length, IsTrue, IfOk, IfErr};
+ghost use Rattle.std.specs.Prelude.{◌≡◌, ◌↔◌, ◌≤◌, length, true, Some, IsTrue, IfOk, IfErr};
 ghost use Rattle.std.specs.Option.{option_map};
 ghost use Rattle.gix_pathspec.specs.Errors.{IsMemory};
 ghost use Rattle.gix_pathspec.specs.Paths.{IsBytes};
@@ -7,6 +7,7 @@ ghost use Rattle.gix_pathspec.specs.Patterns.{pattern_spec};
 ghost use Rattle.gix_pathspec.specs.Room.{glob_of};
 ghost use Rattle.gix_pathspec.specs.Specs.{has_wildcard};
 
+use crate::search::members::SetMember;
 use crate::search::spec_matching::{self, first_byte, last_byte};
 use crate::{Error, MagicSignature, Pattern, SearchMode};
 use bitflags::Flags;
@@ -61,7 +62,8 @@ impl CompiledSpec {
     ghost use Rattle.gix_pathspec.specs.Reach.{takes_by_path, is_tabled, path_of, taken_paths, is_shadowed, has_stem};
     ghost use Rattle.gix_pathspec.specs.Compiled.{numbered_pattern};
     ghost use Rattle.pathspec_parts.specs.Outcomes.{names_of};
-    ghost use Rattle.gix_pathspec.specs.Room.{tokens_of, attribute_names};
+    ghost use Rattle.gix_pathspec.specs.Room.{tokens_of, asks_no_more, attribute_names, source_of, source_with};
+    ghost use Rattle.gix_pathspec.specs.Sets.{head_beside, is_member};
 
     /// Makes a pattern ready for matching, under its number. The cost is linear in its path.
     ///
@@ -249,6 +251,69 @@ impl CompiledSpec {
         } else {
             self.stem()
         }
+    }
+
+    /// The spec's glob, as the source of a member of a set. None where the spec doesn't begin with a wildcard, or has no glob, or
+    /// where some path doesn't begin with its head.
+    ///
+    /// # Errors
+    /// Memory runs out.
+    pub(super) fn source(&self, alloc: Global) -> Result<Option<SetMember>, AllocError>
+        ensures { IfOk result (λ source. source ≡ source_of self.now.spec) }
+    {
+        let Some(mode) = self.member_mode() else {
+            return Ok(None);
+        };
+        Ok(Some(SetMember {
+            pattern: Vec::from_slice(alloc, self.path())?,
+            mode,
+            case: spec_matching::case_of(&self.pattern),
+            cuts: self.asks_no_more(),
+        }))
+    }
+
+    /// The mode of the spec's glob, where the spec is a member of a set.
+    fn member_mode(&self) -> Option<Mode>
+        ensures { option_map (λ mode. source_with self.now.spec
+            (record { mode = mode; pattern = self.now.spec.path })) result
+            ≡ source_of self.now.spec }
+    {
+        if self.stem != 0 || !self.head().is_empty() {
+            return None;
+        }
+        glob_mode(&self.pattern, self.has_wildcard())
+    }
+
+    /// Whether the spec is a member of a set.
+    pub(super) fn is_member(&self) -> bool
+        ensures { result ≡ is_member self.now.spec }
+    {
+        self.member_mode().is_some()
+    }
+
+    /// Whether the spec matches where its glob does: it lists no attribute, wants no directory, and keeps no prefix directory.
+    fn asks_no_more(&self) -> bool
+        ensures { result ≡ asks_no_more self.now.spec }
+    {
+        self.pattern.attributes.is_empty() && !self.wants_directory() && self.has_one_case()
+    }
+
+    /// Whether a source is that of the spec.
+    pub(super) fn has_source(&self, source: &SetMember) -> bool
+        ensures { IsTrue result ↔ (source_of self.now.spec ≡ Some source.now) }
+    {
+        let is_of = self.member_mode() == Some(source.mode);
+        is_of
+            && source.pattern.as_slice() == self.path()
+            && source.case == spec_matching::case_of(&self.pattern)
+            && source.cuts == self.asks_no_more()
+    }
+
+    /// The head by which the spec is looked for beside a set: that of a member is a wildcard byte.
+    pub(super) fn head_beside(&self) -> &[u8]
+        ensures { result.now ≡ head_beside true self.now.spec }
+    {
+        if self.is_member() { b"*" } else { self.head() }
     }
 
     /// The spec as a pattern.

@@ -1,79 +1,138 @@
--- The next place leaves out only specs whose head doesn't begin the path; one that matches is the first, and one that doesn't leaves it to the rest.
-use Rattle.std.proofs.Common.{◌≡◌, ℕ, ◌<◌, ◌≤◌, Bool, true, List, Option, Some, None, ◌∙◌, sym, subst, arith, drop, find, length}
+-- The next place leaves out only specs that don't match; one that matches is the first, and one that doesn't leaves it to the rest.
+use Rattle.std.proofs.Common.{◌≡◌, ◌+◌, ◌≤◌, ◌∙◌, true, refl, sym, subst, arith}
+use Rattle.std.specs.Prelude.{is_some, IfSome}
 use Rattle.bstr.specs.BStr.{bstr_bytes}
-use Rattle.pathspec_heads.specs.Heads.{head_at, IsChainOf}
-use Rattle.pathspec_heads.specs.Groups.{GroupedPlaces, IsInChain, IsLeastFrom}
 use Rattle.pathspec_heads.proofs.SearchProofs.{counts-more}
-use Rattle.gix_pathspec.specs.Bytes.{begins_with}
-use Rattle.gix_pathspec.specs.Attributes.{Table}
-use Rattle.gix_pathspec.specs.Matching.{spec_matches}
 use Rattle.gix_pathspec.specs.Prefixes.{head}
+use Rattle.gix_pathspec.specs.Effort.{is_unsettled_candidate}
 use Rattle.gix_pathspec.specs.Room.{HasRoom}
-use Rattle.gix_pathspec.specs.Search.{Numbered}
-use Rattle.gix_pathspec.specs.Effort.{ArePlacesOf, heads_in_order}
-use Rattle.gix_pathspec.proofs.EffortProofs.{unmatched-headless, match-here, match-later, same-table}
-use Rattle.gix_pathspec.proofs.HeadSearchProofs.{next-candidate, no-candidate, few-more}
+use Rattle.gix_pathspec.specs.Sets.{any_spec, IsHit, IsNext, IsNextAt}
+use Rattle.gix_pathspec.proofs.EffortProofs.{match-here, match-later, same-table}
+use Rattle.gix_pathspec.proofs.HeadSearchProofs.{few-more, few-test}
+use Rattle.gix_pathspec.proofs.CandidateProofs.{from-next, none-after, none-next, unsettled-there}
+use Rattle.gix_pathspec.proofs.MemberProofs.{as-many, head-within, kept-candidates, kept-trans, next-on}
 use Rattle.gix_pathspec.proofs.by_head.first_candidate.Goals as goal
 
-module _ (table : Table) (ns : List Numbered) (path : List ℕ) (is_dir : Bool) (places : GroupedPlaces) (grouped : ArePlacesOf ns places) (j : ℕ) (chain : IsChainOf places.heads path j)
-    (from : ℕ) (result : Option ℕ) (least : IsLeastFrom (IsInChain places.heads places.starts places.order j) from result) where
-  abbrev test : Numbered → Bool
-  test n = spec_matches table n.spec path is_dir
+pub loop-from-init : goal.loop-from-init
+loop-from-init g c = record {
+  room = refl;
+  within = omega arith;
+  rest = refl;
+  same_table = refl;
+  same_count = refl;
+  counted = omega (arith, c.requires.none);
+  few = omega (arith, c.requires.none);
+  once = λ e. omega (arith, c.requires.none);
+  steps = omega (arith, c.requires.none);
+  asked = kept-candidates c.args.specs.now (bstr_bytes c.args.path) c.args.candidates.now c.args.set.now c.first-rank.new.set c.first-rank.ensures.kept c.requires.candidates;
+  kept = c.first-rank.ensures.kept;
+  none = λ p n l is. absurd (let no : ⊥ = omega (arith, l) in no);
+  rank = c.first-rank.ensures.rank;
+  next = c.first-rank.ensures.next c.args.specs.now (bstr_bytes c.args.path) c.requires.bytes c.requires.candidates;
+}
 
-  -- the next spec whose head begins the path
-  next : (place : ℕ) → result ≡ Some place → (from ≤ place) × (place < length ns) × (begins_with path (head_at (heads_in_order ns) place) ≡ true) × (find test (drop from ns) ≡ find test (drop place ns))
-  next = next-candidate (λ n. head n.spec) test path (λ n. unmatched-headless table n.spec path is_dir) ns places grouped j chain from result least
+pub first-rank-requires : goal.first-rank-requires
+first-rank-requires g c = as-many c.args.specs.now (bstr_bytes c.args.path) c.args.candidates.now c.args.set.now c.requires.candidates
 
-  none : result ≡ None → from ≤ length ns → find test (drop from ns) ≡ None
-  none = no-candidate (λ n. head n.spec) test path (λ n. unmatched-headless table n.spec path is_dir) ns places grouped j chain from result least
+pub next-requires-clause-set : goal.next-requires-clause-set
+next-requires-clause-set g c = as-many c.args.specs.now (bstr_bytes c.args.path) c.args.candidates.now c.loop-from.set c.loop-from.invariant.asked
+
+pub next-requires-clause-rank : goal.next-requires-clause-rank
+next-requires-clause-rank g c = c.loop-from.invariant.rank
+
+pub next-requires-clause-head : goal.next-requires-clause-head
+next-requires-clause-head g c = head-within c.args.specs.now (bstr_bytes c.args.path) c.args.candidates.now.heads.now c.args.candidates.now.head _ c.loop-from.invariant.asked.beside
 
 pub returns-in-None-clause-first : goal.returns-in-None-clause-first
 returns-in-None-clause-first g c =
     let i = c.loop-from.invariant in
-    sym i.rest ∙ none (g.L.LookUp.table c.args.look_up.now) c.args.specs.now (bstr_bytes c.args.path) c.args.is_dir c.args.heads.now c.requires.grouped c.args.head c.requires.chain c.loop-from.from c.next_place.result c.next_place.ensures c.in-None.is i.within
+    let said = c.next.ensures.next c.args.specs.now (bstr_bytes c.args.path) (g.L.LookUp.table c.args.look_up.now) c.args.is_dir c.requires.bytes i.asked i.none i.next in
+    sym i.rest ∙ none-next (g.L.LookUp.table c.args.look_up.now) c.args.specs.now (bstr_bytes c.args.path) c.args.is_dir c.loop-from.from (subst (IsNext any_spec c.args.specs.now (bstr_bytes c.args.path) c.loop-from.from) c.in-None.is said.0) i.within
+
+pub returns-in-None-clause-kept : goal.returns-in-None-clause-kept
+returns-in-None-clause-kept g c = kept-trans c.args.set.now c.loop-from.set c.next.new.set c.loop-from.invariant.kept c.next.ensures.kept
 
 pub matches-requires-clause-room : goal.matches-requires-clause-room
 matches-requires-clause-room g c = subst (HasRoom c.args.specs.now) (sym c.loop-from.invariant.room) c.requires.room
 
 pub matches-requires-clause-place : goal.matches-requires-clause-place
 matches-requires-clause-place g c =
-    let n = next (g.L.LookUp.table c.args.look_up.now) c.args.specs.now (bstr_bytes c.args.path) c.args.is_dir c.args.heads.now c.requires.grouped c.args.head c.requires.chain c.loop-from.from c.next_place.result c.next_place.ensures c.in-Some.place c.in-Some.is in
-    n.1
+    let i = c.loop-from.invariant in
+    let said = c.next.ensures.next c.args.specs.now (bstr_bytes c.args.path) (g.L.LookUp.table c.args.look_up.now) c.args.is_dir c.requires.bytes i.asked i.none i.next in
+    let is : IsNextAt any_spec c.args.specs.now (bstr_bytes c.args.path) c.loop-from.from c.in-Some.place = subst (IsNext any_spec c.args.specs.now (bstr_bytes c.args.path) c.loop-from.from) c.in-Some.is said.0 in
+    (from-next (g.L.LookUp.table c.args.look_up.now) c.args.specs.now (bstr_bytes c.args.path) c.args.is_dir c.loop-from.from c.in-Some.place is).0
 
 pub returns-in_err-kind-clause-few : goal.returns-in_err-kind-clause-few
 returns-in_err-kind-clause-few g c =
-    let n = next (g.L.LookUp.table c.args.look_up.now) c.args.specs.now (bstr_bytes c.args.path) c.args.is_dir c.args.heads.now c.requires.grouped c.args.head c.requires.chain c.loop-from.from c.next_place.result c.next_place.ensures c.in-Some.place c.in-Some.is in
-    omega (arith, few-more (λ n. head n.spec) (bstr_bytes c.args.path) c.args.specs.now c.loop-from.from c.in-Some.place c.loop-from.tested n.0 n.1 n.2 c.loop-from.invariant.few)
+    let i = c.loop-from.invariant in
+    let said = c.next.ensures.next c.args.specs.now (bstr_bytes c.args.path) (g.L.LookUp.table c.args.look_up.now) c.args.is_dir c.requires.bytes i.asked i.none i.next in
+    let is : IsNextAt any_spec c.args.specs.now (bstr_bytes c.args.path) c.loop-from.from c.in-Some.place = subst (IsNext any_spec c.args.specs.now (bstr_bytes c.args.path) c.loop-from.from) c.in-Some.is said.0 in
+    let n = from-next (g.L.LookUp.table c.args.look_up.now) c.args.specs.now (bstr_bytes c.args.path) c.args.is_dir c.loop-from.from c.in-Some.place is in
+    omega (arith, few-more (λ n. head n.spec) (bstr_bytes c.args.path) c.args.specs.now c.loop-from.from c.in-Some.place c.loop-from.tested is.behind n.0 n.1 i.few)
+
+pub returns-in_err-kind-clause-kept : goal.returns-in_err-kind-clause-kept
+returns-in_err-kind-clause-kept g c = kept-trans c.args.set.now c.loop-from.set c.next.new.set c.loop-from.invariant.kept c.next.ensures.kept
 
 pub returns-in-Some-2-clause-first : goal.returns-in-Some-2-clause-first
 returns-in-Some-2-clause-first g c =
     let i = c.loop-from.invariant in
-    let n = next (g.L.LookUp.table c.args.look_up.now) c.args.specs.now (bstr_bytes c.args.path) c.args.is_dir c.args.heads.now c.requires.grouped c.args.head c.requires.chain c.loop-from.from c.next_place.result c.next_place.ensures c.in-Some.place c.in-Some.is in
-    match-here _ c.args.specs.now _ _ c.in-Some.place n.1 (sym n.3 ∙ i.rest) c.in-Some-2.kind
+    let said = c.next.ensures.next c.args.specs.now (bstr_bytes c.args.path) (g.L.LookUp.table c.args.look_up.now) c.args.is_dir c.requires.bytes i.asked i.none i.next in
+    let is : IsNextAt any_spec c.args.specs.now (bstr_bytes c.args.path) c.loop-from.from c.in-Some.place = subst (IsNext any_spec c.args.specs.now (bstr_bytes c.args.path) c.loop-from.from) c.in-Some.is said.0 in
+    let n = from-next (g.L.LookUp.table c.args.look_up.now) c.args.specs.now (bstr_bytes c.args.path) c.args.is_dir c.loop-from.from c.in-Some.place is in
+    match-here _ c.args.specs.now _ _ c.in-Some.place n.0 (sym n.2 ∙ i.rest) c.in-Some-2.kind
     (sym (same-table _ _ c.args.specs.now _ _ c.in-Some.place i.same_table) ∙ (sym c.in_ok-kind.ensures.answer ∙ c.in-Some-2.is))
 
 pub returns-in-Some-2-clause-few : goal.returns-in-Some-2-clause-few
 returns-in-Some-2-clause-few g c =
-    let n = next (g.L.LookUp.table c.args.look_up.now) c.args.specs.now (bstr_bytes c.args.path) c.args.is_dir c.args.heads.now c.requires.grouped c.args.head c.requires.chain c.loop-from.from c.next_place.result c.next_place.ensures c.in-Some.place c.in-Some.is in
-    omega (arith, few-more (λ n. head n.spec) (bstr_bytes c.args.path) c.args.specs.now c.loop-from.from c.in-Some.place c.loop-from.tested n.0 n.1 n.2 c.loop-from.invariant.few)
+    let i = c.loop-from.invariant in
+    let said = c.next.ensures.next c.args.specs.now (bstr_bytes c.args.path) (g.L.LookUp.table c.args.look_up.now) c.args.is_dir c.requires.bytes i.asked i.none i.next in
+    let is : IsNextAt any_spec c.args.specs.now (bstr_bytes c.args.path) c.loop-from.from c.in-Some.place = subst (IsNext any_spec c.args.specs.now (bstr_bytes c.args.path) c.loop-from.from) c.in-Some.is said.0 in
+    let n = from-next (g.L.LookUp.table c.args.look_up.now) c.args.specs.now (bstr_bytes c.args.path) c.args.is_dir c.loop-from.from c.in-Some.place is in
+    omega (arith, few-more (λ n. head n.spec) (bstr_bytes c.args.path) c.args.specs.now c.loop-from.from c.in-Some.place c.loop-from.tested is.behind n.0 n.1 i.few)
+
+pub returns-in-Some-2-clause-kept : goal.returns-in-Some-2-clause-kept
+returns-in-Some-2-clause-kept g c = kept-trans c.args.set.now c.loop-from.set c.next.new.set c.loop-from.invariant.kept c.next.ensures.kept
 
 pub overflow_add-from : goal.overflow_add-from
 overflow_add-from g c =
-    let n = next (g.L.LookUp.table c.args.look_up.now) c.args.specs.now (bstr_bytes c.args.path) c.args.is_dir c.args.heads.now c.requires.grouped c.args.head c.requires.chain c.loop-from.from c.next_place.result c.next_place.ensures c.in-Some.place c.in-Some.is in
-    omega (arith, n.1, c.len-count.ensures, c.len-count.type_inv)
+    let i = c.loop-from.invariant in
+    let said = c.next.ensures.next c.args.specs.now (bstr_bytes c.args.path) (g.L.LookUp.table c.args.look_up.now) c.args.is_dir c.requires.bytes i.asked i.none i.next in
+    let is : IsNextAt any_spec c.args.specs.now (bstr_bytes c.args.path) c.loop-from.from c.in-Some.place = subst (IsNext any_spec c.args.specs.now (bstr_bytes c.args.path) c.loop-from.from) c.in-Some.is said.0 in
+    let n = from-next (g.L.LookUp.table c.args.look_up.now) c.args.specs.now (bstr_bytes c.args.path) c.args.is_dir c.loop-from.from c.in-Some.place is in
+    omega (arith, n.0, c.len-count.ensures, c.len-count.type_inv)
+
+pub loop-from-smaller : goal.loop-from-smaller
+loop-from-smaller g c =
+    let i = c.loop-from.invariant in
+    let said = c.next.ensures.next c.args.specs.now (bstr_bytes c.args.path) (g.L.LookUp.table c.args.look_up.now) c.args.is_dir c.requires.bytes i.asked i.none i.next in
+    let is : IsNextAt any_spec c.args.specs.now (bstr_bytes c.args.path) c.loop-from.from c.in-Some.place = subst (IsNext any_spec c.args.specs.now (bstr_bytes c.args.path) c.loop-from.from) c.in-Some.is said.0 in
+    omega (arith, is.behind)
 
 pub loop-from-preserved : goal.loop-from-preserved
 loop-from-preserved g c =
     let i = c.loop-from.invariant in
-    let n = next (g.L.LookUp.table c.args.look_up.now) c.args.specs.now (bstr_bytes c.args.path) c.args.is_dir c.args.heads.now c.requires.grouped c.args.head c.requires.chain c.loop-from.from c.next_place.result c.next_place.ensures c.in-Some.place c.in-Some.is in
+    let said = c.next.ensures.next c.args.specs.now (bstr_bytes c.args.path) (g.L.LookUp.table c.args.look_up.now) c.args.is_dir c.requires.bytes i.asked i.none i.next in
+    let is : IsNextAt any_spec c.args.specs.now (bstr_bytes c.args.path) c.loop-from.from c.in-Some.place = subst (IsNext any_spec c.args.specs.now (bstr_bytes c.args.path) c.loop-from.from) c.in-Some.is said.0 in
+    let n = from-next (g.L.LookUp.table c.args.look_up.now) c.args.specs.now (bstr_bytes c.args.path) c.args.is_dir c.loop-from.from c.in-Some.place is in
+    let away = sym (same-table _ _ c.args.specs.now _ _ c.in-Some.place i.same_table) ∙ (sym c.in_ok-kind.ensures.answer ∙ c.in_default.is) in
+    let further : c.loop-from.from ≤ c.in-Some.place + 1 = omega (arith, is.behind) in
+    let unsettled = λ (e : is_some c.args.candidates.now.members ≡ true).
+    let hit = c.next.ensures.hit c.args.specs.now (bstr_bytes c.args.path) (g.L.LookUp.table c.args.look_up.now) c.args.is_dir c.requires.bytes i.asked i.none i.next e in
+    unsettled-there (g.L.LookUp.table c.args.look_up.now) c.args.specs.now (bstr_bytes c.args.path) c.args.is_dir c.requires.bytes c.in-Some.place is.headed.0 is.headed.1 is.headed.2
+    (subst (λ found. IfSome found (IsHit c.args.specs.now (bstr_bytes c.args.path))) c.in-Some.is hit) away in
     record {
       room = c.matches.ensures.room ∙ i.room;
-      within = omega (arith, n.1);
-      rest = match-later _ c.args.specs.now _ _ c.in-Some.place n.1 (sym n.3 ∙ i.rest)
-          (sym (same-table _ _ c.args.specs.now _ _ c.in-Some.place i.same_table) ∙ (sym c.in_ok-kind.ensures.answer ∙ c.in_default.is));
+      within = omega (arith, n.0);
+      rest = match-later _ c.args.specs.now _ _ c.in-Some.place n.0 (sym n.2 ∙ i.rest) away;
       same_table = c.matches.ensures.look_up.0 ∙ i.same_table;
       same_count = c.in_ok-kind.ensures.look_up.1 ∙ i.same_count;
       counted = counts-more c.args.scratch.now.tested c.loop-from.tested c.loop-from.scratch.tested c.matches.new.scratch.tested i.counted c.matches.ensures.counted;
-      few = few-more (λ n. head n.spec) (bstr_bytes c.args.path) c.args.specs.now c.loop-from.from c.in-Some.place c.loop-from.tested n.0 n.1 n.2 i.few;
-      steps = omega (arith, n.0, i.steps);
+      few = few-more (λ n. head n.spec) (bstr_bytes c.args.path) c.args.specs.now c.loop-from.from c.in-Some.place c.loop-from.tested is.behind n.0 n.1 i.few;
+      once = λ e. few-test (is_unsettled_candidate (bstr_bytes c.args.path)) c.args.specs.now c.loop-from.from c.in-Some.place c.loop-from.tested is.headed.0 is.behind is.headed.1 (unsettled e) (i.once e);
+      steps = omega (arith, is.behind, i.steps);
+      asked = kept-candidates c.args.specs.now (bstr_bytes c.args.path) c.args.candidates.now c.loop-from.set c.next.new.set c.next.ensures.kept i.asked;
+      kept = kept-trans c.args.set.now c.loop-from.set c.next.new.set i.kept c.next.ensures.kept;
+      none = none-after (g.L.LookUp.table c.args.look_up.now) c.args.specs.now (bstr_bytes c.args.path) c.args.is_dir c.loop-from.from c.in-Some.place is i.none away;
+      rank = c.next.ensures.rank;
+      next = next-on c.args.specs.now (bstr_bytes c.args.path) c.args.candidates.now c.loop-from.from (c.in-Some.place + 1) c.next.new.rank further said.1;
     }

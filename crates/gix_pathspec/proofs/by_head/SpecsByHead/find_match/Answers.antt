@@ -1,9 +1,12 @@
 -- A path that needs no look at the specs, and the first spec that matches.
-use Rattle.std.proofs.Common.{◌≡◌, ℕ, Bool, List, length, subst}
+use Rattle.std.proofs.Common.{◌≡◌, ℕ, Bool, false, List, length, subst, sym}
 use Rattle.std.proofs.lemmas.Bool.{both_ways}
 use Rattle.std.proofs.lemmas.Result.{IfOk-weaker}
 use Rattle.bstr.specs.BStr.{bstr_bytes}
 use Rattle.gix_pathspec.specs.Search.{Numbered}
+use Rattle.gix_pathspec.specs.Members.{AreMembersOf}
+use Rattle.gix_pathspec.specs.Room.{set_sources}
+use Rattle.gix_pathspec.specs.Sets.{IsSetMade}
 use Rattle.gix_pathspec.specs.Effort.{AreFewCompared, is_settled_early}
 use Rattle.gix_pathspec.proofs.FoundProofs.{answer-unasked, asked-parts, answer-found, found-within}
 use Rattle.gix_pathspec.proofs.EffortProofs.{little-from}
@@ -15,6 +18,18 @@ test_of ns path test same is = cc
 
 pub returns-then-is_settled_early-clause-answer : goal.returns-then-is_settled_early-clause-answer
 returns-then-is_settled_early-clause-answer g c = answer-unasked _ c.args.self.now _ _ (test_of _ (bstr_bytes c.args.path) c.is_settled_early.ensures c.as_bytes.ensures c.if-is_settled_early.true)
+
+-- the set is that of the specs as they are seen
+pub first_match-requires-clause-members : goal.first_match-requires-clause-members
+first_match-requires-clause-members g c = λ m e. subst (λ (ns : List Numbered). AreMembersOf ns m.now) (sym c.self.view_is) (c.members.ensures.members m e)
+
+pub first_match-requires-clause-made : goal.first_match-requires-clause-made
+first_match-requires-clause-made g c = λ made. c.members.ensures.made (subst (λ (ns : List Numbered). IsSetMade (set_sources ns)) c.self.view_is made)
+
+pub first_match-requires-clause-late : goal.first_match-requires-clause-late
+first_match-requires-clause-late g c =
+    let asked = test_of _ (bstr_bytes c.args.path) c.is_settled_early.ensures c.as_bytes.ensures c.if-is_settled_early.false in
+    subst (λ (ns : List Numbered). is_settled_early ns (bstr_bytes c.args.path) ≡ false) (sym c.self.view_is) asked
 
 pub returns-clause-answer : goal.returns-clause-answer
 returns-clause-answer g c =
