@@ -159,6 +159,8 @@ impl<D: Files + AllocGlobal, W: Write, T: Write> Visitor<DiskFault>
 
     ghost told = { λ _. None };
 
+    ghost stops = { λ _. None };
+
     fn give(&mut self, path: &[u8], is_dir: bool) -> Result<(), Stop> {
         // The walk gives directories too, since a nested repository is listed as git lists it: as a directory, with a slash.
         if is_dir && !self.options.dirs && !self.seen.is_nested() {

@@ -70,6 +70,8 @@ impl Visitor<ReachFault> for Passing {
 
     ghost told = { λ _. None };
 
+    ghost stops = { λ _. None };
+
     fn give(&mut self, _path: &[u8], _is_dir: bool) -> Result<(), Failure> {
         Ok(())
     }

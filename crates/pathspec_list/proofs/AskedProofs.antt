@@ -4,7 +4,7 @@ use Rattle.std.proofs.lemmas.List.Elements.{All-push}
 use Rattle.std.specs.Prelude.{IsTrue}
 use Rattle.gix_pathspec.specs.Specs.{Spec}
 use Rattle.gix_pathspec.specs.Skipping.{holds_nothing, may_skip}
-use Rattle.pathspec_list.specs.Directories.{append_paths}
+use Rattle.pathspec_list.specs.Directories.{append_known}
 use Rattle.pathspec_list.specs.Listings.{matters, AllMatter, IsMore}
 use Rattle.pathspec_list.specs.Courses.{MayAsk}
 use Rattle.pathspec_list.proofs.CourseProofs.{more_append, no_more}
@@ -27,15 +27,15 @@ asks_nothing takes specs asked asked' h = ([], h ∙ sym (no_more asked), λ k d
 
 module _ (takes : List ℕ → Bool → Bool) (specs : List Spec) (start asked asked' : Option (List (List ℕ))) (h : IsMore start asked (AllMatter takes specs)) where
   -- a path more
-  asks_path : (path : List ℕ) → (path ≢ [] → IsTrue (matters takes specs path)) → asked' ≡ append_paths asked (path ∷ []) → IsMore start asked' (AllMatter takes specs)
+  asks_path : (path : List ℕ) → (path ≢ [] → IsTrue (matters takes specs path)) → asked' ≡ append_known asked (path ∷ []) → IsMore start asked' (AllMatter takes specs)
   asks_path path m e = (
     h.0 ++ path ∷ [],
-    e ∙ (ap (λ ps. append_paths ps (path ∷ [])) h.1 ∙ more_append start h.0 (path ∷ [])),
+    e ∙ (ap (λ ps. append_known ps (path ∷ [])) h.1 ∙ more_append start h.0 (path ∷ [])),
     All-push (λ p. IsTrue (matters takes specs p)) h.0 path h.2 (matters_there takes specs path m),
   )
 
   -- the top
-  pub asks_top : asked' ≡ append_paths asked ([] ∷ []) → IsMore start asked' (AllMatter takes specs)
+  pub asks_top : asked' ≡ append_known asked ([] ∷ []) → IsMore start asked' (AllMatter takes specs)
   asks_top e = asks_path [] (λ n. top_matters takes specs) e
 
   -- a visit to a path

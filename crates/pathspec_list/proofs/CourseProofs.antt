@@ -17,8 +17,8 @@ use Rattle.gix_pathspec.specs.SelectionLaws.{NoNilPrefix}
 use Rattle.pathspec_walk.specs.Walks.{IsSafePruning, IsWalkUpTo, IsEntryWith, can_hold}
 use Rattle.pathspec_walk.proofs.WalkProofs.{can_hold_is_safe}
 use Rattle.pathspec_walk.proofs.GoingProofs.{walk_starts, walk_goes_on, walk_ends}
-use Rattle.pathspec_list.specs.Directories.{paths_of, entries_at_top, entries_in, append_paths}
-use Rattle.pathspec_list.specs.Listings.{is_listed, paths_at, path_if, GivesPart, GivesAll, IsMore, NothingTold}
+use Rattle.pathspec_list.specs.Directories.{paths_of, entries_at_top, entries_in, append_known}
+use Rattle.pathspec_list.specs.Listings.{is_listed, Given, given_at, given_if, paths_at, path_if, GivesPart, GivesAll, IsMore, NothingTold}
 use Rattle.pathspec_list.specs.Courses.{Course, after_fault, after_entry, IsVisit, IsTopVisit, GivesAtMost}
 use Rattle.pathspec_list.proofs.PendingProofs.{first_from, first_path, no_path, none_from, opened_sees}
 
@@ -35,17 +35,27 @@ path_there es n e s = ap (λ o. unwrap_or (option_map (λ (x : Entry). x.path) o
 more_paths : (es : List Entry) (n : ℕ) (e : Entry) → slice_get es n ≡ Some e → (ns : List ℕ) → paths_at es (ns ++ n ∷ []) ≡ paths_at es ns ++ e.path ∷ []
 more_paths es n e s ns = map-append (λ k. unwrap_or (option_map (λ (x : Entry). x.path) (slice_get es k)) []) ns (n ∷ []) ∙ ap (λ ps. paths_at es ns ++ ps) (path_there es n e s)
 
-pub more_append : (start : Option (List (List ℕ))) (xs ys : List (List ℕ)) → append_paths (append_paths start xs) ys ≡ append_paths start (xs ++ ys)
+pub more_append : {X : Type 0} (start : Option (List X)) (xs ys : List X) → append_known (append_known start xs) ys ≡ append_known start (xs ++ ys)
 more_append None xs ys = refl
 more_append (Some s) xs ys = ap Some (append_assoc s xs ys)
 
-pub no_more : (start : Option (List (List ℕ))) → append_paths start [] ≡ start
+pub no_more : {X : Type 0} (start : Option (List X)) → append_known start [] ≡ start
 no_more None = refl
 no_more (Some s) = ap Some (append-nil s)
 
-paths_if : (es : List Entry) (n : ℕ) (e : Entry) → slice_get es n ≡ Some e → (b : Bool) (start paths : Option (List (List ℕ))) (ns : List ℕ) → paths ≡ append_paths start (paths_at es ns) → path_if b e.path paths ≡ append_paths start (paths_at es (append_if b n ns))
-paths_if es n e s true start paths ns h = ap (λ ps. append_paths ps (e.path ∷ [])) h ∙ (more_append start (paths_at es ns) (e.path ∷ []) ∙ ap (append_paths start) (sym (more_paths es n e s ns)))
+paths_if : (es : List Entry) (n : ℕ) (e : Entry) → slice_get es n ≡ Some e → (b : Bool) (start paths : Option (List (List ℕ))) (ns : List ℕ) → paths ≡ append_known start (paths_at es ns) → path_if b e.path paths ≡ append_known start (paths_at es (append_if b n ns))
+paths_if es n e s true start paths ns h = ap (λ ps. append_known ps (e.path ∷ [])) h ∙ (more_append start (paths_at es ns) (e.path ∷ []) ∙ ap (append_known start) (sym (more_paths es n e s ns)))
 paths_if es n e s false start paths ns h = h
+
+more_given : (es : List Entry) (n : ℕ) (e : Entry) → slice_get es n ≡ Some e → (ns : List ℕ) → given_at es (ns ++ n ∷ []) ≡ given_at es ns ++ (e.path, e.is_dir) ∷ []
+more_given es n e s ns =
+    let at : ℕ → Given = λ k. unwrap_or (option_map (λ (x : Entry). (x.path, x.is_dir)) (slice_get es k)) ([], false) in
+    let there : at n ≡ (e.path, e.is_dir) = ap (λ o. unwrap_or (option_map (λ (x : Entry). (x.path, x.is_dir)) o) ([], false)) s in
+    map-append at ns (n ∷ []) ∙ ap (λ g. given_at es ns ++ g ∷ []) there
+
+gives_if : (es : List Entry) (n : ℕ) (e : Entry) → slice_get es n ≡ Some e → (b : Bool) (start given : Option (List Given)) (ns : List ℕ) → given ≡ append_known start (given_at es ns) → given_if b e.path e.is_dir given ≡ append_known start (given_at es (append_if b n ns))
+gives_if es n e s true start given ns h = ap (λ gs. append_known gs ((e.path, e.is_dir) ∷ [])) h ∙ (more_append start (given_at es ns) ((e.path, e.is_dir) ∷ []) ∙ ap (append_known start) (sym (more_given es n e s ns)))
+gives_if es n e s false start given ns h = h
 
 nothing_more : (xs ys : List (List ℕ)) → xs ++ ys ≡ xs → ys ≡ []
 nothing_more xs ys h = append_cancel_left xs ys [] (h ∙ sym (append-nil xs))
@@ -58,7 +68,7 @@ not_none (y ∷ ys) x h = cc
 
 -- what has been walked of the tree, since the start
 pub record IsWhole (takes : List ℕ → Bool → Bool) (can_enter : List ℕ → Bool) (es : List Entry) (start c : Course) (end : ℕ) (numbers entered : List ℕ) : Type 0 where
-  pub opened_are : c.opened ≡ append_paths (append_paths start.opened ([] ∷ [])) (paths_at es entered)
+  pub opened_are : c.opened ≡ append_known (append_known start.opened ([] ∷ [])) (paths_at es entered)
   pub walked : IsWalkUpTo can_enter takes es end numbers entered
 
 -- what was given, told and opened since the start, and what is to be visited
@@ -67,8 +77,8 @@ pub record IsCourse (takes : List ℕ → Bool → Bool) (can_enter : List ℕ �
   pub numbers : List ℕ
   pub entered : List ℕ
   pub told : List (List ℕ)
-  pub given_are : c.given ≡ append_paths start.given (paths_at es numbers)
-  pub told_are : c.told ≡ append_paths start.told told
+  pub given_are : c.given ≡ append_known start.given (given_at es numbers)
+  pub told_are : c.told ≡ append_known start.told told
   pub pending_are : paths_of (filter (is_seen entered) (drop end es)) ≡ c.pending
   pub before : (m : ℕ) → Contains entered m → m < end
   pub rising : IsStrictlyIncreasing numbers
@@ -77,7 +87,7 @@ pub record IsCourse (takes : List ℕ → Bool → Bool) (can_enter : List ℕ �
   pub whole : told ≡ [] → IsWhole takes can_enter es start c end numbers entered
 
 -- the top was opened
-pub course_starts : (takes : List ℕ → Bool → Bool) (can_enter : List ℕ → Bool) (es : List Entry) (start c : Course) → c.given ≡ start.given → c.told ≡ start.told → c.opened ≡ append_paths start.opened ([] ∷ []) → c.pending ≡ paths_of (entries_at_top es)
+pub course_starts : (takes : List ℕ → Bool → Bool) (can_enter : List ℕ → Bool) (es : List Entry) (start c : Course) → c.given ≡ start.given → c.told ≡ start.told → c.opened ≡ append_known start.opened ([] ∷ []) → c.pending ≡ paths_of (entries_at_top es)
     → IsCourse takes can_enter es start c
 course_starts takes can_enter es start c given told opened pending = record {
   end = 0;
@@ -91,7 +101,7 @@ course_starts takes can_enter es start c given told opened pending = record {
   rising = λ k l. absurd (omega (arith, l));
   within = λ n h. absurd (omega (arith, h.1));
   pass = λ n h. absurd (omega (arith, h.1));
-  whole = λ none. record { opened_are = opened ∙ sym (no_more (append_paths start.opened ([] ∷ []))); walked = walk_starts can_enter takes es };
+  whole = λ none. record { opened_are = opened ∙ sym (no_more (append_known start.opened ([] ∷ []))); walked = walk_starts can_enter takes es };
 }
 
 drop_all : {X : Type 0} (xs : List X) → drop (length xs) xs ≡ []
@@ -99,7 +109,7 @@ drop_all [] = refl
 drop_all (x ∷ xs) = drop_all xs
 
 -- the top could not be
-pub course_fails : (takes : List ℕ → Bool → Bool) (can_enter : List ℕ → Bool) (es : List Entry) (start c : Course) → c.given ≡ start.given → c.told ≡ append_paths start.told ([] ∷ []) → c.pending ≡ [] → IsCourse takes can_enter es start c
+pub course_fails : (takes : List ℕ → Bool → Bool) (can_enter : List ℕ → Bool) (es : List Entry) (start c : Course) → c.given ≡ start.given → c.told ≡ append_known start.told ([] ∷ []) → c.pending ≡ [] → IsCourse takes can_enter es start c
 course_fails takes can_enter es start c given told pending = record {
   end = length es;
   numbers = [];
@@ -190,7 +200,7 @@ module _ (takes : List ℕ → Bool → Bool) (can_enter : List ℕ → Bool) (s
         entered = h.entered;
         told = h.told ++ path ∷ [];
         given_are = h.given_are;
-        told_are = ap (λ ps. append_paths ps (path ∷ [])) h.told_are ∙ more_append start.told h.told (path ∷ []);
+        told_are = ap (λ ps. append_known ps (path ∷ [])) h.told_are ∙ more_append start.told h.told (path ∷ []);
         pending_are = q.rest_is;
         before = λ m d. let l = h.before m d in omega (arith, l, from);
         rising = h.rising;
@@ -211,7 +221,7 @@ module _ (takes : List ℕ → Bool → Bool) (can_enter : List ℕ → Bool) (s
         numbers = append_if given n h.numbers;
         entered = append_if opened n h.entered;
         told = h.told;
-        given_are = paths_if es n e q.stands given start.given c.given h.numbers h.given_are;
+        given_are = gives_if es n e q.stands given start.given c.given h.numbers h.given_are;
         told_are = h.told_are;
         pending_are = pending_after es nested h.entered n e q.stands q.seen (λ m d. let l = h.before m d in omega (arith, l, from)) rest q.rest_is opened;
         before = numbers_within opened h.entered n h.end h.before q.from;
@@ -221,7 +231,7 @@ module _ (takes : List ℕ → Bool → Bool) (can_enter : List ℕ → Bool) (s
         whole = λ none.
             let w = h.whole none in
             record {
-              opened_are = paths_if es n e q.stands opened (append_paths start.opened ([] ∷ [])) c.opened h.entered w.opened_are;
+              opened_are = paths_if es n e q.stands opened (append_known start.opened ([] ∷ [])) c.opened h.entered w.opened_are;
               walked = walk_goes_on can_enter takes safe es h.end h.numbers h.entered nested w.walked n e
                   (next_seen-is h.entered h.end es n e (record { from = q.from; stands = q.stands; seen = q.seen; unseen = q.unseen })) q.stands;
             };
@@ -237,16 +247,16 @@ module _ (takes : List ℕ → Bool → Bool) (can_enter : List ℕ → Bool) (s
       ]
 
   -- Where a visit ends the walk, what was given is a part, in order.
-  pub course_ends : (given : Option (List (List ℕ))) → GivesAtMost takes es path c.given given → IsMore start.given given (GivesPart takes es)
+  pub course_ends : (given : Option (List Given)) → GivesAtMost takes es path c.given given → IsMore start.given given (GivesPart takes es)
   course_ends given v =
       let q = next in
       let from = q.from in
       elim (v (λ e. nested.paths q.number q.entry q.stands (q.path_is ∙ e)) q.number q.entry q.stands q.path_is) [
-        | inl e ↦ (paths_at es h.numbers, e ∙ h.given_are, record { numbers = h.numbers; are = refl; rising = h.rising; pass = h.pass })
+        | inl e ↦ (given_at es h.numbers, e ∙ h.given_are, record { numbers = h.numbers; are = refl; rising = h.rising; pass = h.pass })
         | inr e ↦
             let ns = h.numbers ++ q.number ∷ [] in
-            let given_is : given ≡ append_paths start.given (paths_at es ns) = e.0 ∙ (ap (λ p. append_paths c.given (p ∷ [])) (sym q.path_is) ∙ paths_if es q.number q.entry q.stands true start.given c.given h.numbers h.given_are) in (
-              paths_at es ns,
+            let given_is : given ≡ append_known start.given (given_at es ns) = e.0 ∙ (ap (λ p. append_known c.given ((p, q.entry.is_dir) ∷ [])) (sym q.path_is) ∙ gives_if es q.number q.entry q.stands true start.given c.given h.numbers h.given_are) in (
+              given_at es ns,
               given_is,
               record {
                 numbers = ns;
@@ -259,23 +269,23 @@ module _ (takes : List ℕ → Bool → Bool) (can_enter : List ℕ → Bool) (s
 
 -- So is what was given so far.
 pub course_part : (takes : List ℕ → Bool → Bool) (can_enter : List ℕ → Bool) (es : List Entry) (start c : Course) → IsCourse takes can_enter es start c → IsMore start.given c.given (GivesPart takes es)
-course_part takes can_enter es start c h = (paths_at es h.numbers, h.given_are, record { numbers = h.numbers; are = refl; rising = h.rising; pass = h.pass })
+course_part takes can_enter es start c h = (given_at es h.numbers, h.given_are, record { numbers = h.numbers; are = refl; rising = h.rising; pass = h.pass })
 
 -- Where nothing is left to visit, and nothing was told, all is given.
 pub course_all : (takes : List ℕ → Bool → Bool) (specs : List Spec) → IsSafePruning (can_hold specs) takes → (es : List Entry) → IsNested es → (start c : Course) → c.pending ≡ [] → NothingTold start.told c.told → IsCourse takes (can_hold specs) es start c
     → IsMore start.given c.given (λ given. IsMore start.opened c.opened (GivesAll takes specs es given))
 course_all takes specs safe es nested start c pending told h =
-    let none : h.told ≡ [] = nothing_more told.0 h.told (same_Some (told.0 ++ h.told) told.0 (ap (λ t. append_paths t h.told) (sym told.1) ∙ (sym h.told_are ∙ told.2))) in
+    let none : h.told ≡ [] = nothing_more told.0 h.told (same_Some (told.0 ++ h.told) told.0 (ap (λ t. append_known t h.told) (sym told.1) ∙ (sym h.told_are ∙ told.2))) in
     let w = h.whole none in
     let left : filter (is_seen h.entered) (drop h.end es) ≡ [] = no_path (filter (is_seen h.entered) (drop h.end es)) (h.pending_are ∙ pending) in
     let over : next_seen h.entered h.end es ≡ None = none-next_seen h.entered h.end es (λ j f le s. none_from (is_seen h.entered) es h.end left j f le s) in
     let all = walk_ends (can_hold specs) takes safe es h.end h.numbers h.entered nested w.walked over in
     let same : h.numbers ≡ entries_where takes es = all.given_is ∙ ap (entries_where takes) (take_all (length es) es (omega arith)) in (
-      paths_at es h.numbers,
+      given_at es h.numbers,
       h.given_are,
       (
         [] ∷ paths_at es h.entered,
         w.opened_are ∙ more_append start.opened ([] ∷ []) (paths_at es h.entered),
-        record { given_are = ap (paths_at es) same; entered = h.entered; opened_are = refl; walked = all.enters },
+        record { given_are = ap (given_at es) same; entered = h.entered; opened_are = refl; walked = all.enters },
       ),
     )

@@ -3,7 +3,7 @@ use Rattle.std.proofs.Common.{◌≡◌, ◌≢◌, ℕ, Bool, true, false, ◌|
 use Rattle.pathspec_parts.specs.Attributes.{Table}
 use Rattle.gix_pathspec.specs.Specs.{Spec}
 use Rattle.pathspec_list.specs.declared.walk.ListError.{ListError}
-use Rattle.pathspec_list.specs.Directories.{append_paths}
+use Rattle.pathspec_list.specs.Directories.{append_known}
 use Rattle.pathspec_list.specs.Listings.{is_listed, matters}
 use Rattle.pathspec_list.specs.ListAnswers.{CountsFailure, AsksInWalk, AsksNoLookUp}
 use Rattle.pathspec_list.specs.Courses.{MayAsk}
@@ -19,10 +19,10 @@ or_third false true z h = refl
 or_third false false z h = h
 
 -- A path that is listed as a file is looked at, and so is one that is listed as a directory.
-pub file_asked : (takes : List ℕ → Bool → Bool) (specs : List Spec) (path : List ℕ) (asked asked' : Option (List (List ℕ))) (file : Bool) → asked' ≡ append_paths asked (path ∷ []) → (path ≢ [] → file ≡ takes path false) → file ≡ true → MayAsk (matters takes specs path) path asked asked'
+pub file_asked : (takes : List ℕ → Bool → Bool) (specs : List Spec) (path : List ℕ) (asked asked' : Option (List (List ℕ))) (file : Bool) → asked' ≡ append_known asked (path ∷ []) → (path ≢ [] → file ≡ takes path false) → file ≡ true → MayAsk (matters takes specs path) path asked asked'
 file_asked takes specs path asked asked' file e h t = inr (e, λ n. or_second _ (takes path false) (takes path true) (sym (h n) ∙ t))
 
-pub directory_asked : (with_directories : Bool) (table table' : Table) (specs : List Spec) (path : List ℕ) (asked asked' : Option (List (List ℕ))) (directory : Bool) → table' ≡ table → asked' ≡ append_paths asked (path ∷ []) → (path ≢ [] → directory ≡ is_listed with_directories table' specs path true) → directory ≡ true
+pub directory_asked : (with_directories : Bool) (table table' : Table) (specs : List Spec) (path : List ℕ) (asked asked' : Option (List (List ℕ))) (directory : Bool) → table' ≡ table → asked' ≡ append_known asked (path ∷ []) → (path ≢ [] → directory ≡ is_listed with_directories table' specs path true) → directory ≡ true
     → MayAsk (matters (is_listed with_directories table specs) specs path) path asked asked'
 directory_asked with_directories table table' specs path asked asked' directory t e h d =
     let takes = is_listed with_directories table specs in

@@ -4,7 +4,7 @@ use Rattle.std.proofs.lemmas.List.{map-append, reverse-append}
 use Rattle.pathspec_parts.specs.Attributes.{Table}
 use Rattle.pathspec_parts.specs.Entries.{Entry}
 use Rattle.gix_pathspec.specs.Specs.{Spec}
-use Rattle.pathspec_list.specs.Listings.{is_listed, GivesPart, IsMore}
+use Rattle.pathspec_list.specs.Listings.{is_listed, Given, GivesPart, IsMore}
 use Rattle.pathspec_list.specs.Directories.{AreNamesIn, IsFoundAt}
 use Rattle.pathspec_list.specs.Courses.{Course, IsVisit, IsTopVisit, GivesAtMost, course}
 use Rattle.pathspec_list.proofs.CourseProofs.{no_more}
@@ -23,7 +23,7 @@ stack_empty [] h = refl
 stack_empty (x ∷ xs) h = absurd (omega (arith, h))
 
 -- a stack that is empty, by whatever name
-pub top_at_start : (es : List Entry) (given told opened : Option (List (List ℕ))) (stack : List (List ℕ)) (c : Course) → stack ≡ [] → IsTopVisit es (course given told opened stack) c → IsTopVisit es (course given told opened []) c
+pub top_at_start : (es : List Entry) (given : Option (List Given)) (told opened : Option (List (List ℕ))) (stack : List (List ℕ)) (c : Course) → stack ≡ [] → IsTopVisit es (course given told opened stack) c → IsTopVisit es (course given told opened []) c
 top_at_start es given told opened stack c h v = subst (λ s. IsTopVisit es (course given told opened s) c) h v
 
 -- the names that were found
@@ -31,7 +31,7 @@ pub found_names : (es : List Entry) (path : List ℕ) (found : Option (Vec (Vec 
 found_names es path found names e h = (subst (λ (o : Option (Vec (Vec ℕ Global) Global)). IsFoundAt es path (option_map (λ v. texts v.items) o)) e h).1
 
 -- nothing is a part of all
-pub part_of_nothing : (takes : List ℕ → Bool → Bool) (es : List Entry) (given given' : Option (List (List ℕ))) → given' ≡ given → IsMore given given' (GivesPart takes es)
+pub part_of_nothing : (takes : List ℕ → Bool → Bool) (es : List Entry) (given given' : Option (List Given)) → given' ≡ given → IsMore given given' (GivesPart takes es)
 part_of_nothing takes es given given' h = ([], h ∙ sym (no_more given), record { numbers = []; are = refl; rising = λ k l. absurd (omega (arith, l)); pass = λ n c. absurd (omega (arith, c.1)) })
 
 -- a path and a table by other names
@@ -39,6 +39,6 @@ pub visit_as : (with_directories : Bool) (table table' : Table) (specs : List Sp
     → IsVisit (is_listed with_directories table specs) can_enter es path c c'
 visit_as with_directories table table' specs can_enter es path path' c c' t p v = subst (λ q. IsVisit (is_listed with_directories table specs) can_enter es q c c') p (subst (λ u. IsVisit (is_listed with_directories u specs) can_enter es path' c c') t v)
 
-pub at_most_as : (with_directories : Bool) (table table' : Table) (specs : List Spec) (es : List Entry) (path path' : List ℕ) (given given' : Option (List (List ℕ))) → table' ≡ table → path' ≡ path → GivesAtMost (is_listed with_directories table' specs) es path' given given'
+pub at_most_as : (with_directories : Bool) (table table' : Table) (specs : List Spec) (es : List Entry) (path path' : List ℕ) (given given' : Option (List Given)) → table' ≡ table → path' ≡ path → GivesAtMost (is_listed with_directories table' specs) es path' given given'
     → GivesAtMost (is_listed with_directories table specs) es path given given'
 at_most_as with_directories table table' specs es path path' given given' t p v = subst (λ q. GivesAtMost (is_listed with_directories table specs) es q given given') p (subst (λ u. GivesAtMost (is_listed with_directories u specs) es path' given given') t v)

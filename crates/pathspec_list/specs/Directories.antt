@@ -42,12 +42,12 @@ OfTree tree P = (es : List Entry) → tree ≡ Some es → P es
 abbrev pub IsTree : List Entry → Type 0
 IsTree es = IsNested es × HasBytePaths es
 
--- paths, if they are known, and more
-abbrev pub append_paths : Option (List (List ℕ)) → List (List ℕ) → Option (List (List ℕ))
-append_paths known more = option_map (λ paths. paths ++ more) known
+-- what is known so far, if it is, and more
+abbrev pub append_known : {X : Type 0} → Option (List X) → List X → Option (List X)
+append_known known more = option_map (λ xs. xs ++ more) known
 
 -- The paths of the directories that were opened, with one more where this one was.
 abbrev pub opened_after : {N F : Type 0} → Option (List (List ℕ)) → List ℕ → Result (Option N) F → Option (List (List ℕ))
-opened_after opened path (Ok (Some names)) = append_paths opened (path ∷ [])
+opened_after opened path (Ok (Some names)) = append_known opened (path ∷ [])
 opened_after opened path (Ok None) = opened
 opened_after opened path (Err fault) = opened

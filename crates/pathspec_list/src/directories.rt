@@ -2,7 +2,7 @@
 ghost use Rattle.std.specs.Prelude.{◌≡◌, ℕ, List, [], ◌∷◌, Option, map, IfOk};
 ghost use Rattle.std.specs.Option.{option_map};
 ghost use Rattle.pathspec_parts.specs.Entries.{Entry};
-ghost use Rattle.pathspec_list.specs.Directories.{EachAt, IsFoundAt, OfTree, IsTree, append_paths, opened_after};
+ghost use Rattle.pathspec_list.specs.Directories.{EachAt, IsFoundAt, OfTree, IsTree, append_known, opened_after};
 
 use std::fmt::Debug;
 
@@ -31,7 +31,7 @@ pub trait Directories {
         ensures found { OfTree (tree self.old) (λ es. IfOk result (λ found.
             IsFoundAt es path.now (option_map (λ v. map (λ name. name.items) v.items) found))) }
         ensures opened { opened self.new ≡ opened_after (opened self.old) path.now result }
-        ensures asked { asked self.new ≡ append_paths (asked self.old) (path.now ∷ []) }
+        ensures asked { asked self.new ≡ append_known (asked self.old) (path.now ∷ []) }
         ensures tree { OfTree (tree self.old) IsTree }
         ensures tree_stays { tree self.new ≡ tree self.old };
 
@@ -43,6 +43,6 @@ pub trait Directories {
         ensures found { OfTree (tree self.old) (λ es. IfOk result (λ is_dir.
             EachAt es path.now (λ n e. e.is_dir ≡ is_dir))) }
         ensures opened { opened self.new ≡ opened self.old }
-        ensures asked { asked self.new ≡ append_paths (asked self.old) (path.now ∷ []) }
+        ensures asked { asked self.new ≡ append_known (asked self.old) (path.now ∷ []) }
         ensures tree_stays { tree self.new ≡ tree self.old };
 }

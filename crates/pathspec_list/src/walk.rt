@@ -4,10 +4,10 @@ ghost use Rattle.std.specs.Box.{box_value};
 ghost use Rattle.gix_pathspec.specs.Room.{Fits};
 ghost use Rattle.gix_pathspec.specs.Search.{specs_of};
 ghost use Rattle.pathspec_walk.specs.Walks.{can_hold};
-ghost use Rattle.pathspec_list.specs.Directories.{OfTree, IsTree, path_in, append_paths};
-ghost use Rattle.pathspec_list.specs.Listings.{is_listed, path_if, matters, AllMatter, IsMore, NothingTold, GivesPart, GivesAll};
+ghost use Rattle.pathspec_list.specs.Directories.{OfTree, IsTree, path_in, append_known};
+ghost use Rattle.pathspec_list.specs.Listings.{is_listed, given_if, matters, AllMatter, IsMore, NothingTold, GivesPart, GivesAll};
 ghost use Rattle.pathspec_list.specs.Courses.{IsVisit, IsTopVisit, IsLook, MayAsk, MayGive, GivesAtMost, course};
-ghost use Rattle.pathspec_list.specs.ListAnswers.{CountsFailure, AsksInWalk, AsksNoLookUp};
+ghost use Rattle.pathspec_list.specs.ListAnswers.{CountsFailure, AsksInWalk, AsksNoLookUp, CountsStop, StopsNothing};
 
 use crate::{Directories, Visitor};
 use bstr::BStr;
@@ -35,7 +35,7 @@ pub enum ListError<F, S> {
     Memory,
 }
 
-/// Walks over directories, and gives a visitor each path that a search selects, as it comes to it.
+/// Walks over directories, and gives a visitor each path that a search selects, with its kind, as it comes to it.
 ///
 /// It gives the paths of files, and those of directories too where they are wanted, a directory before what lies in it. It opens the
 /// top, and just the directories that it comes to and may not skip ([`Search::may_skip`]). No path that is selected is lost by that.
@@ -48,8 +48,8 @@ pub enum ListError<F, S> {
 /// The call takes memory for a scratch of the search, and for the names in opened directories that it has still to visit.
 ///
 /// # Errors
-/// [`ListError::LookUp`], only where the look-up failed in this call, [`ListError::Stopped`], [`ListError::NoDirectory`] and
-/// [`ListError::Memory`]. What was given before is a part of all, in order.
+/// [`ListError::LookUp`], only where the look-up failed in this call, [`ListError::Stopped`], just where the visitor ended the walk,
+/// [`ListError::NoDirectory`] and [`ListError::Memory`]. What was given before is a part of all, in order.
 pub fn walk_selected<D: Directories, L: LookUp, V: Visitor<D::Fault>>(
     alloc: Global,
     directories: &mut D,
@@ -76,6 +76,8 @@ pub fn walk_selected<D: Directories, L: LookUp, V: Visitor<D::Fault>>(
     ensures tree_stays { D.tree directories.new ≡ D.tree directories.old }
     ensures table_stays { L.table look_up.new ≡ L.table look_up.old }
     ensures counts { CountsFailure (L.failures look_up.old) (L.failures look_up.new) result }
+    // The walk ends with the visitor's reason just where the visitor ended it.
+    ensures stops { CountsStop (V.stops visitor.old) (V.stops visitor.new) result }
 {
     // The proof reads here that no nil spec has a prefix directory.
     laws::nil_specs_lack_a_prefix(search);
@@ -131,10 +133,11 @@ fn open_top<D: Directories, F, V: Visitor<D::Fault>>(
         (course (V.given visitor.new) (V.told visitor.new) (D.opened directories.new)
         (map (λ v. v.items) pending.new.items)))) }
     ensures given { V.given visitor.new ≡ V.given visitor.old }
-    ensures asked { D.asked directories.new ≡ append_paths (D.asked directories.old) ([] ∷ []) }
+    ensures asked { D.asked directories.new ≡ append_known (D.asked directories.old) ([] ∷ []) }
     ensures tree { OfTree (D.tree directories.old) IsTree }
     ensures tree_stays { D.tree directories.new ≡ D.tree directories.old }
     ensures look_up { AsksNoLookUp result }
+    ensures stops { CountsStop (V.stops visitor.old) (V.stops visitor.new) result }
 {
     match directories.open(b"") {
         Ok(Some(names)) => match push_names(alloc, pending, b"", names) {
@@ -186,6 +189,7 @@ impl Walker<'_> {
         ensures tree_stays { D.tree directories.new ≡ D.tree directories.old }
         ensures look_up { AsksInWalk (L.table look_up.old) (L.failures look_up.old)
             (L.table look_up.new) (L.failures look_up.new) result }
+        ensures stops { CountsStop (V.stops visitor.old) (V.stops visitor.new) result }
     {
         if self.search.may_skip(BStr::new(path), scratch) {
             return self.visit_skipped(directories, scratch, look_up, visitor, path);
@@ -230,6 +234,7 @@ impl Walker<'_> {
         ensures tree_stays { D.tree directories.new ≡ D.tree directories.old }
         ensures look_up { AsksInWalk (L.table look_up.old) (L.failures look_up.old)
             (L.table look_up.new) (L.failures look_up.new) result }
+        ensures stops { CountsStop (V.stops visitor.old) (V.stops visitor.new) result }
     {
         let file = self.lists(scratch, look_up, path, false)?;
         let directory = self.lists(scratch, look_up, path, true)?;
@@ -253,17 +258,18 @@ impl Walker<'_> {
     ) -> Result<(), ListError<L::Fault, V::Stop>>
         requires { Fits self.now.search.now.specs scratch.old }
         ensures given { OnOk result (path.now ≢ [] →
-            V.given visitor.new ≡ path_if (is_listed self.now.with_directories
+            V.given visitor.new ≡ given_if (is_listed self.now.with_directories
             (L.table look_up.old) (specs_of self.now.search.now.specs) path.now is_dir)
-            path.now (V.given visitor.old)) }
+            path.now is_dir (V.given visitor.old)) }
         ensures ended { OnErr result (path.now ≢ [] → MayGive
             (is_listed self.now.with_directories
             (L.table look_up.old) (specs_of self.now.search.now.specs) path.now is_dir)
-            path.now (V.given visitor.old) (V.given visitor.new)) }
+            path.now is_dir (V.given visitor.old) (V.given visitor.new)) }
         ensures room { scratch.new.room ≡ scratch.old.room }
         ensures told { V.told visitor.new ≡ V.told visitor.old }
         ensures look_up { AsksInWalk (L.table look_up.old) (L.failures look_up.old)
             (L.table look_up.new) (L.failures look_up.new) result }
+        ensures stops { CountsStop (V.stops visitor.old) (V.stops visitor.new) result }
     {
         let listed = self.lists(scratch, look_up, path, is_dir)?;
         give_if(listed, visitor, path, is_dir)
@@ -287,6 +293,7 @@ impl Walker<'_> {
         ensures room { scratch.new.room ≡ scratch.old.room }
         ensures look_up { AsksInWalk (L.table look_up.old) (L.failures look_up.old)
             (L.table look_up.new) (L.failures look_up.new) result }
+        ensures stops { StopsNothing result }
     {
         if is_dir && !self.with_directories {
             return Ok(false);
@@ -309,9 +316,10 @@ fn give_if<F, E, V: Visitor<F>>(
     path: &[u8],
     is_dir: bool,
 ) -> Result<(), ListError<E, V::Stop>>
-    ensures given { V.given visitor.new ≡ path_if is_given path.now (V.given visitor.old) }
+    ensures given { V.given visitor.new ≡ given_if is_given path.now is_dir (V.given visitor.old) }
     ensures told { V.told visitor.new ≡ V.told visitor.old }
     ensures look_up { AsksNoLookUp result }
+    ensures stops { CountsStop (V.stops visitor.old) (V.stops visitor.new) result }
 {
     if !is_given {
         return Ok(());
@@ -332,8 +340,9 @@ fn tell<F, E, V: Visitor<F>>(
     fault: F,
 ) -> Result<(), ListError<E, V::Stop>>
     ensures given { V.given visitor.new ≡ V.given visitor.old }
-    ensures told { V.told visitor.new ≡ append_paths (V.told visitor.old) (path.now ∷ []) }
+    ensures told { V.told visitor.new ≡ append_known (V.told visitor.old) (path.now ∷ []) }
     ensures look_up { AsksNoLookUp result }
+    ensures stops { CountsStop (V.stops visitor.old) (V.stops visitor.new) result }
 {
     match visitor.tell(path, fault) {
         Ok(()) => Ok(()),

@@ -1,5 +1,6 @@
 //! Directories in memory, and a visitor that writes down what it gets.
-ghost use Rattle.std.specs.Prelude.{None};
+ghost use Rattle.std.specs.Prelude.{◌≡◌, None, Some};
+ghost use Rattle.pathspec_parts.specs.Attributes.{next_count};
 
 use pathspec_list::{Directories, Visitor};
 use std::alloc::{AllocError, AllocFailed, Global};
@@ -31,7 +32,7 @@ pub struct MemoryDirectories<'a> {
     /// A path at which nothing can be seen, if it isn't empty.
     refused: &'a str,
     /// Each path that was opened or asked, with a space at its end.
-    pub asked: Vec<u8>,
+    asked: Vec<u8>,
 }
 
 impl<'a> MemoryDirectories<'a> {
@@ -46,6 +47,11 @@ impl<'a> MemoryDirectories<'a> {
             refused,
             asked: Vec::new(alloc),
         }
+    }
+
+    /// Whether just these paths were opened or asked, each with a space at its end.
+    pub fn were_asked(&self, paths: &str) -> bool {
+        self.asked.as_slice() == paths.as_bytes()
     }
 
     /// The names in a directory, between spaces.
@@ -103,6 +109,8 @@ impl<'a> Directories for MemoryDirectories<'a> {
 #[derive(Drop)]
 pub struct Notes {
     pub text: Vec<u8>,
+    /// How often it ended the walk.
+    pub stops: u64,
     ends_at_faults: bool,
 }
 
@@ -110,6 +118,7 @@ impl Notes {
     pub fn new(alloc: Global, ends_at_faults: bool) -> Notes {
         Notes {
             text: Vec::new(alloc),
+            stops: 0,
             ends_at_faults,
         }
     }
@@ -117,6 +126,21 @@ impl Notes {
     /// Whether the notes are this text.
     pub fn are(&self, text: &str) -> bool {
         self.text.as_slice() == text.as_bytes()
+    }
+
+    fn write(&mut self, before: &[u8], path: &[u8], after: &[u8]) -> Result<(), AllocError>
+        ensures { self.new.stops ≡ self.old.stops }
+    {
+        self.text.extend_from_slice(before)?;
+        self.text.extend_from_slice(path)?;
+        self.text.extend_from_slice(after)
+    }
+
+    fn stop(&mut self, fault: Fault) -> Fault
+        ensures { self.new.stops ≡ next_count self.old.stops }
+    {
+        self.stops = self.stops.saturating_add(1);
+        fault
     }
 }
 
@@ -127,22 +151,25 @@ impl Visitor<Fault> for Notes {
 
     ghost told = { λ _. None };
 
+    ghost stops = { λ notes. Some notes.stops };
+
     fn give(&mut self, path: &[u8], is_dir: bool) -> Result<(), Fault> {
-        self.text.extend_from_slice(path)?;
-        self.text
-            .extend_from_slice(if is_dir { b"/ " } else { b" " })?;
-        Ok(())
+        match self.write(b"", path, if is_dir { b"/ " } else { b" " }) {
+            Ok(()) => Ok(()),
+            Err(AllocError) => Err(self.stop(Fault::Memory)),
+        }
     }
 
     fn tell(&mut self, path: &[u8], fault: Fault) -> Result<(), Fault> {
         if let Fault::Memory = fault {
-            return Err(Fault::Memory);
+            return Err(self.stop(Fault::Memory));
         }
-        self.text.push(b'!')?;
-        self.text.extend_from_slice(path)?;
-        self.text.push(b' ')?;
+        match self.write(b"!", path, b" ") {
+            Ok(()) => {}
+            Err(AllocError) => return Err(self.stop(Fault::Memory)),
+        }
         if self.ends_at_faults {
-            return Err(Fault::Refused);
+            return Err(self.stop(Fault::Refused));
         }
         Ok(())
     }

@@ -6,7 +6,7 @@ use Rattle.gix_pathspec.specs.Room.{ScratchContents}
 use Rattle.gix_pathspec.specs.Search.{specs_of}
 use Rattle.gix_pathspec.proofs.RoomProofs.{fits-kept}
 use Rattle.pathspec_walk.specs.Walks.{can_hold}
-use Rattle.pathspec_list.specs.Directories.{append_paths}
+use Rattle.pathspec_list.specs.Directories.{append_known}
 use Rattle.pathspec_list.specs.Listings.{is_listed, AllMatter, IsMore}
 use Rattle.pathspec_list.specs.Courses.{course}
 use Rattle.pathspec_list.proofs.StepProofs.{texts, stack_top, stack_empty, top_at_start, part_of_nothing, visit_as, at_most_as}
@@ -27,7 +27,7 @@ returns-in-Err-clause-asked g c =
     asks_nothing (is_listed c.args.with_directories (g.L.LookUp.table c.args.look_up.now) specs) specs _ _ refl
 
 -- the top was asked, since nothing was before
-asks_first : (takes : List ℕ → Bool → Bool) (specs : List Spec) (asked asked' : Option (List (List ℕ))) → asked' ≡ append_paths asked ([] ∷ []) → IsMore asked asked' (AllMatter takes specs)
+asks_first : (takes : List ℕ → Bool → Bool) (specs : List Spec) (asked asked' : Option (List (List ℕ))) → asked' ≡ append_known asked ([] ∷ []) → IsMore asked asked' (AllMatter takes specs)
 asks_first takes specs asked asked' e = asks_top takes specs asked asked asked' (asks_nothing takes specs asked asked refl) e
 
 pub returns-in_err-open_top-clause-asked : goal.returns-in_err-open_top-clause-asked
@@ -50,6 +50,7 @@ paths-init g c =
       room = c.in-Ok.ensures;
       tree = c.open_top.ensures.tree_stays;
       table = refl;
+      stops = c.in_ok-open_top.ensures.stops;
       count = refl;
     }
 
@@ -111,5 +112,6 @@ paths-preserved g c =
       room = fits-kept _ (box_value c.paths.scratch) c.visit.new.scratch i.room (v.room ∙ ap (λ (s : ScratchContents). s.room) c.deref_mut.ensures.value);
       tree = v.tree_stays ∙ i.tree;
       table = v.look_up.0 ∙ i.table;
+      stops = v.stops ∙ i.stops;
       count = v.look_up.1 ∙ i.count;
     }

@@ -18,5 +18,6 @@ invariant-paths g l = record {
   room : Fits l.search.specs (box_value l.scratch);
   tree : g.D.Directories.tree l.directories ≡ g.D.Directories.tree l.fn.directories;
   table : g.L.LookUp.table l.look_up ≡ g.L.LookUp.table l.fn.look_up;
+  stops : g.V.Visitor.stops l.visitor ≡ g.V.Visitor.stops l.fn.visitor;
   count : g.L.LookUp.failures l.look_up ≡ g.L.LookUp.failures l.fn.look_up;
 }
