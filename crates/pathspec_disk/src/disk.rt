@@ -1,17 +1,19 @@
 //! The directories of a disk.
-ghost use Rattle.std.specs.Prelude.{◌≡◌, ◌≢◌, [], ◌++◌, None, OnOk, codes, string_bytes};
+ghost use Rattle.std.specs.Prelude.{◌≡◌, ◌≢◌, [], ◌++◌, true, false, None, IfOk, OnOk, IfErr, IfSome, codes, string_bytes, if◌then◌else◌};
+ghost use Rattle.std.specs.Ordering.{nat_cmp};
+ghost use Rattle.std.specs.Cmp.Lexicographic.{slice_cmp};
+ghost use Rattle.std.specs.List.Sorted.{IsSorted, IsPermutation};
+ghost use Rattle.std.specs.Str.{is_utf8};
+ghost use Rattle.pathspec_disk.specs.Names.{given_names, texts_of};
+ghost use Rattle.pathspec_disk.specs.declared.fault.DiskFault.TheVariants.{NotUtf8, Memory};
 
 use crate::names::{has_git, names_of};
+use crate::reading::{ROOM, read_opened};
 use crate::{DiskFault, Seen};
 use pathspec_list::Directories;
 use std::alloc::AllocError;
 use std::fs::{self, Files};
-use std::io::{ErrorKind, Read};
 use std::str;
-
-/// How many bytes a read of names takes at most. The system refuses one without the room for a name, so `read_to_end`, which reads
-/// into what is left of a list, fails in a large directory.
-const ROOM: usize = 32768;
 
 /// How the directories of a disk are opened.
 #[derive(Clone, Copy, Debug, Default, PartialEq, Eq)]
@@ -30,7 +32,10 @@ pub struct Disk<'a, R> {
     options: DiskOptions,
     seen: &'a Seen,
     /// The room for one read of names.
-    room: Vec<u8>,
+    room: Box<[u8; ROOM]>,
+    /// The names in the directory that was opened last, each with the byte 0 at its end. They are kept, as the room is, so that none
+    /// of them costs memory anew.
+    bytes: Vec<u8>,
     /// The name that the system has for the path that is looked at. It is kept, so that a path costs no memory of its own.
     name: String,
 }
@@ -46,13 +51,14 @@ impl<'a, R: Files + AllocGlobal> Disk<'a, R> {
         options: DiskOptions,
         seen: &'a Seen,
     ) -> Result<Disk<'a, R>, AllocError> {
-        let room = vec![in rt.alloc(); 0; ROOM]?;
+        let room = Box::new(rt.alloc(), [0; ROOM])?;
         Ok(Disk {
             rt,
             top,
             options,
             seen,
             room,
+            bytes: Vec::new(rt.alloc()),
             name: String::new(rt.alloc()),
         })
     }
@@ -65,6 +71,9 @@ impl<'a, R: Files + AllocGlobal> Disk<'a, R> {
         // Nothing stands behind the path, so the system sees a link as a link. It would follow one before a slash.
         ensures name { OnOk result (path.now ≢ [] →
             string_bytes self.new.name ≡ self.old.top.now ++ codes "/" ++ path.now) }
+        ensures utf8 { OnOk result (is_utf8 path.now ≡ true) }
+        ensures reason { IfErr result (λ fault.
+            fault ≡ (if is_utf8 path.now then Memory else NotUtf8)) }
     {
         let Ok(path) = str::from_utf8(path) else {
             return Err(DiskFault::NotUtf8);
@@ -76,27 +85,6 @@ impl<'a, R: Files + AllocGlobal> Disk<'a, R> {
         self.name.push('/')?;
         self.name.push_str(path)?;
         Ok(())
-    }
-
-    /// Reads the names in the directory, each with the byte 0 at its end. None is given where something else stands.
-    ///
-    /// # Errors
-    /// What the system refuses.
-    fn read(&mut self) -> Result<Option<Vec<u8>>, DiskFault> {
-        let mut directory = match self.rt.open_dir(self.name.as_str()) {
-            Ok(directory) => directory,
-            Err(error) if error.kind() == ErrorKind::NotADirectory => return Ok(None),
-            Err(error) => return Err(DiskFault::from(error)),
-        };
-        let mut names = Vec::new(self.rt.alloc());
-        for _ in 0..u64::MAX {
-            let count = directory.read(self.room.as_mut_slice())?;
-            if count == 0 {
-                break;
-            }
-            names.extend_from_slice(&self.room[..count.min(self.room.len())])?;
-        }
-        Ok(Some(names))
     }
 
     /// Whether a `.git` lies in the directory. The disk turns to that.
@@ -116,18 +104,31 @@ impl<'a, R: Files + AllocGlobal> Directories for Disk<'a, R> {
     ghost asked = { λ _. None };
 
     /// Opens a directory, reads the names in it and closes it. A nested repository that isn't to be opened has no names.
-    fn open(&mut self, path: &[u8]) -> Result<Option<Vec<Vec<u8>>>, DiskFault> {
+    fn open(&mut self, path: &[u8]) -> Result<Option<Vec<Vec<u8>>>, DiskFault>
+        // They are those of the names that were read.
+        ensures kept { IfOk result (λ found. IfSome found (λ names. IsPermutation
+            (given_names path.now self.old.options.nested self.new.bytes.items)
+            (texts_of names.items))) }
+        ensures as_they_stand { IfOk result (λ found. IfSome found (λ names.
+            self.old.options.unsorted ≡ true → texts_of names.items
+            ≡ given_names path.now self.old.options.nested self.new.bytes.items)) }
+        ensures sorted { IfOk result (λ found. IfSome found (λ names.
+            self.old.options.unsorted ≡ false →
+            IsSorted (λ x y. slice_cmp nat_cmp x.items y.items) names.items)) }
+    {
+        let options = self.options;
         self.seen.ask();
         self.turn_to(path)?;
-        let Some(bytes) = self.read()? else {
+        let opened = self.rt.open_dir(self.name.as_str());
+        if !read_opened(opened, &mut self.room, &mut self.bytes)? {
             return Ok(None);
-        };
-        if !path.is_empty() && !self.options.nested && has_git(&bytes) {
+        }
+        if !path.is_empty() && !options.nested && has_git(&self.bytes) {
             self.seen.open(0);
             self.seen.meet_nested();
             return Ok(Some(Vec::new(self.rt.alloc())));
         }
-        let names = names_of(self.rt.alloc(), &bytes, self.options.unsorted)?;
+        let names = names_of(self.rt.alloc(), &self.bytes, options.unsorted)?;
         self.seen.open(names.len());
         Ok(Some(names))
     }

@@ -1,4 +1,6 @@
 //! Why a path of a disk can't be looked at.
+ghost use Rattle.std.specs.Prelude.{◌≡◌, ◌≢◌};
+
 use std::alloc::{AllocError, AllocFailed};
 use std::io::{self, ErrorKind};
 
@@ -14,18 +16,33 @@ pub enum DiskFault {
 }
 
 impl From<AllocError> for DiskFault {
+    ghost use Rattle.pathspec_disk.specs.declared.fault.DiskFault.TheVariants.{Memory};
+
+    ghost from_gives = { λ _ fault. fault ≡ Memory };
+
     fn from(_: AllocError) -> DiskFault {
         DiskFault::Memory
     }
 }
 
 impl<T: Drop> From<AllocFailed<T>> for DiskFault {
+    ghost use Rattle.pathspec_disk.specs.declared.fault.DiskFault.TheVariants.{Memory};
+
+    ghost from_gives = { λ _ fault. fault ≡ Memory };
+
     fn from(_: AllocFailed<T>) -> DiskFault {
         DiskFault::Memory
     }
 }
 
 impl From<io::Error> for DiskFault {
+    ghost use Rattle.std.specs.IoError.{error_kind};
+    ghost use Rattle.std.specs.declared.io.ErrorKind.TheVariants.{OutOfMemory};
+    ghost use Rattle.pathspec_disk.specs.declared.fault.DiskFault.TheVariants.{Memory, System};
+
+    ghost from_gives = { λ error fault. (error_kind error ≡ OutOfMemory → fault ≡ Memory)
+        × (error_kind error ≢ OutOfMemory → fault ≡ System error) };
+
     fn from(error: io::Error) -> DiskFault {
         match error.kind() {
             ErrorKind::OutOfMemory => DiskFault::Memory,

@@ -4,6 +4,7 @@
 mod disk;
 mod fault;
 mod names;
+mod reading;
 mod seen;
 
 pub use disk::{Disk, DiskOptions};
