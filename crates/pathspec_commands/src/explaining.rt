@@ -1,7 +1,4 @@
 //! `pathspec explain`.
-ghost use Rattle.std.specs.Prelude.{◌≢◌, []};
-ghost use Rattle.bstr.specs.BStr.{bstr_bytes};
-
 use crate::Failure;
 use crate::asked::{Asked, read_specs};
 use crate::attributes::{Attributes, attributes_of};
@@ -9,8 +6,9 @@ use crate::decided::Decided;
 use crate::json::{explanation_object, write_object};
 use crate::reason_texts::reason_text;
 use crate::telling::{bad_path, push_spaces, quoted, read_fault};
+use crate::verdicts::Verdicts;
 use bstr::BStr;
-use pathspec_explain::{AskedSpec, Explanation, Reason, Verdict, asked_specs, explain};
+use pathspec_explain::{AskedSpec, Explanation, Reason, Verdict, asked_specs};
 use pathspec_faults::push_shown;
 use pathspec_options::{ExplainOptions, SpecOptions};
 use pathspec_parts::path::strip_last_slash;
@@ -27,6 +25,7 @@ pub(crate) struct Explainer<'a, 'd> {
     pub(crate) asked: &'a Asked<'a>,
     /// The specs in search order.
     specs: Vec<AskedSpec<'a>>,
+    verdicts: Verdicts<'a>,
     attributes: Attributes<'d>,
     all: bool,
     json: bool,
@@ -168,21 +167,6 @@ impl Explainer<'_, '_> {
         }
     }
 
-    /// What settles a path.
-    fn told_of(&mut self, path: Path<'_>) -> Result<Explanation, AllocError>
-        requires { bstr_bytes path.path ≢ [] }
-    {
-        let search = &self.asked.search;
-        let mut scratch = search.new_scratch(self.alloc)?;
-        match &mut self.attributes {
-            Attributes::Rows(rows) => explain(search, path.path, path.is_dir, &mut scratch, rows),
-            Attributes::Directory(directory) => {
-                let files = &mut directory.files;
-                explain(search, path.path, path.is_dir, &mut scratch, files)
-            }
-        }
-    }
-
     /// Explains the path with a number, from 1.
     fn explain<D: Files + AllocGlobal, W: Write, T: Write>(
         &mut self,
@@ -197,7 +181,7 @@ impl Explainer<'_, '_> {
             return Err(bad_path(self.alloc, number)?);
         }
         self.attributes.reach(rt, path.path.as_bytes(), told)?;
-        let told = self.told_of(path)?;
+        let told = self.verdicts.verdict(path, &mut self.attributes)?;
         if self.json {
             let all = self.all;
             let object = explanation_object(self, told, path, all)?;
@@ -248,6 +232,7 @@ pub(crate) fn run<R: Files + Env + AllocGlobal, I: Read, W: Write, T: Write>(
         alloc: rt.alloc(),
         asked: &asked,
         specs: asked_specs(rt.alloc(), &asked.search)?,
+        verdicts: Verdicts::new(rt.alloc(), &asked.search)?,
         attributes: attributes_of(rt, specs, told)?,
         all: options.all,
         json: options.json,

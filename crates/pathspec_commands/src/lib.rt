@@ -23,6 +23,7 @@ mod showing;
 mod spec_texts;
 mod telling;
 mod unmatched;
+mod verdicts;
 
 pub use failure::Failure;
 pub use running::run;
