@@ -20,6 +20,9 @@ const TEXT: &str = ":(top,icase,attr:a=x\\,y)p/";
 /// directories it takes.
 const TEXTS: &[&str] = &[TEXT, "../c", ":(exclude,glob)d/**", "*.c"];
 
+/// Specs that have a set, since four begin with a wildcard.
+const SET: &[&str] = &[":(top)*.c", ":(top)*.h", ":(top)*.md", ":(top,exclude)*~"];
+
 /// The answer of a call, or that memory ran out. Any other fault counts as a wrong answer.
 fn or_memory(answer: Result<bool, Error>) -> Result<bool, AllocError> {
     match answer {
@@ -254,7 +257,7 @@ impl Call for SearchCall {
 #[rattlefmt::skip]
 fn a_search_is_built_or_memory_ran_out(rt: HostRuntime) -> Result<(), Fail> {
     use SearchCall::{FromLines, FromSpecs};
-    assert_calls(rt.alloc(), &[Calls(FromSpecs(TEXTS)), Calls(FromSpecs(&[])), Calls(FromLines)])
+    assert_calls(rt.alloc(), &[Calls(FromSpecs(TEXTS)), Calls(FromSpecs(SET)), Calls(FromSpecs(&[])), Calls(FromLines)])
 }
 
 /// The call that copies a search.
@@ -298,6 +301,8 @@ fn a_scratch_is_made_or_memory_ran_out(rt: HostRuntime) -> Result<(), Fail> {
     const CALLS: &[Calls<NewScratch>] = &[
         Calls(NewScratch(&[])),
         Calls(NewScratch(&["*[!b-d]?x*", ":!**/x"])),
+        // The table of the set has a list for each of its rows.
+        Calls(NewScratch(SET)),
         Calls(NewScratch(&[":(attr:a -b !c d=e)*.c", ":(exclude,attr:a)x", ":(glob)**/y"])),
     ];
     assert_calls(rt.alloc(), CALLS)

@@ -165,3 +165,17 @@ fn a_set_tells_where_it_gave_up(rt: HostRuntime) -> Result<(), Fail> {
     }
     Ok(())
 }
+
+// Four globs of 40,000 tokens have more places than a set takes.
+#[test]
+fn specs_of_too_many_places_are_asked_one_by_one(rt: HostRuntime) -> Result<(), Fail> {
+    let mut line = String::new(rt.alloc());
+    for spec in 0..4usize {
+        line.push_str(if spec == 0 { "*" } else { " *" })?;
+        for _byte in 0..40_000usize {
+            line.push('a')?;
+        }
+    }
+    assert!(rt; told(rt.alloc(), line.as_str(), "b")? == (Some(None), 4, false));
+    Ok(())
+}
