@@ -1,5 +1,5 @@
 -- Tables of rows that texts led to.
-use Rattle.std.proofs.Common.{◌≡◌, ◌≢◌, ℕ, zero, suc, ◌+◌, ◌-◌, ◌*◌, ◌<◌, ◌≤◌, Bool, true, false, ◌&&◌, ◌||◌, refl, sym, ◌∙◌, ap, subst, arith, inl, inr, List, [], ◌∷◌, length, get_or, set, replicate, drop, ◌^◌}
+use Rattle.std.proofs.Common.{◌≡◌, ◌≢◌, ℕ, zero, suc, ◌+◌, ◌-◌, ◌*◌, ◌<◌, ◌≤◌, Bool, true, false, ◌&&◌, ◌||◌, refl, sym, ◌∙◌, ap, subst, arith, inl, inr, List, [], ◌∷◌, ◌++◌, length, get_or, set, replicate, drop, ◌^◌}
 use Rattle.std.proofs.lemmas.Bool.{cases_eq, cases_lt, true≢false}
 use Rattle.std.proofs.lemmas.List.{get_or-set_same, get_or-set_other, length-set, get_or-replicate, length-replicate, get_or_past, drop_more}
 use Rattle.std.proofs.Math.Nat.{mul-le-mul_right}
@@ -12,7 +12,7 @@ use Rattle.pathspec_glob_set.specs.Moves.LeadsTo.{byte, empty}
 use Rattle.pathspec_glob_set.specs.Rows.{leads_on, taken_of}
 use Rattle.pathspec_glob_set.specs.Sizes.{row_at, IsFirst}
 use Rattle.pathspec_glob_set.specs.declared.table.Table.{Table}
-use Rattle.pathspec_glob_set.specs.Tables.{cell_of, most_misses, nowhere, row_of, unknown, AddsSpare, AreCells, AreFewSteps, AreRows, AreSinks, IsRight, IsTable}
+use Rattle.pathspec_glob_set.specs.Tables.{cell_of, most_misses, nowhere, row_of, unknown, AddsSpare, AreCells, AreFewSteps, AreRows, AreSinks, BeginsText, ClearsWhenFull, Counts, IsRight, IsTable}
 
 -- ---- rows
 
@@ -142,34 +142,25 @@ lost-more moves b text fits nowhere =
     (nowhere.0, (byte fits nowhere.1.0 (stays-lost moves (takes_of moves b) nowhere.0 (leads-size moves text nowhere.0 nowhere.1.0) nowhere.1.1), nowhere.1.1))
 
 -- where the end of a text leads to no place, the text does
-pub lost-front : (moves : Moves) (k : ℕ) (text : List ℕ) → ((i : ℕ) → get_or text i 0 < 256) → LeadsNowhere moves (drop k text) → LeadsNowhere moves text
-lost-front moves zero text fits nowhere = nowhere
-lost-front moves (suc k) [] fits nowhere = nowhere
-lost-front moves (suc k) (b ∷ text) fits nowhere = lost-more moves b text (fits 0) (lost-front moves k text (λ i. fits (suc i)) nowhere)
+pub lost-front : (moves : Moves) (k : ℕ) (text behind : List ℕ) → ((i : ℕ) → get_or text i 0 < 256) → LeadsNowhere moves (drop k text ++ behind) → LeadsNowhere moves (text ++ behind)
+lost-front moves zero text behind fits nowhere = nowhere
+lost-front moves (suc k) [] behind fits nowhere = nowhere
+lost-front moves (suc k) (b ∷ text) behind fits nowhere = lost-more moves b (text ++ behind) (fits 0) (lost-front moves k text behind (λ i. fits (suc i)) nowhere)
+
+-- where the bytes behind a text lead to no place, it does
+pub lost-behind : (moves : Moves) (text behind : List ℕ) → ((i : ℕ) → get_or text i 0 < 256) → LeadsNowhere moves behind → LeadsNowhere moves (text ++ behind)
+lost-behind moves [] behind fits nowhere = nowhere
+lost-behind moves (b ∷ text) behind fits nowhere = lost-more moves b (text ++ behind) (fits 0) (lost-behind moves text behind (λ i. fits (suc i)) nowhere)
 
 -- ---- sinks
 
 -- where the end of a text leads to a sink, the text does
-pub sink-front : (moves : Moves) (k : ℕ) (text : List ℕ) (row : List Bool) → ((i : ℕ) → get_or text i 0 < 256) → IsSink moves row → LeadsTo moves (drop k text) row → LeadsTo moves text row
-sink-front moves zero text row fits sink leads = leads
-sink-front moves (suc k) [] row fits sink leads = leads
-sink-front moves (suc k) (b ∷ text) row fits sink leads =
-    byte (fits 0) (sink-front moves k text row (λ i. fits (suc i)) sink leads) (sink (class_of moves b) (moves.sizes.each_byte b (fits 0)))
-
-further-same : (f g : ℕ → Bool) (i : ℕ) → ((j : ℕ) → suc j ≡ i → f j ≡ g j) → further false f i ≡ further false g i
-further-same f g zero same = refl
-further-same f g (suc i) same = same i refl
-
--- where bytes are taken at the same places of a row as those that lead to itself, they do so, too
-pub sink-step : (moves : Moves) (some others row : List Bool) → IsStep moves some row row → ((i : ℕ) → i < length row → taken_of some row i ≡ taken_of others row i) → IsStep moves others row row
-sink-step moves some others row step same = record {
-  size = step.size;
-  places = λ i h uncut.
-      let here : (j : ℕ) → j ≤ i → taken_of some row j ≡ taken_of others row j = λ j low. same j (omega (arith, low, h, step.size)) in
-      step.places i h uncut
-      ∙ ap (λ x. (x || (taken_of some row i && holds moves.wide i)) || leads_on (holds moves.wide) (holds moves.over) (holds row) i) (further-same (taken_of some row) (taken_of others row) i (λ j e. here j (omega (arith, e))))
-      ∙ ap (λ x. (further false (taken_of others row) i || (x && holds moves.wide i)) || leads_on (holds moves.wide) (holds moves.over) (holds row) i) (here i (omega arith));
-}
+pub sink-front : (moves : Moves) (k : ℕ) (text behind : List ℕ) (row : List Bool) → ((i : ℕ) → get_or text i 0 < 256) → IsSink moves row → LeadsTo moves (drop k text ++ behind) row
+    → LeadsTo moves (text ++ behind) row
+sink-front moves zero text behind row fits sink leads = leads
+sink-front moves (suc k) [] behind row fits sink leads = leads
+sink-front moves (suc k) (b ∷ text) behind row fits sink leads =
+    byte (fits 0) (sink-front moves k text behind row (λ i. fits (suc i)) sink leads) (sink (class_of moves b) (moves.sizes.each_byte b (fits 0)))
 
 -- the first row alone
 pub one-sink : (moves : Moves) (rows : List (List Bool)) (used : ℕ) (sinks : List Bool) → 0 < used → AreSinks moves rows used sinks → AreSinks moves rows 1 sinks
@@ -301,31 +292,50 @@ pub lost-step : (old new : Moves) (text : List ℕ) (b : ℕ) (row : List Bool) 
 lost-step old new text b row e fits leads lost =
     (replicate (length new.wide) false, (leads-more old new text b row (replicate (length new.wide) false) e fits leads (lost-row new (takes_of old b) row lost), no-place (length new.wide)))
 
--- the steps of a byte more
-pub counts-more : (s t m n back w v : ℕ) → w ≡ v → s ≡ back + m * (w + 1) → t + m * (v + 1) ≡ s + 1 + n * (v + 1) → t ≡ back + 1 + n * (w + 1)
-counts-more s t m n back w v e was counted = subst (λ k. t ≡ back + 1 + n * (k + 1)) (sym e) (more (subst (λ k. s ≡ back + m * (k + 1)) e was))
-  where
-    more : s ≡ back + m * (v + 1) → t ≡ back + 1 + n * (v + 1)
-    more same = omega (arith, same, counted)
-
 -- the steps fit
-pub steps-fit : (s m back w : ℕ) → s ≡ back + m * (w + 1) → m ≤ 8 → w < 2 ^ 62 → back < 2 ^ 64 → s < 2 ^ 127
-steps-fit s m back w e few small short = omega (arith, e, small, short, mul-le-mul_right (w + 1) few)
+pub steps-fit : (s m back w : ℕ) → s ≤ 1 + back + m * (w + 1) → m ≤ 8 → w < 2 ^ 62 → back < 2 ^ 64 → s < 2 ^ 127
+steps-fit s m back w within few small short = omega (arith, within, small, short, mul-le-mul_right (w + 1) few)
 
 -- no steps are counted at the begin of a text
-pub begun-steps : (s m w : ℕ) → s ≡ 0 → m ≡ 0 → s ≡ 0 + m * (w + 1)
-begun-steps s m w none nil =
-    let product : m * (w + 1) ≡ 0 * (w + 1) = ap (λ k. k * (w + 1)) nil in
-    omega (arith, none, product)
+pub few-begun : (places : ℕ) (table : Table) → BeginsText table → AreFewSteps places 0 table
+few-begun places table begun =
+    let product : table.misses * (places + 1) ≡ 0 * (places + 1) = ap (λ k. k * (places + 1)) begun.misses in
+    record {
+      filled = omega (arith, begun.misses);
+      few = omega (arith, begun.misses);
+      least = omega (arith, product);
+      steps = omega (arith, begun.steps);
+      bound = omega (arith, begun.steps);
+    }
 
--- the steps of a text, of which so many bytes were read
-pub few-steps : (places bytes back : ℕ) (table : Table) → table.steps ≡ back + table.misses * (places + 1) → table.misses ≤ back → table.misses ≤ most_misses → back ≤ bytes → AreFewSteps places bytes table
-few-steps places bytes back table e filled few within = record {
-  filled = omega (arith, filled, within);
-  few = few;
-  steps = omega (arith, e, within);
-  bound = omega (arith, e, within, mul-le-mul_right {m = table.misses} {n = bytes} (places + 1) (omega (arith, filled, within)));
+-- steps that are few for some bytes are few for more
+pub few-for_more : (places some more : ℕ) (table : Table) → some ≤ more → AreFewSteps places some table → AreFewSteps places more table
+few-for_more places some more table low few = record {
+  filled = omega (arith, few.filled, low);
+  few = few.few;
+  least = few.least;
+  steps = omega (arith, few.steps, low);
+  bound = omega (arith, few.bound, mul-le-mul_right {m = some} {n = more} (places + 2) low);
 }
+
+-- the steps of a byte more
+pub few-more : (places bytes : ℕ) (old new : Table) → length old.moves.wide ≡ places → new.misses ≤ most_misses → Counts 1 old new → AreFewSteps places bytes old → AreFewSteps places (bytes + 1) new
+few-more places bytes old new e most counted few = record {
+  filled = filled;
+  few = most;
+  least = omega (arith, same, few.least);
+  steps = steps;
+  bound = omega (arith, steps, mul-le-mul_right {m = new.misses} {n = bytes + 1} (places + 1) filled);
+}
+  where
+    filled : new.misses ≤ bytes + 1
+    filled = omega (arith, few.filled, counted.one)
+
+    same : new.steps + old.misses * (places + 1) ≡ old.steps + 1 + new.misses * (places + 1)
+    same = subst (λ k. new.steps + old.misses * (k + 1) ≡ old.steps + 1 + new.misses * (k + 1)) e counted.steps
+
+    steps : new.steps ≤ bytes + 1 + new.misses * (places + 1)
+    steps = omega (arith, same, few.steps)
 
 -- ---- a table
 
@@ -390,3 +400,37 @@ added-right {old = old} {new = new} {added = added} row class adds is room low s
     let leads = added-leads (row_at old.moves.takes.items class) (row_of old row) adds room step in
     right-row new.moves new.rows.items new.used (row_at new.moves.takes.items class) (row_of new row) added (omega (arith, is.rows.within, is.rows.few)) leads.0
     (subst (λ t. IsStep new.moves t (row_of new row) (row_of new added)) (sym takes) (subst (λ r. IsStep new.moves (row_at old.moves.takes.items class) r (row_of new added)) (sym stays) leads.1))
+
+-- ---- when a table is cleared
+
+-- more cells are filled
+pub clears-more : (some more all : ℕ) (old mid new : Table) → some + more ≤ all → length mid.rows.items ≡ length old.rows.items → ClearsWhenFull some old mid → ClearsWhenFull more mid new
+    → ClearsWhenFull all old new
+clears-more some more all old mid new few room first second = by mid.cleared refl
+  where
+    by : (b : Bool) → mid.cleared ≡ b → ClearsWhenFull all old new
+    by true on = record {
+      grows = omega (arith, first.grows, second.grows, few);
+      stays = λ was. second.stays on;
+      full = λ off is. omega (arith, first.full off on, few);
+      anew = λ off is. omega (arith, first.anew off on, second.grows, few);
+      used = λ off. absurd (true≢false (sym (second.stays on) ∙ off));
+      kept = λ off. absurd (true≢false (sym (second.stays on) ∙ off));
+    }
+    by false none = record {
+      grows = omega (arith, first.grows, second.grows, few);
+      stays = λ was. second.stays (first.stays was);
+      full = λ off is. omega (arith, second.full none is, first.grows, room, few);
+      anew = λ off is. omega (arith, second.anew none is, few);
+      used = λ off. omega (arith, first.used none, second.used off);
+      kept = λ off r low. second.kept off r (omega (arith, low, first.used none)) ∙ first.kept none r low;
+    }
+
+-- the begin of a text fills no cell
+pub clears-begun : (old new : Table) → BeginsText new → ClearsWhenFull 0 old new → ClearsWhenFull new.misses old new
+clears-begun old new begun clears = subst (λ k. ClearsWhenFull k old new) (sym begun.misses) clears
+
+-- a byte more
+pub clears-on : (before old new : Table) → length old.rows.items ≡ length before.rows.items → Counts 1 old new → ClearsWhenFull (new.misses - old.misses) old new
+    → ClearsWhenFull old.misses before old → ClearsWhenFull new.misses before new
+clears-on before old new room counted clears was = clears-more old.misses (new.misses - old.misses) new.misses before old new (omega (arith, counted.rises)) room was clears

@@ -8,7 +8,7 @@ use Rattle.pathspec_glob_set.specs.declared.table.Lead.{Lead}
 use Rattle.pathspec_glob_set.specs.declared.member.Member.{Member}
 use Rattle.pathspec_glob_set.specs.Sets.{member_matches, AreMovesOf, IsAt}
 use Rattle.pathspec_glob_set.specs.Sizes.{most_losses, AreLooks}
-use Rattle.pathspec_glob_set.specs.Tables.{most_misses, Finds, IsKnown}
+use Rattle.pathspec_glob_set.specs.Tables.{most_misses, ClearsWhenFull, Finds, IsKnown}
 
 -- The set is that of the globs.
 abbrev pub IsSetOf : List Member → GlobSet → Type 0
@@ -56,6 +56,13 @@ losses_after true true losses = if losses == most_losses then losses else losses
 losses_after true false losses = losses
 losses_after false cleared losses = losses - 1
 
+-- nothing was searched with the scratch yet
+pub record IsFresh (scratch : SetScratch) : Type 0 where
+  pub losses : scratch.losses ≡ 0
+  pub total : scratch.total ≡ 0
+  pub used : scratch.table.used ≡ 1
+  pub cleared : scratch.table.cleared ≡ false
+
 -- the set that a scratch is for
 abbrev pub set_in : SetScratch → GlobSet
 set_in scratch = record { moves = scratch.table.moves }
@@ -81,7 +88,9 @@ pub record CountsLooks (set : GlobSet) (from : ℕ) (found : Option ℕ) (steps 
   pub looks : AreLooks (length set.moves.ends.items) from (found_or (length set.moves.ends.items) found) new.looks
   pub total : Counts old.total (steps + new.looks) new.total
 
--- A search gives up with a spent scratch, where it reads nothing, and else only where it filled too many cells.
+-- A search gives up with a spent scratch, where it reads nothing, and else only where it filled too many cells. Its table is cleared
+-- only where it was full.
 pub record GivesUp (old new : SetScratch) : Type 0 where
   pub spent : old.losses ≡ most_losses → IsTrue new.gave_up × (new.table.steps ≡ 0)
   pub reason : IsTrue new.gave_up → (old.losses ≡ most_losses) ⊎ (new.table.misses ≡ most_misses)
+  pub cleared : ClearsWhenFull new.table.misses old.table new.table

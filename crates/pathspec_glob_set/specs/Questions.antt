@@ -1,5 +1,5 @@
 -- What is asked of the places of globs when a set is made.
-use Rattle.std.specs.Prelude.{◌≡◌, ◌<◌, ◌≤◌, ◌+◌, ℕ, Bool, List, length, get_or, ◌==◌}
+use Rattle.std.specs.Prelude.{◌≡◌, ◌<◌, ◌≤◌, ◌+◌, ℕ, suc, Bool, false, List, length, get_or, ◌==◌}
 use Rattle.pathspec_glob_set.specs.declared.columns.Question.{Question}
 use Rattle.pathspec_glob_set.specs.declared.columns.Question.TheVariants.{Wide, Over, Takes, Behind, Cuts}
 use Rattle.pathspec_glob_set.specs.declared.member.Member.{Member}
@@ -23,6 +23,10 @@ IsTakenAlike glob b other = (i : ℕ) → i ≤ size_of glob → takes_before gl
 -- each token of globs takes both bytes or neither
 abbrev pub AreTakenAlike : List Member → ℕ → ℕ → Type 0
 AreTakenAlike globs b other = (g : ℕ) (glob : Member) → IsAt globs g glob → IsTakenAlike glob b other
+
+-- a byte that is taken as the byte before gets no mark
+abbrev pub LeavesUnmarked : (ℕ → Bool) → List Bool → List Bool → Type 0
+LeavesUnmarked takes old new = (b : ℕ) → takes (suc b) ≡ takes b → get_or old (suc b) false ≡ false → get_or new (suc b) false ≡ false
 
 -- The first so many bytes have a class each, whose places are those that take the byte.
 pub record AreClasses (globs : List Member) (ends : List ℕ) (places bytes : ℕ) (classes : Classes) : Type 0 where

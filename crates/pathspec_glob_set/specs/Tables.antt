@@ -1,5 +1,5 @@
 -- Tables of rows that texts led to, and what a question to one tells.
-use Rattle.std.specs.Prelude.{◌≡◌, ◌≢◌, ◌+◌, ◌*◌, ◌<◌, ◌≤◌, ℕ, Bool, true, false, List, length, get_or, set}
+use Rattle.std.specs.Prelude.{◌≡◌, ◌≢◌, ◌+◌, ◌*◌, ◌<◌, ◌≤◌, ◌++◌, ℕ, Bool, true, false, List, [], ◌∷◌, length, get_or, set, Option, Some, None}
 use Rattle.pathspec_glob_set.specs.declared.moves.Moves.{Moves}
 use Rattle.pathspec_glob_set.specs.declared.table.Table.{Table}
 use Rattle.pathspec_glob_set.specs.declared.table.Lead.{Lead}
@@ -68,13 +68,35 @@ pub record KeepsRoom (old new : Table) : Type 0 where
   pub moves : new.moves ≡ old.moves
   pub rows : length new.rows.items ≡ length old.rows.items
 
--- what is known of sinks may be more, and all else stays
+-- What is known of sinks stays known and may be more, and all else stays.
 pub record IsSameButSinks (old new : Table) : Type 0 where
   pub moves : new.moves ≡ old.moves
   pub rows : new.rows ≡ old.rows
+  pub firsts : new.firsts ≡ old.firsts
+  pub cells : new.cells ≡ old.cells
+  pub sinks : (r : ℕ) → get_or old.sinks.items r false ≡ true → get_or new.sinks.items r false ≡ true
   pub used : new.used ≡ old.used
-  pub steps : new.steps ≡ old.steps
+  pub index : new.index ≡ old.index
+  pub spare : new.spare ≡ old.spare
   pub misses : new.misses ≡ old.misses
+  pub cleared : new.cleared ≡ old.cleared
+  pub steps : new.steps ≡ old.steps
+
+-- a table of so many rows, of which the first is in use alone, and which was never cleared
+pub record IsNewTable (count : ℕ) (table : Table) : Type 0 where
+  pub rows : length table.rows.items ≡ count
+  pub used : table.used ≡ 1
+  pub cleared : table.cleared ≡ false
+
+-- Where at most so many cells were filled, each adds a row at most. The table is cleared only where it was full by then, and rows are
+-- lost only where it is cleared.
+pub record ClearsWhenFull (filled : ℕ) (old new : Table) : Type 0 where
+  pub grows : new.used ≤ old.used + filled
+  pub stays : old.cleared ≡ true → new.cleared ≡ true
+  pub full : old.cleared ≡ false → new.cleared ≡ true → length old.rows.items < old.used + filled
+  pub anew : old.cleared ≡ false → new.cleared ≡ true → new.used ≤ filled + 1
+  pub used : new.cleared ≡ false → old.used ≤ new.used
+  pub kept : new.cleared ≡ false → (r : ℕ) → r < old.used → row_of new r ≡ row_of old r
 
 -- nothing of a text is counted yet
 pub record BeginsText (table : Table) : Type 0 where
@@ -113,6 +135,7 @@ pub record Counts (asked : ℕ) (old new : Table) : Type 0 where
 pub record AreFewSteps (places bytes : ℕ) (table : Table) : Type 0 where
   pub filled : table.misses ≤ bytes
   pub few : table.misses ≤ most_misses
+  pub least : table.misses * (places + 1) ≤ table.steps
   pub steps : table.steps ≤ bytes + table.misses * (places + 1)
   pub bound : table.steps ≤ bytes * (places + 2)
 
@@ -127,6 +150,12 @@ pub record AddsSpare (old new : Table) (added : ℕ) : Type 0 where
   pub spare : new.spare ≡ old.spare
   pub steps : new.steps ≡ old.steps
   pub misses : new.misses ≡ old.misses
+  pub cleared : new.cleared ≡ old.cleared
+
+-- a text, with one byte behind it if there is one
+abbrev pub text_with : List ℕ → Option ℕ → List ℕ
+text_with text None = text
+text_with text (Some byte) = text ++ byte ∷ []
 
 -- What a walk over a text finds: the row that the text leads to, that it leads to no place, or that too many cells were filled.
 abbrev pub Finds : Table → List ℕ → Lead → Type 0

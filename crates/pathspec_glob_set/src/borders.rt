@@ -1,15 +1,17 @@
 //! The borders of bytes: where some token takes a byte and not the one before, or the other way about.
 ghost use Rattle.std.specs.Prelude.{◌≡◌, ◌+◌, ◌<◌, ℕ, suc, false, length, get_or};
 ghost use Rattle.pathspec_glob.specs.GlobSteps.{token_takes};
-ghost use Rattle.pathspec_glob_set.specs.Questions.{AreTakenAlike, IsTakenAlike};
+ghost use Rattle.pathspec_glob_set.specs.Questions.{AreTakenAlike, IsTakenAlike, LeavesUnmarked};
 ghost use Rattle.pathspec_glob_set.specs.Sets.{size_of};
 
 use crate::member::Member;
 
 /// Marks each byte that some token takes and not the byte before, or the other way about. It asks each token of each byte.
 pub fn borders_of(globs: &[Member]) -> [bool; 256]
-    ensures { (b : ℕ) → suc b < 256 → get_or result (suc b) false ≡ false
+    ensures marked { (b : ℕ) → suc b < 256 → get_or result (suc b) false ≡ false
         → AreTakenAlike globs.now (suc b) b }
+    ensures only { (b : ℕ) → AreTakenAlike globs.now (suc b) b
+        → get_or result (suc b) false ≡ false }
 {
     let mut borders = [false; 256];
     for glob in globs {
@@ -22,6 +24,8 @@ pub fn borders_of(globs: &[Member]) -> [bool; 256]
 fn mark(borders: &mut [bool; 256], glob: &Member)
     ensures marked { (b : ℕ) → suc b < 256 → get_or borders.new (suc b) false ≡ false
         → IsTakenAlike glob.now (suc b) b }
+    ensures only { (b : ℕ) → IsTakenAlike glob.now (suc b) b
+        → get_or borders.old (suc b) false ≡ false → get_or borders.new (suc b) false ≡ false }
     ensures kept { (b : ℕ) → get_or borders.new b false ≡ false
         → get_or borders.old b false ≡ false }
 {
@@ -36,6 +40,8 @@ fn mark_token(borders: &mut [bool; 256], glob: &Member, place: usize)
     ensures marked { (b : ℕ) → suc b < 256 → get_or borders.new (suc b) false ≡ false
         → token_takes glob.now.tokens glob.now.case place (suc b)
         ≡ token_takes glob.now.tokens glob.now.case place b }
+    ensures only { LeavesUnmarked (token_takes glob.now.tokens glob.now.case place)
+        borders.old borders.new }
     ensures kept { (b : ℕ) → get_or borders.new b false ≡ false
         → get_or borders.old b false ≡ false }
 {

@@ -17,7 +17,7 @@ use std::alloc::{AllocError, Global};
 const MOST_PLACES: usize = 131_072;
 
 /// How many bytes the rows of a scratch take at most.
-const MOST_BYTES: usize = 6 << 20;
+const MOST_BYTES: usize = 9 << 20;
 
 /// Classes of bytes.
 #[derive(Drop)]
@@ -70,17 +70,29 @@ pub fn are_few(globs: &[Member]) -> bool
     true
 }
 
-/// How many rows a scratch has: 1,024, or 4,096 from 64 globs on, and fewer where they would take more than 6 MiB.
+/// How many rows a scratch has: 1,024, or 4,096 from 64 globs on, but 60 for each star behind the front, up to 32,768. They are fewer
+/// where they would take more than 9 MiB. 676 globs such as `*aa*` led to 17,800 rows, one for each glob and letter.
 pub fn rows_for(moves: &Moves) -> usize
     ensures many { 2 ≤ result }
     ensures few { result ≤ nowhere }
 {
-    let most = if moves.ends.len() < 64 { 1024 } else { 4096 };
+    let least = if moves.ends.len() < 64 { 1024 } else { 4096 };
+    let most = inner_stars(moves).saturating_mul(60).max(least).min(32_768);
     // A bit for each place, two bytes for each class, and some sixty more.
     let bytes = (moves.places() / 8)
         .saturating_add(moves.width().saturating_mul(2))
         .saturating_add(64);
     MOST_BYTES.checked_div(bytes).unwrap_or(2).max(2).min(most)
+}
+
+/// How many tokens take any number of bytes, but for those that begin a glob that cuts.
+fn inner_stars(moves: &Moves) -> usize {
+    let mut stars: usize = 0;
+    for index in 0..moves.wide.len() / 64 + 1 {
+        let inner = moves.wide.word(index) & !moves.cuts.word(index);
+        stars = stars.saturating_add(inner.count_ones() as usize);
+    }
+    stars
 }
 
 /// Sorts bytes into classes: those of one class are taken by the same tokens. A byte is of the class of the byte before, unless some

@@ -73,7 +73,8 @@ pub fn cut(row: &mut BitVec, cuts: &BitVec, ends: &[usize])
     }
 }
 
-/// The first glob that cuts and matches whatever stands before, or their count.
+/// The first glob that cuts and matches whatever stands before, or their count. Its last place stands behind the first that a row and
+/// `cuts` share.
 fn first_settled(row: &BitVec, cuts: &BitVec, ends: &[usize]) -> usize
     requires cuts { length cuts.now ≡ length row.now }
     requires ends { (g : ℕ) → g < length ends.now → get_or ends.now g 0 < length row.now }
@@ -81,13 +82,34 @@ fn first_settled(row: &BitVec, cuts: &BitVec, ends: &[usize]) -> usize
     ensures settled { result < length ends.now
         → is_settled cuts.now row.now (get_or ends.now result 0) ≡ true }
 {
-    for glob in 0..ends.len() {
-        let place = ends[glob].saturating_sub(1);
-        if row.holds(place) && cuts.holds(place) {
-            return glob;
+    match ends.binary_search(&first_shared(row, cuts)) {
+        Ok(glob) if is_settled(row, cuts, ends[glob]) => glob,
+        _ => ends.len(),
+    }
+}
+
+/// Whether a glob with this last place cuts and matches whatever stands before.
+fn is_settled(row: &BitVec, cuts: &BitVec, end: usize) -> bool
+    requires cuts { length cuts.now ≡ length row.now }
+    requires end { end < length row.now }
+    ensures { result ≡ is_settled cuts.now row.now end }
+{
+    let place = end.saturating_sub(1);
+    row.holds(place) && cuts.holds(place)
+}
+
+/// The place behind the first that a row and `cuts` share, or 0.
+fn first_shared(row: &BitVec, cuts: &BitVec) -> usize
+    requires { length cuts.now ≡ length row.now }
+{
+    for index in 0..row.len() / 64 + 1 {
+        let shared = row.word(index) & cuts.word(index);
+        if shared != 0 {
+            let place = shared.trailing_zeros() as usize;
+            return index.wrapping_mul(64).wrapping_add(place).wrapping_add(1);
         }
     }
-    ends.len()
+    0
 }
 
 /// Leaves out all places behind one.

@@ -1,8 +1,9 @@
 //! Many globs at once: which of them match a text, in one pass over the text from its end.
-ghost use Rattle.std.specs.Prelude.{◌≡◌, ◌+◌, ◌%◌, ◌<◌, ◌≤◌, ◌^◌, ◌↔◌, ℕ, List, length, None, IfOk, IfSome, IsTrue};
+ghost use Rattle.std.specs.Prelude.{◌≡◌, ◌+◌, ◌%◌, ◌<◌, ◌≤◌, ◌^◌, ◌↔◌, ◌++◌, ℕ, List, [], ◌∷◌, length, None, IfOk, IfSome, IsTrue};
+ghost use Rattle.pathspec_glob.specs.Bytes.{slash};
 ghost use Rattle.pathspec_glob.specs.Counts.{Counts};
 ghost use Rattle.pathspec_glob_set.specs.Moves.{AreAlike};
-ghost use Rattle.pathspec_glob_set.specs.Tables.{is_unknown, AreFewSteps, Finds, IsInUse, IsKnown, IsTable};
+ghost use Rattle.pathspec_glob_set.specs.Tables.{is_unknown, text_with, AreFewSteps, Finds, IsInUse, IsKnown, IsTable};
 ghost use Rattle.pathspec_glob_set.specs.Sizes.{most_losses, most_places, AreLooks};
 ghost use Rattle.pathspec_glob_set.specs.Sets.{count_places};
 
@@ -43,7 +44,7 @@ pub struct SetScratch {
 }
 
 impl GlobSet {
-    ghost use Rattle.pathspec_glob_set.specs.Answers.{losses_after, CountsLooks, GivesUp, IsMatch, IsNumber, IsSetOf, LeavesOutNone};
+    ghost use Rattle.pathspec_glob_set.specs.Answers.{losses_after, CountsLooks, GivesUp, IsFresh, IsMatch, IsNumber, IsSetOf, LeavesOutNone};
 
     /// Makes the set of some globs; none where they have more than 2^17 places, one for each token and one more for each glob.
     ///
@@ -69,13 +70,14 @@ impl GlobSet {
         self.moves.ends.len()
     }
 
-    /// Makes room to search the set in, of 1,024 rows, or 4,096 where it has 64 globs or more. Rows take at most 6 MiB, so a set
-    /// of many places has fewer.
+    /// Makes room to search the set in, of 1,024 rows, or 4,096 where it has 64 globs or more, but 60 for each star behind the front
+    /// of a glob, up to 32,768. They take at most 9 MiB, so a set of many places has fewer.
     ///
     /// # Errors
     /// Memory runs out.
     pub fn new_scratch(&self, alloc: Global) -> Result<SetScratch, AllocError>
-        ensures { IfOk result (λ scratch. AreAlike scratch.table.moves self.now.moves) }
+        ensures alike { IfOk result (λ scratch. AreAlike scratch.table.moves self.now.moves) }
+        ensures fresh { IfOk result IsFresh }
     {
         let moves = self.moves.copy(alloc)?;
         let rows = rows_for(&moves);
@@ -172,13 +174,41 @@ impl SetScratch {
         ensures total { Counts self.old.total self.new.table.steps self.new.total }
         ensures room { self.new.table.moves ≡ self.old.table.moves }
     {
+        self.read_with(text, None);
+    }
+
+    /// Reads the path of a directory and a slash behind it, as [`SetScratch::read`] does a text.
+    pub fn read_directory(&mut self, directory: &[u8])
+        ensures read { HasRead self.new (directory.now ++ slash ∷ []) }
+        ensures gives_up { GivesUp self.old self.new }
+        ensures losses { self.new.losses
+            ≡ losses_after self.new.gave_up self.new.table.cleared self.old.losses }
+        ensures steps { AreFewSteps (length self.old.table.moves.wide)
+            (length (directory.now ++ slash ∷ [])) self.new.table }
+        ensures total { Counts self.old.total self.new.table.steps self.new.total }
+        ensures room { self.new.table.moves ≡ self.old.table.moves }
+    {
+        self.read_with(directory, Some(b'/'));
+    }
+
+    /// Reads a text, with one byte behind it if there is one.
+    fn read_with(&mut self, text: &[u8], behind: Option<u8>)
+        ensures read { HasRead self.new (text_with text.now behind) }
+        ensures gives_up { GivesUp self.old self.new }
+        ensures losses { self.new.losses
+            ≡ losses_after self.new.gave_up self.new.table.cleared self.old.losses }
+        ensures steps { AreFewSteps (length self.old.table.moves.wide)
+            (length (text_with text.now behind)) self.new.table }
+        ensures total { Counts self.old.total self.new.table.steps self.new.total }
+        ensures room { self.new.table.moves ≡ self.old.table.moves }
+    {
         if self.losses == MOST_LOSSES {
             self.table.begin();
             self.gave_up = true;
             self.lead = Lead::Unknown;
             return;
         }
-        let lead = self.table.walk(text);
+        let lead = self.table.walk(text, behind);
         self.total = self.total.wrapping_add(self.table.steps());
         self.gave_up = is_unknown(lead);
         self.lead = lead;

@@ -1,9 +1,9 @@
 //! Rows that texts led to, with a cell for each class of bytes: where it leads, once that was asked.
-ghost use Rattle.std.specs.Prelude.{◌≡◌, ◌+◌, ◌*◌, ◌-◌, ◌<◌, ◌≤◌, ◌^◌, ℕ, length, get_or, set, replicate, IfOk, IfSome, IsTrue};
+ghost use Rattle.std.specs.Prelude.{◌≡◌, ◌+◌, ◌*◌, ◌-◌, ◌<◌, ◌≤◌, ◌^◌, ℕ, false, length, get_or, set, replicate, IfOk, IfSome, IsTrue};
 ghost use Rattle.pathspec_glob.specs.BitVecs.{holds};
 ghost use Rattle.pathspec_glob_set.specs.Moves.{takes_of, IsSink, IsStep};
 ghost use Rattle.pathspec_glob_set.specs.Sizes.{row_at, AreLooks, IsFirst};
-ghost use Rattle.pathspec_glob_set.specs.Tables.{nowhere, unknown, AddsSpare, BeginsText, Counts, IsKnown, IsSameButSinks, IsSpare, IsTable, KeepsRoom, Leads};
+ghost use Rattle.pathspec_glob_set.specs.Tables.{nowhere, unknown, AddsSpare, BeginsText, ClearsWhenFull, Counts, IsKnown, IsNewTable, IsSameButSinks, IsSpare, IsTable, KeepsRoom, Leads};
 
 use crate::moves::Moves;
 use pathspec_glob::BitVec;
@@ -32,7 +32,8 @@ pub enum Lead {
     Unknown,
 }
 
-/// Rows that texts led to, with a cell for each class of bytes. Its only question is where a byte leads, and each is counted.
+/// Rows that texts led to, with a cell for each class of bytes. It says where a byte leads, and counts each such question. Whether a row
+/// is a sink, and which glob it says first, it says without a step.
 #[derive(Drop)]
 pub struct Table {
     moves: Moves,
@@ -65,6 +66,7 @@ impl Table {
         requires many { 2 ≤ count }
         requires few { count ≤ nowhere }
         ensures table { IfOk result IsTable }
+        ensures new { IfOk result (IsNewTable count) }
         ensures moves { IfOk result (λ table. table.moves ≡ moves) }
     {
         let rows = copies_of(alloc, &moves.start, count)?;
@@ -119,6 +121,7 @@ impl Table {
         ensures table { IsTable self.new }
         ensures begun { BeginsText self.new }
         ensures room { KeepsRoom self.old self.new }
+        ensures cleared { ClearsWhenFull 0 self.old self.new }
     {
         self.steps = 0;
         self.misses = 0;
@@ -135,6 +138,7 @@ impl Table {
             self.new result }
         ensures counted { Counts 1 self.old self.new }
         ensures room { KeepsRoom self.old self.new }
+        ensures cleared { ClearsWhenFull (self.new.misses - self.old.misses) self.old self.new }
     {
         self.steps += 1;
         let class = self.moves.class(byte);
@@ -153,7 +157,8 @@ impl Table {
     pub fn is_sink(&self, row: usize) -> bool
         requires table { IsTable self.now }
         requires row { row < self.now.used }
-        ensures { IsTrue result → IsSink self.now.moves (row_at self.now.rows.items row) }
+        ensures known { result ≡ get_or self.now.sinks.items row false }
+        ensures sink { IsTrue result → IsSink self.now.moves (row_at self.now.rows.items row) }
     {
         self.sinks[row]
     }
@@ -219,6 +224,7 @@ impl Table {
             (row_at self.old.rows.items row) self.new result }
         ensures counted { Counts 0 self.old self.new }
         ensures room { KeepsRoom self.old self.new }
+        ensures cleared { ClearsWhenFull (self.new.misses - self.old.misses) self.old self.new }
     {
         if self.misses == MOST_MISSES {
             return Lead::Unknown;
@@ -240,6 +246,7 @@ impl Table {
         ensures steps { self.new.steps ≡ self.old.steps + length self.old.moves.wide + 1 }
         ensures misses { self.new.misses ≡ self.old.misses }
         ensures room { KeepsRoom self.old self.new }
+        ensures cleared { ClearsWhenFull 1 self.old self.new }
     {
         let at = self.place(row, class);
         let steps = &mut self.steps;

@@ -2,7 +2,7 @@
 use crate::numbers::Numbers;
 use crate::sets::{Written, cutting, is_right, listed, made, next, next_of};
 use pathspec_glob::Case::Sensitive;
-use pathspec_glob::Mode::Shell;
+use pathspec_glob::Mode::{PathAware, Shell};
 use pathspec_glob::Tokens;
 use pathspec_glob_set::{GlobSet, Member};
 use std::alloc::{AllocError, Global};
@@ -158,6 +158,28 @@ fn what_globs_cut_off_fills_no_cells(rt: HostRuntime) -> Result<(), Fail> {
 }
 
 #[test]
+fn globs_cut_off_behind_the_first_word(rt: HostRuntime) -> Result<(), Fail> {
+    // Each has four places, so those of the letters that are read stand in the second word of a row.
+    const LETTERS: &[&[u8]] = &[
+        b"*i*", b"*j*", b"*k*", b"*l*", b"*m*", b"*n*", b"*o*", b"*p*", b"*q*", b"*r*", b"*s*",
+        b"*t*", b"*u*", b"*v*", b"*w*", b"*x*", b"*a*", b"*b*", b"*c*", b"*d*", b"*e*", b"*f*",
+        b"*g*", b"*h*",
+    ];
+    let mut numbers = Numbers(13);
+    let mut written = listed(rt.alloc(), LETTERS, Shell, Sensitive)?;
+    cutting(&mut written);
+    let mut searched = made(rt.alloc(), &written)?;
+    for _round in 0..ROUNDS {
+        let text = letters(rt.alloc(), &mut numbers, 8)?;
+        next(&mut searched, &text, 0, written.len());
+    }
+    // A row tells the least letter, of eight or none, and has a cell for each letter. A filled cell is 97 steps.
+    let before = searched.scratch.total_steps();
+    assert!(rt; before <= (ROUNDS as u128) * 8 + 9 * 8 * 97, "{before}");
+    Ok(())
+}
+
+#[test]
 fn a_set_of_too_many_places_is_not_made(rt: HostRuntime) -> Result<(), Fail> {
     // A place for each token, and one more for each glob.
     for (bytes, count, is_made) in [(10_000, 1, true), (131_072, 1, false), (100_000, 2, false)] {
@@ -243,6 +265,57 @@ fn a_text_is_read_as_far_as_bytes_tell(rt: HostRuntime) -> Result<(), Fail> {
         next(&mut searched, text, 0, 3);
         assert_eq!(rt; next(&mut searched, text, 0, 3), *found);
         assert_eq!(rt; searched.scratch.last_steps(), *steps);
+    }
+    Ok(())
+}
+
+// A directory is read as the text of its path and a slash, from the slash on.
+#[test]
+fn a_directory_is_read_with_its_slash(rt: HostRuntime) -> Result<(), Fail> {
+    const ROWS: &[(&[u8], Option<usize>, u128)] = &[
+        (b"a/target", Some(0), 9),
+        (b"target", None, 7),
+        (b"a/b.d", Some(1), 4),
+        (b"b.d", Some(1), 4),
+        (b"a/b.c", None, 2),
+        (b"", None, 1),
+        (b"x", None, 2),
+    ];
+    let alloc = rt.alloc();
+    let written = listed(alloc, &[b"*/target/", b"*.d/"], Shell, Sensitive)?;
+    let mut searched = made(alloc, &written)?;
+    for (directory, found, steps) in ROWS {
+        // A text fills eight cells at most.
+        for _round in 0..3 {
+            searched.scratch.read_directory(directory);
+        }
+        assert_eq!(rt; next_of(&mut searched, 0), *found);
+        assert_eq!(rt; searched.scratch.last_steps(), *steps);
+    }
+    Ok(())
+}
+
+// Where a glob ends with a star, the row of its slash is often a sink.
+#[test]
+fn a_directory_is_read_as_its_text(rt: HostRuntime) -> Result<(), Fail> {
+    let alloc = rt.alloc();
+    let globs: &[&[u8]] = &[b"*/node_modules/*", b"*/a/*", b"**/b/**", b"*", b"?/"];
+    for mode in [Shell, PathAware] {
+        let written = listed(alloc, globs, mode, Sensitive)?;
+        let mut searched = made(alloc, &written)?;
+        for directory in ["", "a", "x/a", "x/node_modules/y", "b", "/b/c"] {
+            let text = format!(in alloc; "{directory}/")?.into_bytes();
+            let count = written.len();
+            // A text fills eight cells at most.
+            for _round in 0..4 {
+                next(&mut searched, &text, 0, count);
+            }
+            let wanted = next(&mut searched, &text, 0, count);
+            let steps = searched.scratch.last_steps();
+            searched.scratch.read_directory(directory.as_bytes());
+            assert_eq!(rt; next_of(&mut searched, 0), wanted);
+            assert_eq!(rt; searched.scratch.last_steps(), steps);
+        }
     }
     Ok(())
 }

@@ -57,7 +57,7 @@ loop-byte-preserved c =
           let all : length here.of_byte ≡ 256 = ap (λ (k : Classes). length k.of_byte) w.classes-is ∙ was.all in
           let within : byte < length here.of_byte = omega (arith, all, low) in
           let alike : AreTakenAlike globs byte b =
-          subst (λ (k : ℕ). AreTakenAlike globs k b) is (c.borders_of-borders.ensures b less (ap (λ (k : ℕ). get_or marks k false) is ∙ w.if-borders-byte.false)) in
+          subst (λ (k : ℕ). AreTakenAlike globs k b) is (c.borders_of-borders.ensures.marked b less (ap (λ (k : ℕ). get_or marks k false) is ∙ w.if-borders-byte.false)) in
           record {
             classes = of-equal globs ends places (byte + 1) byte here old class (get_or old.of_byte b 0) w.classes-is (w.class-is ∙ was.class b is)
                 (same-class globs ends places byte b old was.classes is alike long);

@@ -1,111 +1,84 @@
-use Rattle.std.proofs.Common.{◌≡◌, ◌+◌, ◌-◌, [], refl, sym, ◌∙◌, subst, ap, arith, length, drop, get_or}
-use Rattle.std.proofs.Math.ListN.{drop_of_length-le}
+-- The walk begins behind the text, with the byte that stands there if there is one.
+use Rattle.std.proofs.Common.{◌+◌, ◌<◌, ◌≤◌, [], ◌∷◌, sym, ◌∙◌, ap, subst, append-nil, arith, length, length-append}
 use Rattle.pathspec_glob_set.specs.Moves.{LeadsNowhere, LeadsTo}
 use Rattle.pathspec_glob_set.specs.Moves.LeadsTo.{empty}
-use Rattle.pathspec_glob_set.specs.Tables.{row_of}
-use Rattle.pathspec_glob_set.proofs.TableProofs.{before-read, begun-steps, counts-more, few-steps, leads-more, lost-front, lost-step, sink-front, steps-fit}
+use Rattle.pathspec_glob_set.specs.Tables.{row_of, text_with, AreFewSteps, Finds, KeepsRoom}
+use Rattle.pathspec_glob_set.proofs.TableProofs.{clears-begun, clears-on, few-begun, few-for_more, few-more, leads-more, lost-behind, lost-step}
 use Rattle.pathspec_glob_set.proofs.table.Table.walk.Goals as goal
 
-pub loop-back-init : goal.loop-back-init
-loop-back-init c =
-    let table = c.begin.new.self in
+pub returns-in_default-clause-found : goal.returns-in_default-clause-found
+returns-in_default-clause-found c =
     let text = c.args.text.now in
-    let was = c.begin.ensures.table in
-    let none : drop (length text - 0) text ≡ [] = drop_of_length-le text {i = length text - 0} (omega arith) in
-    record {
-      table = was;
-      row = was.rows.some;
-      leads = subst (λ t. LeadsTo table.moves t (row_of table 0)) (sym none) (subst (λ r. LeadsTo table.moves [] r) (sym was.rows.first) empty);
-      filled = omega (arith, c.begin.ensures.begun.misses);
-      steps = begun-steps table.steps table.misses (length c.args.self.now.moves.wide) c.begin.ensures.begun.steps c.begin.ensures.begun.misses;
-      room = c.begin.ensures.room;
-    }
+    let begun = c.begin.new.self in
+    let leads = subst (λ r. LeadsTo begun.moves [] r) (sym c.begin.ensures.table.rows.first) empty in
+    subst (λ b. Finds c.walk_on.new.self (text_with text b) c.walk_on.result) (sym c.in_default.is)
+    (subst (λ t. Finds c.walk_on.new.self t c.walk_on.result) (append-nil text) (c.walk_on.ensures.found [] leads))
 
-pub lead-requires : goal.lead-requires
-lead-requires c =
-    let was = c.loop-back.invariant in
-    let moves = c.args.self.now.moves in
-    record {
-      table = was.table;
-      row = was.row;
-      steps = steps-fit c.loop-back.self.steps c.loop-back.self.misses c.loop-back.back (length moves.wide) was.steps was.table.misses moves.sizes.small (omega arith);
-    }
+pub returns-in_default-clause-steps : goal.returns-in_default-clause-steps
+returns-in_default-clause-steps c =
+    let text = c.args.text.now in
+    let begun = c.begin.new.self in
+    let places = length begun.moves.wide in
+    let few = c.walk_on.ensures.steps 0 (few-begun places begun c.begin.ensures.begun) in
+    let low : 0 + length text ≤ length (text_with text c.args.behind) = subst (λ b. 0 + length text ≤ length (text_with text b)) (sym c.in_default.is) (omega arith) in
+    subst (λ m. AreFewSteps (length m.wide) (length (text_with text c.args.behind)) c.walk_on.new.self) c.begin.ensures.room.moves
+    (few-for_more places (0 + length text) (length (text_with text c.args.behind)) c.walk_on.new.self low few)
 
-pub loop-back-preserved : goal.loop-back-preserved
-loop-back-preserved c =
-    let was = c.loop-back.invariant in
-    let said = c.in-Row.ensures in
-    let old = c.loop-back.self in
+pub returns-in-Row-clause-found : goal.returns-in-Row-clause-found
+returns-in-Row-clause-found c =
+    let text = c.args.text.now in
+    let begun = c.begin.new.self in
     let new = c.lead.new.self in
-    let text = c.args.text.now in
-    let back = c.loop-back.back in
-    let i = length text - 1 - back in
-    record {
-      table = said.table;
-      row = said.leads.0;
-      filled = omega (arith, was.filled, said.counted.one);
-      leads = subst (λ t. LeadsTo new.moves t (row_of new c.in-Row.next)) (sym (before-read text back c.loop-back-test.true))
-          (leads-more old.moves new.moves (drop (length text - back) text) (get_or text i 0) (row_of old c.loop-back.row) (row_of new c.in-Row.next) said.room.moves (c.type_inv.text i).fits was.leads said.leads.1);
-      steps = counts-more old.steps new.steps old.misses new.misses back (length c.args.self.now.moves.wide) (length old.moves.wide) (ap (λ m. length m.wide) (sym was.room.moves)) was.steps said.counted.steps;
-      room = record { moves = said.room.moves ∙ was.room.moves; rows = said.room.rows ∙ was.room.rows };
-    }
+    let first = subst (λ r. LeadsTo begun.moves [] r) (sym c.begin.ensures.table.rows.first) empty in
+    let fits : c.in-Some.byte < 256 = omega arith in
+    let leads = leads-more begun.moves new.moves [] c.in-Some.byte (row_of begun 0) (row_of new c.in-Row.row) c.lead.ensures.room.moves fits first c.in-Row.ensures.leads.1 in
+    subst (λ b. Finds c.walk_on-in-Row.new.self (text_with text b) c.walk_on-in-Row.result) (sym c.in-Some.is) (c.walk_on-in-Row.ensures.found (c.in-Some.byte ∷ []) leads)
 
-pub returns-then-is_sink-clause-found : goal.returns-then-is_sink-clause-found
-returns-then-is_sink-clause-found c =
-    let was = c.loop-back.invariant in
-    let said = c.in-Row.ensures in
-    let old = c.loop-back.self in
+pub returns-in-Row-clause-steps : goal.returns-in-Row-clause-steps
+returns-in-Row-clause-steps c =
+    let text = c.args.text.now in
+    let begun = c.begin.new.self in
     let new = c.lead.new.self in
-    let text = c.args.text.now in
-    let back = c.loop-back.back in
-    let i = length text - 1 - back in
-    let next = row_of new c.in-Row.next in
-    let leads = subst (λ t. LeadsTo new.moves t next) (sym (before-read text back c.loop-back-test.true))
-    (leads-more old.moves new.moves (drop (length text - back) text) (get_or text i 0) (row_of old c.loop-back.row) next said.room.moves (c.type_inv.text i).fits was.leads said.leads.1) in
-    (said.leads.0, sink-front new.moves (length text - (back + 1)) text next (λ k. (c.type_inv.text k).fits) (c.if-is_sink.ensures refl) leads)
+    let walked = c.walk_on-in-Row.new.self in
+    let places = length new.moves.wide in
+    let one = few-more places 0 begun new (ap (λ m. length m.wide) (sym c.lead.ensures.room.moves)) c.lead.ensures.table.misses c.lead.ensures.counted (few-begun places begun c.begin.ensures.begun) in
+    let few = c.walk_on-in-Row.ensures.steps (0 + 1) one in
+    let low : 0 + 1 + length text ≤ length (text_with text c.args.behind) =
+    subst (λ b. 0 + 1 + length text ≤ length (text_with text b)) (sym c.in-Some.is) (omega (arith, length-append text (c.in-Some.byte ∷ []))) in
+    subst (λ m. AreFewSteps (length m.wide) (length (text_with text c.args.behind)) walked) c.begin.ensures.room.moves
+    (subst (λ m. AreFewSteps (length m.wide) (length (text_with text c.args.behind)) walked) c.lead.ensures.room.moves
+    (few-for_more places (0 + 1 + length text) (length (text_with text c.args.behind)) walked low few))
 
-pub returns-in-Nowhere : goal.returns-in-Nowhere
-returns-in-Nowhere c =
-    let was = c.loop-back.invariant in
-    let said = c.in-Nowhere.ensures in
-    let old = c.loop-back.self in
+pub returns-in-Nowhere-clause-found : goal.returns-in-Nowhere-clause-found
+returns-in-Nowhere-clause-found c =
+    let text = c.args.text.now in
+    let begun = c.begin.new.self in
     let new = c.lead.new.self in
-    let text = c.args.text.now in
-    let back = c.loop-back.back in
-    let i = length text - 1 - back in
-    let counted = counts-more old.steps new.steps old.misses new.misses back (length c.args.self.now.moves.wide) (length old.moves.wide) (ap (λ m. length m.wide) (sym was.room.moves)) was.steps said.counted.steps in
-    record {
-      table = said.table;
-      found = lost-front new.moves (length text - (back + 1)) text (λ k. (c.type_inv.text k).fits)
-          (subst (λ t. LeadsNowhere new.moves t) (sym (before-read text back c.loop-back-test.true))
-          (lost-step old.moves new.moves (drop (length text - back) text) (get_or text i 0) (row_of old c.loop-back.row) said.room.moves (c.type_inv.text i).fits was.leads said.leads));
-      steps = few-steps (length c.args.self.now.moves.wide) (length text) (back + 1) new counted (omega (arith, was.filled, said.counted.one)) said.table.misses (omega (arith, c.loop-back-test.true));
-      room = record { moves = said.room.moves ∙ was.room.moves; rows = said.room.rows ∙ was.room.rows };
-    }
+    let first = subst (λ r. LeadsTo begun.moves [] r) (sym c.begin.ensures.table.rows.first) empty in
+    let fits : c.in-Some.byte < 256 = omega arith in
+    let lost = lost-step begun.moves new.moves [] c.in-Some.byte (row_of begun 0) c.lead.ensures.room.moves fits first c.in-Nowhere.ensures.leads in
+    subst (λ b. LeadsNowhere new.moves (text_with text b)) (sym c.in-Some.is) (lost-behind new.moves text (c.in-Some.byte ∷ []) (λ k. (c.type_inv.text k).fits) lost)
 
-pub returns-in-Unknown : goal.returns-in-Unknown
-returns-in-Unknown c =
-    let was = c.loop-back.invariant in
-    let said = c.in-Unknown.ensures in
-    let old = c.loop-back.self in
+pub returns-in_default-clause-cleared : goal.returns-in_default-clause-cleared
+returns-in_default-clause-cleared c = c.walk_on.ensures.cleared c.args.self.now c.begin.ensures.room (clears-begun c.args.self.now c.begin.new.self c.begin.ensures.begun c.begin.ensures.cleared)
+
+pub returns-in-Row-clause-cleared : goal.returns-in-Row-clause-cleared
+returns-in-Row-clause-cleared c =
+    let was = c.args.self.now in
+    let begun = c.begin.new.self in
     let new = c.lead.new.self in
-    let counted = counts-more old.steps new.steps old.misses new.misses c.loop-back.back (length c.args.self.now.moves.wide) (length old.moves.wide) (ap (λ m. length m.wide) (sym was.room.moves)) was.steps said.counted.steps in
-    record {
-      table = said.table;
-      found = said.leads;
-      steps = few-steps (length c.args.self.now.moves.wide) (length c.args.text.now) (c.loop-back.back + 1) new counted (omega (arith, was.filled, said.counted.one)) said.table.misses (omega (arith, c.loop-back-test.true));
-      room = record { moves = said.room.moves ∙ was.room.moves; rows = said.room.rows ∙ was.room.rows };
-    }
+    let room : KeepsRoom was new = record { moves = c.lead.ensures.room.moves ∙ c.begin.ensures.room.moves; rows = c.lead.ensures.room.rows ∙ c.begin.ensures.room.rows } in
+    let begins = clears-begun was begun c.begin.ensures.begun c.begin.ensures.cleared in
+    c.walk_on-in-Row.ensures.cleared was room (clears-on was begun new c.begin.ensures.room.rows c.lead.ensures.counted c.lead.ensures.cleared begins)
 
-pub returns : goal.returns
-returns c =
-    let was = c.loop-back.invariant in
-    let text = c.args.text.now in
-    let table = c.loop-back.self in
-    let all : length text - c.loop-back.back ≡ 0 = omega (arith, c.loop-back-test.false) in
-    record {
-      table = was.table;
-      found = (was.row, subst (λ k. LeadsTo table.moves (drop k text) (row_of table c.loop-back.row)) all was.leads);
-      steps = few-steps (length c.args.self.now.moves.wide) (length text) c.loop-back.back table was.steps was.filled was.table.misses (omega arith);
-      room = was.room;
-    }
+pub returns-in-Nowhere-clause-cleared : goal.returns-in-Nowhere-clause-cleared
+returns-in-Nowhere-clause-cleared c =
+    let was = c.args.self.now in
+    let begun = c.begin.new.self in
+    clears-on was begun c.lead.new.self c.begin.ensures.room.rows c.lead.ensures.counted c.lead.ensures.cleared (clears-begun was begun c.begin.ensures.begun c.begin.ensures.cleared)
+
+pub returns-in-Unknown-clause-cleared : goal.returns-in-Unknown-clause-cleared
+returns-in-Unknown-clause-cleared c =
+    let was = c.args.self.now in
+    let begun = c.begin.new.self in
+    clears-on was begun c.lead.new.self c.begin.ensures.room.rows c.lead.ensures.counted c.lead.ensures.cleared (clears-begun was begun c.begin.ensures.begun c.begin.ensures.cleared)
