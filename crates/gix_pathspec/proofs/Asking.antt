@@ -20,6 +20,7 @@ use Rattle.gix_pathspec.specs.Directories.{directory_matches, common_directory}
 use Rattle.gix_pathspec.specs.Search.{Numbered, Answer, search_of, answer, selects, specs_of}
 use Rattle.gix_pathspec.specs.Room.{source_of}
 use Rattle.gix_pathspec.specs.Sets.{member_places}
+use Rattle.gix_pathspec.specs.ExcludeSets.{is_exclude_member}
 use Rattle.pathspec_pattern.proofs.Asking.{parse}
 
 -- each row has the answer that is computed
@@ -40,6 +41,11 @@ kind text path = fitted text path false
 unfoldable pub set_member : List ℕ → List ℕ → Option Bool
 unfolding parse normal_form climb
 set_member prefix text = option_map (λ source. source.cuts) (option_and_then source_of (result_ok (parse text >>= λ s. normal_form prefix [] s)))
+
+-- whether a text's spec is an exclude that stands in the set of those that a skip question asks
+unfoldable pub exclude_member : List ℕ → List ℕ → Option Bool
+unfolding parse normal_form climb tokens_from
+exclude_member prefix text = option_map is_exclude_member (result_ok (parse text >>= λ s. normal_form prefix [] s))
 
 -- a look-up that knows of no attribute
 abbrev pub nothing_known : Table

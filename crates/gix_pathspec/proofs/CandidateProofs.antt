@@ -30,7 +30,7 @@ use Rattle.gix_pathspec.proofs.HeadSearchProofs.{drop-all, element-within, got-w
 
 -- ---- beside a set
 
-star-wild : (path : List ℕ) → begins_with path (star ∷ []) ≡ true → has_wildcard_at path 0 ≡ true
+pub star-wild : (path : List ℕ) → begins_with path (star ∷ []) ≡ true → has_wildcard_at path 0 ≡ true
 star-wild [] h = cc
 star-wild (b ∷ path) h = grind (arith, nat_tests, h)
 

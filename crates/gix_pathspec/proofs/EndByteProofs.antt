@@ -94,10 +94,10 @@ module _ (s : Spec) (wild : has_wildcard s ≡ true) where
       let low : n < length own = omega (arith, inside-path, length-folded folds s.path) in
       sym (wild-folded folds path n) ∙ (ap (λ t. has_wildcard_at t n) is ∙ (ap is_wildcard (get_or_append_left own rest 0 n low) ∙ (wild-folded folds s.path n ∙ own-wild)))
 
-  verbatim-wild : (path : List ℕ) (is_dir : Bool) → is_verbatim_match s path is_dir ≡ true → has_wildcard_at path (length (stem s)) ≡ true
+  pub verbatim-wild : (path : List ℕ) (is_dir : Bool) → is_verbatim_match s path is_dir ≡ true → has_wildcard_at path (length (stem s)) ≡ true
   verbatim-wild path is_dir h = path-wild path [] (verbatim_is s path is_dir h ∙ sym (append-nil (fold_case folds s.path)))
 
-  prefix-wild : (path : List ℕ) → is_prefix_match s path ≡ true → has_wildcard_at path (length (stem s)) ≡ true
+  pub prefix-wild : (path : List ℕ) → is_prefix_match s path ≡ true → has_wildcard_at path (length (stem s)) ≡ true
   prefix-wild path h =
       let p = IsBelow-from_is_below (fold_case folds path) (fold_case folds s.path) h in
       path-wild path (slash ∷ p.0) p.1

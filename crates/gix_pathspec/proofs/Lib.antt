@@ -42,5 +42,11 @@ pub mod CandidateProofs
 pub mod MemberProofs
 pub mod MemberStepProofs
 pub mod NextMemberProofs
+pub mod SetCountsProofs
+pub mod ExcludeSetProofs
+pub mod ExcludeMemberProofs
+pub mod ExcludeBesideProofs
+pub mod ExcludeMadeProofs
 mod SetRows
+mod ExcludeSetRows
 pub mod ReachProofs

@@ -121,16 +121,6 @@ places-more p (x ∷ specs) n =
     at true more = ap (λ ks. p ∷ ks) more
     at false more = more
 
--- their sources
-pub sources-more : (specs : List Numbered) (n : Numbered) → sources_in_order (specs ++ n ∷ []) ≡ sources_in_order specs ++ cons_option (source_of n.spec) []
-sources-more [] n = refl
-sources-more (x ∷ specs) n = at (source_of x.spec) (sources-more specs n)
-  where
-    at : (o : Option MemberSource) → sources_in_order (specs ++ n ∷ []) ≡ sources_in_order specs ++ cons_option (source_of n.spec) []
-        → cons_option o (sources_in_order (specs ++ n ∷ [])) ≡ cons_option o (sources_in_order specs) ++ cons_option (source_of n.spec) []
-    at (Some source) more = ap (λ xs. source ∷ xs) more
-    at None more = more
-
 -- ---- what a set says
 
 abbrev globs_of : List Numbered → List Member

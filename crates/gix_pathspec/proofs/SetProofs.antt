@@ -45,7 +45,7 @@ source-parts s source e = at (is_empty (stem s)) (is_empty (head s)) (has_wildca
     at true false w g p q r k is = cc
     at false h w g p q r k is = cc
 
-bytes-at : (text : List ℕ) → IsBytes text → (k : ℕ) → get_or text k 0 < 256
+pub bytes-at : (text : List ℕ) → IsBytes text → (k : ℕ) → get_or text k 0 < 256
 bytes-at [] h k = omega arith
 bytes-at (b ∷ text) h zero = h 0 0 (omega arith)
 bytes-at (b ∷ text) h (suc k) = bytes-at text (λ j d l. h (suc j) d (omega (arith, l))) k
@@ -61,7 +61,7 @@ member-is-glob s source path is bytes =
     ∙ matches-listed glob.mode (case_of s) (tokens glob.mode glob.pattern) path (bytes-at path bytes)
     ∙ in-mode s.mode s glob path (sym is.glob)
 
-length-none : {X : Type 0} (xs : List X) → is_empty xs ≡ true → length xs ≡ 0
+pub length-none : {X : Type 0} (xs : List X) → is_empty xs ≡ true → length xs ≡ 0
 length-none [] h = refl
 length-none (x ∷ xs) h = cc
 
@@ -72,7 +72,7 @@ set-leaves-out s source path e bytes plain off =
 
 -- ---- what cuts
 
-kept : (i b c d e : Bool) → not (i && not b) ≡ true → (not i || b || c || d && e) ≡ true
+pub kept : (i b c d e : Bool) → not (i && not b) ≡ true → (not i || b || c || d && e) ≡ true
 kept false b c d e h = refl
 kept true true c d e h = refl
 kept true false c d e h = cc

@@ -11,10 +11,10 @@ use Rattle.gix_pathspec.specs.Matching.{is_in_prefix_directory, glob_matches, is
 use Rattle.gix_pathspec.specs.Plain.{has_one_case}
 use Rattle.gix_pathspec.specs.Prefixes.{common_prefix}
 use Rattle.gix_pathspec.specs.Pruning.{stem_of, reaches, agree, is_total_exclude, can_match}
-use Rattle.gix_pathspec.specs.Reach.{is_tabled, path_of, taken_paths, is_shadowed, has_stem, stems_of, reaches_unshadowed}
+use Rattle.gix_pathspec.specs.Reach.{has_stem, is_shadowed, is_subtree_exclude, is_tabled, path_of, reaches_unshadowed, stems_of, subtree_excludes_of, taken_paths}
 use Rattle.gix_pathspec.specs.Skipping.{takes_whole, takes_rest, has_open_end, shadows, is_unshadowed, holds_nothing, may_skip, HaveOneCase}
 use Rattle.gix_pathspec.specs.SkipTables.{holds_nothing_by_tables, skips_by_tables}
-use Rattle.gix_pathspec.specs.SubtreeExcludes.{is_subtree_exclude, subtree_excludes_of, covers}
+use Rattle.gix_pathspec.specs.SubtreeExcludes.{covers}
 use Rattle.gix_pathspec.proofs.ReachProofs.{reached-by-stems}
 use Rattle.pathspec_heads.proofs.AnyProofs.{any-ext, any-or, any-kept}
 

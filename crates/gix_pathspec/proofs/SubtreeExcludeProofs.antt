@@ -1,5 +1,5 @@
 -- Excludes that are asked one by one: what they take, and that a directory which they take begins with their heads.
-use Rattle.std.proofs.Common.{◌≡◌, ℕ, suc, zero, ◌+◌, ◌-◌, ◌<◌, ◌≤◌, Bool, true, false, not, ◌&&◌, ◌||◌, cond, inl, inr, ◌⊎◌, refl, sym, ◌∙◌, ap, subst, List, [], ◌∷◌, ◌++◌, length, take, drop, filter, find, slice_get, get_or, All, Option, Some, None, is_some, arith, length-append}
+use Rattle.std.proofs.Common.{◌≡◌, ℕ, suc, zero, ◌+◌, ◌-◌, ◌%◌, ◌^◌, ◌<◌, ◌≤◌, Bool, true, false, not, ◌&&◌, ◌||◌, cond, inl, inr, ◌⊎◌, refl, sym, ◌∙◌, ap, subst, List, [], ◌∷◌, ◌++◌, length, take, drop, filter, find, slice_get, get_or, All, Option, Some, None, is_some, arith, length-append}
 use Rattle.std.proofs.lemmas.Bool.{and_parts, and_from, or_cases, or_left, or_right, cases_Bool, both_ways, not-true, not_from_false, false_from_ne_true}
 use Rattle.std.proofs.lemmas.List.Elements.{All-filter, All-map, filter-append}
 use Rattle.std.specs.List.{list_any, before_first}
@@ -9,6 +9,7 @@ use Rattle.pathspec_pattern.specs.declared.SearchMode.{SearchMode}
 use Rattle.pathspec_pattern.specs.declared.SearchMode.TheVariants.{ShellGlob, Literal, PathAwareGlob}
 use Rattle.pathspec_glob.specs.Counts.{Counts}
 use Rattle.pathspec_glob.specs.Globs.{GlobSource, AnswersGlob, GlobIsRelation}
+use Rattle.gix_pathspec.specs.SkipCounts.{asks_excludes, exclude_count, IsExcludeCounted, IsExcludeSetCounted, IsSkipCounted}
 use Rattle.gix_pathspec.specs.Bytes.{slash, is_empty, is_wildcard, fold_case, begins_with}
 use Rattle.gix_pathspec.specs.Paths.{ends_with_slash, without_last_slash}
 use Rattle.gix_pathspec.specs.Tokens.{tokens}
@@ -20,8 +21,8 @@ use Rattle.gix_pathspec.specs.Matching.{case_of, glob_matches, is_in_prefix_dire
 use Rattle.gix_pathspec.specs.Room.{glob_in_mode, glob_of, tokens_of}
 use Rattle.gix_pathspec.specs.Search.{Numbered, MatchCounts, BeginsCounts, specs_of}
 use Rattle.gix_pathspec.specs.Skipping.{fits_plainly, takes_whole, takes_rest, has_open_end}
-use Rattle.gix_pathspec.specs.Reach.{takes_by_path}
-use Rattle.gix_pathspec.specs.SubtreeExcludes.{can_take_rest, is_subtree_exclude, subtree_excludes_of, as_subtree_exclude, rest_glob, covers, exclude_head, subtree_exclude_count, exclude_count, IsExcludeCounted, IsSkipCounted}
+use Rattle.gix_pathspec.specs.Reach.{can_take_rest, is_subtree_exclude, subtree_excludes_of, takes_by_path}
+use Rattle.gix_pathspec.specs.SubtreeExcludes.{as_subtree_exclude, rest_glob, covers, exclude_head, subtree_exclude_count}
 use Rattle.gix_pathspec.proofs.BeginsProofs.{front-itself, front-through, begins_with-from_front, front-from_length}
 use Rattle.gix_pathspec.proofs.HeadProofs.{fits-head, glob_stem, stem-at_false, is_in_prefix_directory-front, not_nil, head_sensitive}
 use Rattle.gix_pathspec.proofs.SkipProofs.{plainly-fits}
@@ -282,10 +283,37 @@ module _ (d : List ℕ) where
       at false few = omega (arith, few)
 
   -- What was asked of these excludes, from counts that were begun, is counted as what was asked of the specs.
-  pub skip-counted : (specs : List Spec) (old begun new : MatchCounts) → BeginsCounts old begun → IsExcludeCounted (subtree_excludes_of specs) d begun new → IsSkipCounted specs d old new
-  skip-counted specs old begun new b c = record {
-    tested = subst (λ k. Counts k new.last_tested new.tested) b.tested c.tested;
-    compared = subst (λ k. Counts k new.last_compared new.compared) b.compared c.compared;
-    few_tested = omega (arith, c.few_tested, excludes-few specs);
-    few_compared = λ b few. c.few_compared b (omega (arith, few, excludes-shorter specs));
+  pub skip-counted : (specs : List Spec) (old begun new : MatchCounts) → BeginsCounts old begun → IsExcludeCounted (subtree_excludes_of specs) d begun new
+      → IsExcludeSetCounted true (subtree_excludes_of specs) d begun new → IsSkipCounted specs d old new
+  skip-counted specs old begun new b c set = record {
+    asked = record {
+      tested = subst (λ k. Counts k new.last_tested new.tested) b.tested c.tested;
+      compared = subst (λ k. Counts k new.last_compared new.compared) b.compared c.compared;
+      few_tested = omega (arith, c.few_tested, excludes-few specs);
+      few_compared = λ b few. c.few_compared b (omega (arith, few, excludes-shorter specs));
+    };
+    by_set = record {
+      steps = record { stepped = subst (λ k. Counts k new.last_stepped new.stepped) b.stepped set.steps.stepped; few_stepped = set.steps.few_stepped };
+      beside = set.beside;
+      told = λ asked. set.told refl;
+    };
   }
+
+  -- Where the excludes aren't asked, nothing was.
+  pub skip-unasked : (specs : List Spec) (old new : MatchCounts) → BeginsCounts old new → asks_excludes specs d ≡ false → IsSkipCounted specs d old new
+  skip-unasked specs old new begun off = record {
+    asked = record {
+      tested = none begun.tested begun.last_tested;
+      compared = none begun.compared begun.last_compared;
+      few_tested = rw begun.last_tested (omega arith);
+      few_compared = λ b small. rw begun.last_compared (omega arith);
+    };
+    by_set = record {
+      steps = record { stepped = none begun.stepped begun.last_stepped; few_stepped = rw begun.last_stepped (omega arith) };
+      beside = λ told. absurd (both_ways new.last_by_set begun.last_by_set told);
+      told = λ asked. absurd (both_ways (asks_excludes specs d) off asked);
+    };
+  }
+    where
+      none : {before after n : ℕ} → after ≡ before → n ≡ 0 → Counts before n after
+      none {before} {after} {n} same nil = rw (same, nil) (ap (λ k. k % 2 ^ 128) (omega arith))

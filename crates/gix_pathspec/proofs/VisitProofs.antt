@@ -1,8 +1,10 @@
 -- What the match of a directory tells of skipping it.
-use Rattle.std.proofs.Common.{◌≡◌, ◌≢◌, ◌%◌, ◌^◌, arith, ℕ, Bool, true, false, not, ◌&&◌, ◌||◌, inl, inr, refl, sym, ◌∙◌, ap, List, [], ◌∷◌, length, Option, Some, None, cond}
+use Rattle.std.proofs.Common.{◌≡◌, ◌≢◌, ◌%◌, ◌^◌, arith, ℕ, Bool, true, false, not, ◌&&◌, ◌||◌, inl, inr, refl, sym, ◌∙◌, ap, subst, List, [], ◌∷◌, length, Option, Some, None, cond}
 use Rattle.std.proofs.lemmas.Bool.{and_from, or_left, or_right, cases_Bool, both_ways}
 use Rattle.std.specs.Prelude.{MatchBool, find}
 use Rattle.std.specs.List.{list_any}
+use Rattle.gix_pathspec.specs.Effort.{IsCounted, IsSetCounted}
+use Rattle.gix_pathspec.specs.SkipCounts.{asks_excludes, IsSkipCounted, IsVisitCounted}
 use Rattle.gix_pathspec.specs.declared.search.MatchKind.{MatchKind}
 use Rattle.gix_pathspec.specs.declared.search.MatchKind.TheVariants.{Always, Prefix, WildcardMatch, Verbatim}
 use Rattle.gix_pathspec.specs.Bytes.{is_empty, begins_with}
@@ -16,11 +18,11 @@ use Rattle.gix_pathspec.specs.Search.{BeginsCounts, MatchCounts, Numbered, Answe
 use Rattle.gix_pathspec.specs.Skipping.{fits_plainly, takes_whole, takes_rest, is_without_glob, found_takes_whole, answer_takes_whole, is_unshadowed, holds_nothing, may_skip}
 use Rattle.gix_pathspec.specs.SkipLaws.{FoundIsSkipped}
 use Rattle.gix_pathspec.specs.SkipTables.{holds_nothing_by_tables}
-use Rattle.gix_pathspec.specs.SubtreeExcludes.{IsSkipCounted, IsVisitCounted}
 use Rattle.gix_pathspec.specs.SelectionLaws.{NoNilPrefix}
 use Rattle.pathspec_glob.specs.Counts.{Counts}
 use Rattle.gix_pathspec.proofs.ChosenProofs.{chosen_is_test}
 use Rattle.gix_pathspec.proofs.SkipProofs.{nothing_is_chosen}
+use Rattle.gix_pathspec.proofs.SubtreeExcludeProofs.{skip-unasked}
 use Rattle.gix_pathspec.proofs.SkipTableProofs.{tables-hold_nothing, tables-skip}
 use Rattle.gix_pathspec.proofs.NotChosenProofs.{all_three}
 use Rattle.gix_pathspec.proofs.SelectedProofs.{list_any-map, selects_chosen}
@@ -140,9 +142,32 @@ pub passed-not-entered : (specs : List Spec) (d : List ℕ) (is_dir : Bool) → 
 passed-not-entered specs d true h = rw (tables-skip specs d h) refl
 passed-not-entered specs d false h = refl
 
+-- no excludes are asked where tables tell
+pub tables-unasked : (specs : List Spec) (d : List ℕ) → holds_nothing_by_tables specs d ≡ true → asks_excludes specs d ≡ false
+tables-unasked specs d h = at (is_empty d) (holds_nothing_by_tables specs d) h
+  where
+    at : (e b : Bool) → b ≡ true → (not e && not b) ≡ false
+    at true b h = refl
+    at false true h = refl
+    at false false h = cc
+
+-- what begins from old counts begins from itself
+again : (old new : MatchCounts) → BeginsCounts old new → BeginsCounts new new
+again old new b = record {
+  last_tested = b.last_tested;
+  last_compared = b.last_compared;
+  last_stepped = b.last_stepped;
+  last_by_set = b.last_by_set;
+  last_gave_up = b.last_gave_up;
+  tested = refl;
+  compared = refl;
+  stepped = refl;
+}
+
 -- nothing was asked, and that is counted
-pub passed-counted : (specs : List Numbered) (path : List ℕ) (asks : Bool) (old new : MatchCounts) → BeginsCounts old new → IsVisitCounted specs path asks old new
-passed-counted specs path asks old new begun = record {
+pub passed-counted : (specs : List Numbered) (path : List ℕ) (is_dir asks : Bool) (old new : MatchCounts) → is_dir ≡ true → holds_nothing_by_tables (specs_of specs) path ≡ true
+    → BeginsCounts old new → IsVisitCounted specs path is_dir asks old new
+passed-counted specs path is_dir asks old new k told begun = record {
   between = new;
   matched = record {
     tested = counts (begun.tested) begun.last_tested;
@@ -150,6 +175,7 @@ passed-counted specs path asks old new begun = record {
     few_tested = rw begun.last_tested (omega arith);
     few_compared = λ b small. rw begun.last_compared (omega arith);
   };
+  by_set = rw (k, told) begun;
   skipped = asked asks;
 }
   where
@@ -157,10 +183,34 @@ passed-counted specs path asks old new begun = record {
     counts {before} {after} {n} same none = rw (same, none) (ap (λ k. k % 2 ^ 128) (omega arith))
 
     asked : (a : Bool) → MatchBool a (IsSkipCounted (specs_of specs) path new new) (new ≡ new)
-    asked true = record {
-      tested = counts refl begun.last_tested;
-      compared = counts refl begun.last_compared;
-      few_tested = rw begun.last_tested (omega arith);
-      few_compared = λ b small. rw begun.last_compared (omega arith);
-    }
+    asked true = skip-unasked path (specs_of specs) new new (again old new begun) (tables-unasked (specs_of specs) path told)
     asked false = refl
+
+-- no tables tell of a directory, so it isn't passed over
+not-passed : (b h : Bool) → (b ≡ true → h ≡ false) → (b && h) ≡ false
+not-passed true h none = none refl
+not-passed false h none = refl
+
+-- A match and a question are counted from counts of which the totals stayed.
+pub visit-counted : (specs : List Numbered) (path : List ℕ) (is_dir asks : Bool) (old mid between new : MatchCounts) → mid.tested ≡ old.tested → mid.compared ≡ old.compared → mid.stepped ≡ old.stepped
+    → (is_dir ≡ true → holds_nothing_by_tables (specs_of specs) path ≡ false) → IsCounted specs path mid between → IsSetCounted specs path mid between
+    → MatchBool asks (IsSkipCounted (specs_of specs) path between new) (new ≡ between) → IsVisitCounted specs path is_dir asks old new
+visit-counted specs path is_dir asks old mid between new tested compared stepped none counted set skipped =
+    let matched : IsSetCounted specs path old between = record {
+      stepped = subst (λ k. Counts k between.last_stepped between.stepped) stepped set.stepped;
+      few_stepped = set.few_stepped;
+      once = set.once;
+      told = set.told;
+      gave_up = set.gave_up;
+    } in
+    record {
+      between = between;
+      matched = record {
+        tested = subst (λ k. Counts k between.last_tested between.tested) tested counted.tested;
+        compared = subst (λ k. Counts k between.last_compared between.compared) compared counted.compared;
+        few_tested = counted.few_tested;
+        few_compared = counted.few_compared;
+      };
+      by_set = rw (not-passed is_dir (holds_nothing_by_tables (specs_of specs) path) none) matched;
+      skipped = skipped;
+    }

@@ -89,11 +89,11 @@ pub record GaveUpOn (specs : List Numbered) (path : List ℕ) (counts : MatchCou
   pub plain : has_wildcard_at path 0 ≡ false
   pub silent : counts.last_by_set ≡ false
 
--- The total grew by the steps of the set in the last match, which are few: for each byte as many as the set has places, and two.
--- It says whether the set told which of its specs to ask, and where it gave up.
+-- The total grew by the steps and looks of the set in the last match, which are few: for each byte as many steps as the set has
+-- places, and two; and at most one look at each member. It says whether the set told which of its specs to ask, and where it gave up.
 pub record IsSetCounted (specs : List Numbered) (path : List ℕ) (old new : MatchCounts) : Type 0 where
   pub stepped : Counts old.stepped new.last_stepped new.stepped
-  pub few_stepped : new.last_stepped ≤ length path * (places_of (set_sources specs) + 2)
+  pub few_stepped : new.last_stepped ≤ length path * (places_of (set_sources specs) + 2) + length (set_sources specs)
   pub once : AskedOnce specs path new
   pub told : ToldBySet specs path new
   pub gave_up : new.last_gave_up ≡ true → GaveUpOn specs path new

@@ -37,10 +37,14 @@ pub mod Effort
 pub mod Sets
 pub mod Members
 pub mod Candidates
+pub mod SetCounts
 pub mod Building
 pub mod Reach
 pub mod Lines
 pub mod Skipping
 pub mod SubtreeExcludes
+pub mod ExcludeSets
+pub mod ExcludeMembers
 pub mod SkipTables
+pub mod SkipCounts
 pub mod SkipLaws

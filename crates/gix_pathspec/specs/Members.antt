@@ -8,7 +8,7 @@ use Rattle.pathspec_glob_set.specs.Sets.{AreMovesOf}
 use Rattle.gix_pathspec.specs.declared.search.members.Members.{Members}
 use Rattle.gix_pathspec.specs.EndBytes.{has_wildcard_at, NeverMatches}
 use Rattle.gix_pathspec.specs.Search.{Numbered}
-use Rattle.gix_pathspec.specs.Room.{has_set, sources_in_order, MemberSource}
+use Rattle.gix_pathspec.specs.Room.{has_set, sources_in_order, MemberSource, Room}
 use Rattle.gix_pathspec.specs.Sets.{member_from, member_places, ArePlacesBeside, IsHit, IsSetMade}
 
 -- the set, the places and the groups are those of the specs
@@ -44,6 +44,11 @@ pub record IsSetIn (sources : List MemberSource) (set : Option SetScratch) (gave
   pub own : ForSome set (IsScratchOf sources)
   pub made : IsSetMade sources → is_some set ≡ true
   pub told : gave_up ≡ true → HasGivenUp set
+
+-- The sets of the specs and of the excludes in a scratch of this room. A flag tells of each whether it gave up.
+pub record AreSetsIn (room : Room) (set : Option SetScratch) (gave_up : Bool) (excludes : Option SetScratch) (excludes_gave_up : Bool) : Type 0 where
+  pub of_specs : IsSetIn room.members set gave_up
+  pub of_excludes : IsSetIn room.excludes excludes excludes_gave_up
 
 -- Of the members before one with this number, none that stands at or behind a place matches.
 abbrev pub IsAhead : List Numbered → List ℕ → ℕ → ℕ → Type 0

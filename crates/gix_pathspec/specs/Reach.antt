@@ -8,6 +8,7 @@ use Rattle.gix_pathspec.specs.Bytes.{is_empty}
 use Rattle.gix_pathspec.specs.Specs.{Spec, is_exclude, is_include, ignores_case, wants_directory, always_matches, has_wildcard}
 use Rattle.gix_pathspec.specs.Plain.{has_one_case}
 use Rattle.gix_pathspec.specs.Pruning.{stem_of, is_total_exclude}
+use Rattle.gix_pathspec.specs.Skipping.{has_open_end}
 
 -- ---- paths that excludes take
 
@@ -30,6 +31,20 @@ taken_paths specs = map path_of (filter is_tabled specs)
 -- an include without a wildcard whose path is taken, as what it wants, by an exclude that ignores case where the include does
 abbrev pub is_shadowed : List Spec → Spec → Bool
 is_shadowed specs i = not (always_matches i || has_wildcard i) && list_any (λ p. (not (ignores_case i) || p.ignores_case) && path_takes p i.path (wants_directory i)) (taken_paths specs)
+
+-- ---- excludes that no table answers for
+
+-- the spec can take the rest of a directory
+abbrev pub can_take_rest : Spec → Bool
+can_take_rest s = is_empty s.attributes && not (wants_directory s) && has_wildcard s && has_open_end s.mode s
+
+-- An exclude that no table of paths answers for: it can take the rest of a directory, or has a prefix directory before a path without case.
+abbrev pub is_subtree_exclude : Spec → Bool
+is_subtree_exclude s = takes_by_path s && (can_take_rest s || not (has_one_case s))
+
+-- the subtree excludes among the specs
+abbrev pub subtree_excludes_of : List Spec → List Spec
+subtree_excludes_of specs = filter is_subtree_exclude specs
 
 -- ---- paths that includes reach
 

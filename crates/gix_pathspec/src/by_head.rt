@@ -22,6 +22,7 @@ ghost use Rattle.gix_pathspec.specs.Search.{Numbered};
 ghost use Rattle.gix_pathspec.specs.Members.{AreMembersOf, IsRead, IsScratchOf};
 ghost use Rattle.gix_pathspec.specs.EndBytes.{has_wildcard_at};
 ghost use Rattle.gix_pathspec.specs.Candidates.{AreCandidates, AreKept, HasSameMoves, SetGaveUp};
+ghost use Rattle.gix_pathspec.specs.SetCounts.{asked_count, set_total, AsksSet, GrowsBy};
 ghost use Rattle.gix_pathspec.specs.Effort.{ArePlacesOf, candidate_count, unsettled_count, IsCounted, IsLittleCompared, IsSetCounted, is_settled_early};
 
 pub(crate) mod subtree_excludes;
@@ -38,7 +39,7 @@ use pathspec_parts::attributes::LookUp;
 use std::fmt;
 use std::marker::Model;
 
-/// The effort of one match or skip question: specs asked, heads compared with the path, and steps of the set.
+/// The effort of one match or skip question: specs asked, heads compared with the path, and steps and looks of the set.
 #[derive(Clone, Copy)]
 struct Effort {
     tested: usize,
@@ -46,8 +47,10 @@ struct Effort {
     stepped: u128,
     /// Whether the set told which of its specs to ask.
     by_set: bool,
-    /// Whether the set read the path, and gave up.
+    /// Whether the set of the specs was to read the path, and gave up.
     gave_up: bool,
+    /// Whether the set of the subtree excludes was to read the directory, and gave up.
+    excludes_gave_up: bool,
 }
 
 /// The effort before a question: no spec asked, no head compared, and no step taken.
@@ -57,6 +60,7 @@ const NO_EFFORT: Effort = Effort {
     stepped: 0,
     by_set: false,
     gave_up: false,
+    excludes_gave_up: false,
 };
 
 /// The room that a walker's matches and skip questions (`may_skip`) work in, with the counts of what they asked and compared.
@@ -65,14 +69,14 @@ const NO_EFFORT: Effort = Effort {
 /// totals are never set back.
 pub struct Scratch {
     specs: SpecScratch,
-    /// Where the set of the specs reads paths, if there is one.
+    /// Where the set of the specs reads paths, if there is one. It counts its own steps and looks.
     set: Option<SetScratch>,
+    /// Where the set of the subtree excludes reads directories, if there is one.
+    exclude_set: Option<SetScratch>,
     heads: CompareScratch,
     // Written by questions whether a directory may be skipped. No call tells its comparisons.
     pub(crate) stems: StemScratch,
     effort: Effort,
-    /// The steps of the set in all matches, modulo 2^128.
-    stepped: u128,
 }
 
 // Written out, so that whoever drops a scratch needn't prove anew what becomes of its lists.
@@ -81,10 +85,10 @@ impl Drop for Scratch {
         let Scratch {
             specs: _specs,
             set: _set,
+            exclude_set: _exclude_set,
             heads: _heads,
             stems: _stems,
             effort: _effort,
-            stepped: _stepped,
         } = self;
     }
 }
@@ -100,32 +104,42 @@ impl fmt::Debug for Scratch {
 
 impl Model for Scratch {
     ghost use Rattle.gix_pathspec.specs.Room.{ScratchContents};
-    ghost use Rattle.gix_pathspec.specs.Members.{IsSetIn};
+    ghost use Rattle.std.specs.Prelude.{◌||◌};
+    ghost use Rattle.gix_pathspec.specs.Members.{AreSetsIn};
+    ghost use Rattle.gix_pathspec.specs.SetCounts.{sets_total};
 
     ghost Value = { ScratchContents };
 
-    ghost view = { λ s. record { room = s.specs.room; counts = record { last_tested = s.effort.tested; last_compared = s.effort.compared; last_stepped = s.effort.stepped; last_by_set = s.effort.by_set; last_gave_up = s.effort.gave_up; tested = s.specs.tested; compared = s.heads; stepped = s.stepped } } };
+    ghost view = { λ s. record { room = s.specs.room; counts = record { last_tested = s.effort.tested; last_compared = s.effort.compared; last_stepped = s.effort.stepped; last_by_set = s.effort.by_set; last_gave_up = s.effort.excludes_gave_up || s.effort.gave_up; tested = s.specs.tested; compared = s.heads; stepped = sets_total s.set s.exclude_set } } };
 
-    ghost invariant = { λ s. IsSetIn s.specs.room.members s.set s.effort.gave_up };
+    ghost invariant = { λ s. AreSetsIn s.specs.room s.set s.effort.gave_up s.exclude_set s.effort.excludes_gave_up };
 }
 
 impl Scratch {
+    ghost use Rattle.gix_pathspec.specs.Members.{IsSetIn};
+
     /// Makes a scratch of the given room, with all counts at 0.
-    pub(crate) fn new(specs: SpecScratch, set: Option<SetScratch>, heads: CompareScratch) -> Scratch
-        requires set { ForSome set (IsScratchOf specs.room.members) }
-        requires made { IsSetMade specs.room.members → is_some set ≡ true }
+    pub(crate) fn new(
+        specs: SpecScratch,
+        set: Option<SetScratch>,
+        exclude_set: Option<SetScratch>,
+        heads: CompareScratch,
+    ) -> Scratch
+        requires set { IsSetIn specs.room.members set false }
+        requires exclude_set { IsSetIn specs.room.excludes exclude_set false }
         requires specs_unasked { specs.tested ≡ 0 }
         requires heads_unasked { heads ≡ 0 }
+        requires set_unasked { (set_total set ≡ 0) × (set_total exclude_set ≡ 0) }
         ensures room { result.room ≡ specs.room }
         ensures fresh { IsFresh result.counts }
     {
         Scratch {
             specs,
             set,
+            exclude_set,
             heads,
             stems: StemScratch::new(),
             effort: NO_EFFORT,
-            stepped: 0,
         }
     }
 
@@ -146,7 +160,8 @@ impl Scratch {
 
     /// The count of specs that the last match asked. A spec whose look-up failed counts, and so does one that the path's first
     /// or last byte rules out. The count is 0 before the first match, and where the path was empty or lacked the common
-    /// prefix. After [`Search::may_skip`](crate::search::Search::may_skip) it is the count of excludes asked one by one.
+    /// prefix. After [`Search::may_skip`](crate::search::Search::may_skip) it is the count of excludes asked one by one; those
+    /// of a set that told aren't asked.
     pub fn last_tested(&self) -> usize
         ensures { result ≡ self.now.counts.last_tested }
     {
@@ -161,29 +176,32 @@ impl Scratch {
         self.effort.compared as u128
     }
 
-    /// The count of steps that the set of the search took in the last match: one for each byte of the path that it read, and
-    /// one for each of its places, and one more, for each cell of its table that it filled. It is 0 where no set was asked: the
-    /// path was empty, lacked the common prefix or begins with a wildcard byte, or the search has no set.
+    /// The count of steps and looks of a set in the last match or skip question: that of the specs, or that of the excludes. It
+    /// takes a step for each byte that it reads: of the path, or of the directory and a slash. For each cell of its table that
+    /// it fills it takes one for each of its places, and one more. It looks at each of its specs once at most, to find those
+    /// that match. The count is 0 where no set was asked: the path was empty, lacked the common prefix or begins with a
+    /// wildcard byte, or the search has no such set.
     pub fn last_stepped(&self) -> u128
         ensures { result ≡ self.now.counts.last_stepped }
     {
         self.effort.stepped
     }
 
-    /// Whether the set of the search told which of its specs the last match had to ask. It tells nothing where no set was
-    /// asked ([`Scratch::last_stepped`]), nor where it gave up ([`Scratch::last_gave_up`]); else it tells.
+    /// Whether the set told which of its specs the last match had to ask, or whether one of its excludes covers the directory of
+    /// the last skip question. It tells nothing where no set was asked ([`Scratch::last_stepped`]), nor where it gave up
+    /// ([`Scratch::last_gave_up`]); else it tells.
     pub fn last_by_set(&self) -> bool
         ensures { result ≡ self.now.counts.last_by_set }
     {
         self.effort.by_set
     }
 
-    /// Whether the set of the search was asked in the last match, and gave up: the path filled more than eight cells of its
-    /// table, or too many paths before did. Then the match asked specs by their heads alone.
+    /// Whether a set was asked in the last match or skip question, and gave up: the path filled more than eight cells of its
+    /// table, or too many paths before did. Then specs were asked by their heads alone.
     pub fn last_gave_up(&self) -> bool
         ensures { result ≡ self.now.counts.last_gave_up }
     {
-        self.effort.gave_up
+        self.effort.excludes_gave_up || self.effort.gave_up
     }
 
     /// The count of specs that all matches and skip questions in this scratch asked, modulo 2^128.
@@ -200,11 +218,11 @@ impl Scratch {
         self.heads.compared()
     }
 
-    /// The count of steps that the set of the search took in all matches in this scratch, modulo 2^128.
+    /// The count of steps and looks of sets in all matches and skip questions in this scratch, modulo 2^128.
     pub fn total_stepped(&self) -> u128
         ensures { result ≡ self.now.counts.stepped }
     {
-        self.stepped
+        set_total(&self.set).wrapping_add(set_total(&self.exclude_set))
     }
 }
 
@@ -335,7 +353,7 @@ impl SpecsByHead {
         ensures unasked { IsTrue (is_settled_early self.now (bstr_bytes path.entry))
             → (scratch.new.counts.last_tested ≡ 0) × (scratch.new.counts.last_compared ≡ 0) }
 
-        // Counts the steps of the set. It tells which of its specs to ask unless it gives up, and then few are asked.
+        // Counts the steps and looks of the set. It tells which of its specs to ask unless it gives up, and then few are asked.
         ensures by_set { IsSetCounted self.now (bstr_bytes path.entry)
             scratch.old.counts scratch.new.counts }
     {
@@ -379,6 +397,7 @@ struct Candidates<'a> {
 impl Candidates<'_> {
     ghost use Rattle.std.specs.Prelude.{true};
     ghost use Rattle.gix_pathspec.specs.Candidates.{AreBeside, AreNext, IsAsMany, IsRank};
+    ghost use Rattle.gix_pathspec.specs.SetCounts.{HasLooked};
     ghost use Rattle.gix_pathspec.specs.Sets.{any_spec, is_beside, IsHit, IsKindAt, IsNext, NoneBefore};
 
     /// The number of the first member that may match, or the count of members; 0 without a set.
@@ -388,6 +407,8 @@ impl Candidates<'_> {
         ensures next { (specs : List Numbered) (path : List ℕ) → IsBytes path
             → AreCandidates specs path self.now set.old → AreNext specs path self.now 0 result }
         ensures kept { AreKept set.old set.new }
+        ensures looks { HasLooked (asked_count self.now.members) result
+            (set_total set.old) (set_total set.new) }
     {
         let Some(members) = self.members else {
             return 0;
@@ -414,6 +435,9 @@ impl Candidates<'_> {
             → NoneBefore table specs path is_dir from → AreNext specs path self.now from rank.old
             → is_some self.now.members ≡ true → IfSome result (IsHit specs path) }
         ensures kept { AreKept set.old set.new }
+        ensures looks { (begun : ℕ)
+            → HasLooked (asked_count self.now.members) rank.old begun (set_total set.old)
+            → HasLooked (asked_count self.now.members) rank.new begun (set_total set.new) }
     {
         let other = self.next_beside(from);
         let Some(members) = self.members else {
@@ -465,16 +489,13 @@ fn heads_beside<'a>(heads: &'a CountedHeads, members: Option<&'a Members>) -> &'
     }
 }
 
-/// The set, where it read a path, and so tells which of its specs may match. `stepped` counts its steps, and `gave_up` tells whether
-/// it read the path and gave up.
+/// The set, where it read a path, and so tells which of its specs may match. `gave_up` tells whether it read the path and gave up.
 fn set_for<'a>(
     members: Option<&'a Members>,
     path: &[u8],
     set: &mut Option<SetScratch>,
-    stepped: &mut u128,
     gave_up: &mut bool,
 ) -> Option<&'a Members>
-    requires none { stepped.old ≡ 0 }
     requires going { gave_up.old ≡ false }
     ensures told { is_some members.entry ≡ true → is_some set.old ≡ true
         → has_wildcard_at path.now 0 ≡ false → gave_up.new ≡ false → is_some result ≡ true }
@@ -485,7 +506,8 @@ fn set_for<'a>(
         × IsRead path.now scratch }
     ensures kept { HasSameMoves set.old set.new }
     ensures few { (sources : List MemberSource) → ForSome set.old (IsScratchOf sources)
-        → stepped.new ≤ length path.now * (places_of sources + 2) }
+        → GrowsBy (length path.now * (places_of sources + 2))
+        (set_total set.old) (set_total set.new) }
 {
     let Some(members) = members else {
         return None;
@@ -493,7 +515,7 @@ fn set_for<'a>(
     let Some(set) = set else {
         return None;
     };
-    read(path, set, stepped, gave_up).then_some(members)
+    read(path, set, gave_up).then_some(members)
 }
 
 /// Finds the place of the first spec that matches a path, and the way in which it matches. It asks no more specs than have a
@@ -525,9 +547,9 @@ fn first_match<L: LookUp>(
         scratch.old.counts scratch.new.counts }
 {
     let bytes = path.as_bytes();
-    let mut stepped = 0;
+    let before = set_total(&scratch.set);
     let mut gave_up = false;
-    let members = set_for(members, bytes, &mut scratch.set, &mut stepped, &mut gave_up);
+    let members = set_for(members, bytes, &mut scratch.set, &mut gave_up);
     let heads = heads_beside(heads, members);
     let LongestHead { head, compared } = heads.longest_head_of(bytes, &mut scratch.heads);
     let mut tested = 0;
@@ -549,19 +571,30 @@ fn first_match<L: LookUp>(
     scratch.effort = Effort {
         tested,
         compared,
-        stepped,
+        stepped: growth(before, set_total(&scratch.set)),
         by_set: members.is_some(),
         gave_up,
+        excludes_gave_up: false,
     };
-    scratch.stepped = add_to(scratch.stepped, stepped);
     found
 }
 
-/// The total with so many steps more, modulo 2^128.
-fn add_to(total: u128, steps: u128) -> u128
-    ensures { Counts total steps result }
+/// The steps and looks of a set in all, modulo 2^128; 0 without a set.
+fn set_total(set: &Option<SetScratch>) -> u128
+    ensures { result ≡ set_total set.now }
 {
-    total.wrapping_add(steps)
+    match set {
+        Some(set) => set.total_steps(),
+        None => 0,
+    }
+}
+
+/// How much a total grew, modulo 2^128.
+fn growth(before: u128, now: u128) -> u128
+    ensures counted { Counts before result now }
+    ensures few { (most : ℕ) → GrowsBy most before now → result ≤ most }
+{
+    now.wrapping_sub(before)
 }
 
 /// Finds the first spec that matches a path, of those that may. `tested` counts those asked.
@@ -580,7 +613,7 @@ fn first_candidate<L: LookUp>(
     requires room { HasRoom specs.now scratch.old.room }
     requires none { tested.old ≡ 0 }
     ensures room { scratch.new.room ≡ scratch.old.room }
-    ensures kept { AreKept set.old set.new }
+    ensures asks_set { AsksSet (asked_count candidates.now.members) set.old set.new }
     ensures first { IfOk result (λ found.
         IsFirstFound (L.table look_up.old) specs.now (bstr_bytes path.entry) is_dir found) }
     ensures look_up { AsksLookUp (L.table look_up.old) (L.failures look_up.old)

@@ -2,6 +2,7 @@
 mod compiling;
 pub(crate) mod counted;
 mod directories;
+pub(crate) mod exclude_members;
 mod init;
 pub mod laws;
 mod matching;

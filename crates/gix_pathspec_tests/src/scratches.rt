@@ -147,6 +147,9 @@ fn a_scratch_fits_what_wants_no_other_room(rt: HostRuntime) -> Result<(), Fail> 
         (&["*a", "*b", "*c", "*d"], &["*a", "*b", "*c", "*e"], false),
         (&["*a", "*b", "*c", "*d"], &["*a", "*b", "*c", "*d/"], false),
         (&["*a", "*b", "*c", "*d"], &["*a", "*b", "*c", ":(icase)*d"], false),
+        // So are the excludes among them whose glob can take all below a directory.
+        (&[":!*a*", ":!*b*", ":!*c*", ":!*d*"], &[":!*a*", ":!*b*", ":!*c*", ":!*d*"], true),
+        (&[":!*a*", ":!*b*", ":!*c*", ":!*d*"], &["*a*", "*b*", "*c*", "*d*"], false),
     ];
     for (texts, others, want) in ROWS {
         assert!(rt; fits(rt.alloc(), texts, others)? == *want, "{texts:?}");

@@ -1,5 +1,5 @@
 //! Searches with a set of globs: those where four specs or more begin with a wildcard.
-use crate::searches::{Settled, scratch_of, settled_in};
+use crate::searches::{Settled, may_skip, scratch_of, settled_in};
 use gix_pathspec::search::MatchKind;
 use pathspec_test_searches::search_of_line;
 use pathspec_test_support::look_ups::Marks;
@@ -137,6 +137,21 @@ fn a_set_counts_its_steps(rt: HostRuntime) -> Result<(), Fail> {
     Ok(())
 }
 
+// A row of the set has its first spec; the next is found by a look at each behind it.
+#[test]
+fn a_set_counts_its_looks(rt: HostRuntime) -> Result<(), Fail> {
+    let search = search_of_line(rt.alloc(), "*.rs :(attr:gen)*.c *.md *.h *.c", "")?;
+    let mut scratch = scratch_of(rt.alloc(), &search)?;
+    let file = Some(false);
+    settled_in(&search, b"a.c", file, &mut scratch, &mut Marks::new())?;
+    let first = scratch.last_stepped();
+    // Three steps, one for each byte, and a look at each of the last three specs.
+    settled_in(&search, b"a.c", file, &mut scratch, &mut Marks::new())?;
+    assert!(rt; scratch.last_tested() == 2 && scratch.last_by_set());
+    assert!(rt; scratch.last_stepped() == 6 && scratch.total_stepped() == first.wrapping_add(6));
+    Ok(())
+}
+
 // A new scratch has an empty table, and gives up where a path fills more than eight cells of it.
 #[test]
 fn a_set_tells_where_it_gave_up(rt: HostRuntime) -> Result<(), Fail> {
@@ -177,5 +192,70 @@ fn specs_of_too_many_places_are_asked_one_by_one(rt: HostRuntime) -> Result<(), 
         }
     }
     assert!(rt; told(rt.alloc(), line.as_str(), "b")? == (Some(None), 4, false));
+    Ok(())
+}
+
+/// What a skip question answers and tells: whether a walk may skip, how many excludes are asked, and whether the set told or gave up.
+type Skipped = (bool, usize, bool, bool);
+
+/// What a skip question tells, in a scratch that another search of the same texts made.
+fn skipped(alloc: Global, line: &str, directory: &str) -> Result<Skipped, Fail> {
+    let search = search_of_line(alloc, line, "")?;
+    let mut scratch = scratch_of(alloc, &*search_of_line(alloc, line, "")?)?;
+    let may_skip = may_skip(&search, directory.as_bytes(), &mut scratch)?;
+    let tested = scratch.last_tested();
+    Ok((
+        may_skip,
+        tested,
+        scratch.last_by_set(),
+        scratch.last_gave_up(),
+    ))
+}
+
+#[test]
+#[rattlefmt::skip]
+fn a_set_of_excludes_answers_as_they_do_one_by_one(rt: HostRuntime) -> Result<(), Fail> {
+    const ROWS: &[(&str, &str, Skipped)] = &[
+        (":!*/t/* :!*/n/* :!*/c/* :!*/d/*", "x/n", (true, 0, true, false)),
+        (":!*/t/* :!*/n/* :!*/c/* :!*/d/*", "x/y/d", (true, 0, true, false)),
+        (":!*/t/* :!*/n/* :!*/c/* :!*/d/*", "x/y", (false, 0, true, false)),
+        (":!*/t/* :!*/n/* :!*/c/* :!*/d/*", "n", (false, 0, true, false)),
+        (":!*/t/* :!*/n/* :!*/c/* :!*/d/*", "", (false, 0, false, false)),
+        // Three excludes make no set, nor do those that list attributes, want a directory, or take nothing below one.
+        (":!*/t/* :!*/n/* :!*/c/*", "x/n", (true, 2, false, false)),
+        (":!*/t/* :!*/n/* :!*/c/* :(exclude,attr:gen)*/d/*", "x/d", (false, 3, false, false)),
+        (":!*/t/* :!*/n/* :!*/c/* :!*/d/*/", "x/d", (false, 3, false, false)),
+        (":!*/t/* :!*/n/* :!*/c/* :!*/d", "x/d", (false, 3, false, false)),
+        // A directory that begins with a wildcard byte may be the text of an exclude.
+        (":!*/t/* :!*/n/* :!*/c/* :!*/d/*", "*/n", (true, 2, false, false)),
+        (":!*/t/* :!*/n/* :!*/c/* :!*/d/*", "[a]/b", (false, 4, false, false)),
+        // In a new scratch the set gives up where a directory fills more than eight cells of its table.
+        (":!*/abcdefghij/* :!*/n/* :!*/c/* :!*/d/*", "x/abcdefghij", (true, 1, false, true)),
+        // Both cases, and globs whose stars stop at a slash.
+        (":!*/t/* :(exclude,icase)*/N/* :!*/c/* :!*/d/*", "x/n", (true, 0, true, false)),
+        (":(exclude,glob)**/n/** :!*/t/* :!*/c/* :!*/d/*", "n", (true, 0, true, false)),
+        (":(exclude,glob)*/n/** :!*/t/* :!*/c/* :!*/d/*", "x/y/n", (false, 0, true, false)),
+        // An exclude with a head stands beside the set, and is asked where the set finds none.
+        (":!*/t/* :!*/n/* :!*/c/* :!*/d/* :(exclude,glob)s/g/**", "s/g", (true, 1, true, false)),
+        (":!*/t/* :!*/n/* :!*/c/* :!*/d/* :(exclude,glob)s/g/**", "s/n", (true, 0, true, false)),
+        (":!*/t/* :!*/n/* :!*/c/* :!*/d/* :(exclude,glob)s/g/**", "r/g", (false, 0, true, false)),
+    ];
+    for (line, directory, want) in ROWS {
+        assert!(rt; skipped(rt.alloc(), line, directory)? == *want, "{line} {directory}");
+    }
+    Ok(())
+}
+
+// A directory and its slash are three bytes, and the first exclude of a row needs no look.
+#[test]
+fn a_set_of_excludes_counts_its_steps(rt: HostRuntime) -> Result<(), Fail> {
+    let search = search_of_line(rt.alloc(), ":!*/t/* :!*/n/* :!*/c/* :!*/d/*", "")?;
+    let mut scratch = scratch_of(rt.alloc(), &search)?;
+    may_skip(&search, b"/n", &mut scratch)?;
+    let first = scratch.last_stepped();
+    may_skip(&search, b"/n", &mut scratch)?;
+    assert!(rt; scratch.last_stepped() == 3);
+    may_skip(&search, b"", &mut scratch)?;
+    assert!(rt; scratch.last_stepped() == 0 && scratch.total_stepped() == first.wrapping_add(3));
     Ok(())
 }

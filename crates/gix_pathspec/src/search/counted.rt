@@ -2,13 +2,13 @@
 //!
 //! A match stands outside of the module `search`, and sees specs and heads by these types alone. It can't make a scratch, so the
 //! one that it borrows counts all that it asks and compares.
-ghost use Rattle.std.specs.Prelude.{◌≡◌, ◌↔◌, ◌+◌, ◌<◌, ◌≤◌, length, map, All, IsTrue, IfOk, OnOk, OnErr};
+ghost use Rattle.std.specs.Prelude.{◌≡◌, ◌↔◌, ◌+◌, ◌<◌, ◌≤◌, true, false, length, map, All, IsTrue, IfOk, OnOk, OnErr};
 ghost use Rattle.bstr.specs.BStr.{bstr_bytes};
 ghost use Rattle.pathspec_parts.specs.Attributes.{AsksLookUp};
 ghost use Rattle.pathspec_glob.specs.Counts.{Counts};
 ghost use Rattle.gix_pathspec.specs.Effort.{kind_at};
 ghost use Rattle.pathspec_parts.specs.Outcomes.{names_of};
-ghost use Rattle.gix_pathspec.specs.Room.{HasGlobRoom, HasRoom, tokens_of, names_in_order, set_sources, sources_in_order};
+ghost use Rattle.gix_pathspec.specs.Room.{HasGlobRoom, HasRoom, tokens_of, names_in_order, made_sources, member_sources};
 
 use crate::search::MatchKind;
 use crate::search::members::{SetMember, has_set, set_sources};
@@ -73,6 +73,8 @@ pub(crate) struct SpecScratch {
     outcomes: Vec<Outcome>,
     /// What the set of the specs is made of.
     members: Vec<SetMember>,
+    /// What the set of the subtree excludes is made of.
+    excludes: Vec<SetMember>,
     tested: u128,
 }
 
@@ -83,7 +85,7 @@ impl Model for SpecScratch {
 
     ghost Value = { SpecRoom };
 
-    ghost view = { λ s. record { room = record { tokens = s.globs.tokens; names = map names_of s.outcomes.items; members = s.members.items }; tested = s.tested } };
+    ghost view = { λ s. record { room = record { tokens = s.globs.tokens; names = map names_of s.outcomes.items; members = s.members.items; excludes = s.excludes.items }; tested = s.tested } };
 }
 
 impl CountedSpecs {
@@ -242,7 +244,8 @@ impl SpecScratch {
         Ok(SpecScratch {
             globs: glob::Scratch::for_tokens(alloc, most_tokens(&specs.all))?,
             outcomes: outcomes(alloc, &specs.all)?,
-            members: set_sources(alloc, &specs.all)?,
+            members: set_sources(alloc, &specs.all, false)?,
+            excludes: set_sources(alloc, &specs.all, true)?,
             tested: 0,
         })
     }
@@ -253,7 +256,15 @@ impl SpecScratch {
     {
         self.outcomes.len() == specs.all.len()
             && have_room(&specs.all, &self.globs, &self.outcomes)
-            && are_set_sources(&specs.all, &self.members)
+            && self.has_sources(&specs.all)
+    }
+
+    /// Whether the sets are made of the same sources as those of the specs.
+    fn has_sources(&self, specs: &[CompiledSpec]) -> bool
+        ensures { IsTrue result ↔ (self.now.room.members ≡ made_sources false specs.now)
+            × (self.now.room.excludes ≡ made_sources true specs.now) }
+    {
+        are_set_sources(specs, &self.members, false) && are_set_sources(specs, &self.excludes, true)
     }
 
     /// The count of questions to specs, modulo 2^128.
@@ -299,26 +310,26 @@ fn have_room(specs: &[CompiledSpec], globs: &glob::Scratch, outcomes: &[Outcome]
     true
 }
 
-/// Whether these are the sources of the members of the specs' set, in order; none without a set.
-fn are_set_sources(specs: &[CompiledSpec], sources: &[SetMember]) -> bool
-    ensures { IsTrue result ↔ (sources.now ≡ set_sources specs.now) }
+/// Whether these are the sources of the members of a set of the specs, in order; none without a set.
+fn are_set_sources(specs: &[CompiledSpec], sources: &[SetMember], of_excludes: bool) -> bool
+    ensures { IsTrue result ↔ (sources.now ≡ made_sources of_excludes specs.now) }
 {
-    if has_set(specs) {
-        are_sources(specs, sources)
+    if has_set(specs, of_excludes) {
+        are_sources(specs, sources, of_excludes)
     } else {
         sources.is_empty()
     }
 }
 
 /// Whether these are the sources of the specs that may be members of a set, in order.
-fn are_sources(specs: &[CompiledSpec], sources: &[SetMember]) -> bool
-    ensures { IsTrue result ↔ (sources.now ≡ sources_in_order specs.now) }
+fn are_sources(specs: &[CompiledSpec], sources: &[SetMember], of_excludes: bool) -> bool
+    ensures { IsTrue result ↔ (sources.now ≡ member_sources of_excludes specs.now) }
 {
     let mut rank = 0;
     for spec in specs {
-        if spec.is_member() {
+        if spec.is_member(of_excludes) {
             match sources.get(rank) {
-                Some(source) if spec.has_source(source) => rank += 1,
+                Some(source) if spec.has_source(source, of_excludes) => rank += 1,
                 _ => return false,
             }
         }

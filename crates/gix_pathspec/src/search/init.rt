@@ -13,10 +13,10 @@ ghost use Rattle.gix_pathspec.specs.NormalForm.{NormalFormIsNormal};
 ghost use Rattle.gix_pathspec.specs.Prefixes.{common_front, common_prefix};
 ghost use Rattle.gix_pathspec.specs.Search.{KeepsSpecs, IsFresh, specs_of, numbered_from, in_search_order, search_of, HoldsNormalForms, at_number};
 ghost use Rattle.gix_pathspec.specs.Effort.{ArePlacesOf, heads_in_order};
-ghost use Rattle.gix_pathspec.specs.SubtreeExcludes.{subtree_excludes_of};
+ghost use Rattle.gix_pathspec.specs.ExcludeMembers.{AreExcludeMembersOf};
 ghost use Rattle.gix_pathspec.specs.Building.{prefix_bytes, TellsFault, Builds, IsErrorAt, AreNumbered, AddsNext, with_next, default_numbered_to_prefix, search_of_numbered};
-ghost use Rattle.gix_pathspec.specs.Reach.{IsReachOf};
-ghost use Rattle.gix_pathspec.specs.Room.{set_sources, Fits};
+ghost use Rattle.gix_pathspec.specs.Reach.{subtree_excludes_of, IsReachOf};
+ghost use Rattle.gix_pathspec.specs.Room.{exclude_set_sources, set_sources, Fits};
 ghost use Rattle.gix_pathspec.specs.Members.{AreMembersOf};
 ghost use Rattle.gix_pathspec.specs.Sets.{head_beside, IsSetMade};
 ghost use Rattle.gix_pathspec.specs.SelectionLaws.{NoNilPrefix, SpecPathsAreBytes};
@@ -27,6 +27,7 @@ use crate::by_head::SpecsByHead;
 use crate::by_head::subtree_excludes::ExcludesByHead;
 use crate::search::compiling::{compile, compile_all, compile_lines};
 use crate::search::counted::{CountedExcludes, CountedHeads, CountedSpecs};
+use crate::search::exclude_members::ExcludeMembers;
 use crate::search::matching::boxed_scratch;
 use crate::search::members::{Members, has_set};
 use crate::search::reach::Reach;
@@ -203,7 +204,7 @@ fn of_ordered(
     ensures effort { IfOk result (λ search. IsFresh search.counts) }
 {
     let (reach, excludes) = pruning(alloc, &specs)?;
-    let (specs, scratch) = with_room(alloc, specs)?;
+    let (specs, scratch) = with_room(alloc, specs, &excludes)?;
     Ok(Search {
         specs,
         scratch,
@@ -233,13 +234,15 @@ fn pruning(alloc: Global, specs: &[CompiledSpec]) -> Result<(Reach, ExcludesByHe
 fn with_room(
     alloc: Global,
     specs: Vec<CompiledSpec>,
+    excludes: &ExcludesByHead,
 ) -> Result<(SpecsByHead, Box<Scratch>), AllocError>
+    requires { excludes.now ≡ subtree_excludes_of (specs_of specs.items) }
     ensures specs { IfOk result (λ pair. pair.0 ≡ specs.items) }
     ensures fits { IfOk result (λ pair. Fits pair.0 (box_value pair.1)) }
     ensures fresh { IfOk result (λ pair. IsFresh (box_value pair.1).counts) }
 {
     let specs = by_head(alloc, specs)?;
-    let scratch = boxed_scratch(alloc, &specs)?;
+    let scratch = boxed_scratch(alloc, &specs, excludes)?;
     Ok((specs, scratch))
 }
 
@@ -297,13 +300,34 @@ fn by_head(alloc: Global, specs: Vec<CompiledSpec>) -> Result<SpecsByHead, Alloc
     Ok(SpecsByHead::new(CountedSpecs::new(specs), heads, members, common))
 }
 
-/// The subtree excludes among the specs, by their heads.
+/// The subtree excludes among the specs, by their heads, and with their set.
 fn excludes_by_head(alloc: Global, specs: &[CompiledSpec]) -> Result<ExcludesByHead, AllocError>
     ensures { IfOk result (λ excludes. excludes ≡ subtree_excludes_of (specs_of specs.now)) }
 {
-    let (excludes, heads) = excludes_with_heads(alloc, specs)?;
+    let (excludes, heads) = excludes_with_heads(alloc, specs, false)?;
     let heads = boxed_heads(alloc, &heads)?;
-    Ok(ExcludesByHead::new(CountedExcludes::new(excludes), heads))
+    let members = exclude_set_of(alloc, specs)?;
+    Ok(ExcludesByHead::new(CountedExcludes::new(excludes), heads, members))
+}
+
+/// The set of the subtree excludes that begin with a wildcard, if there is one.
+fn exclude_set_of(
+    alloc: Global,
+    specs: &[CompiledSpec],
+) -> Result<Option<Box<ExcludeMembers>>, AllocError>
+    ensures members { IfOk result (λ made. IfSome made (λ members.
+        AreExcludeMembersOf (subtree_excludes_of (specs_of specs.now)) (box_value members))) }
+    ensures made { IfOk result (λ made.
+        IsSetMade (exclude_set_sources (subtree_excludes_of (specs_of specs.now)))
+        → is_some made ≡ true) }
+{
+    // Most searches have no set, and then need no second list of heads.
+    if !has_set(specs, true) {
+        return Ok(None);
+    }
+    let (_excludes, heads) = excludes_with_heads(alloc, specs, true)?;
+    let others = boxed_heads(alloc, &heads)?;
+    ExcludeMembers::of_specs(alloc, specs, others)
 }
 
 /// The places of specs by their heads.
@@ -322,7 +346,7 @@ fn set_of(alloc: Global, specs: &[CompiledSpec]) -> Result<Option<Box<Members>>,
         → is_some made ≡ true) }
 {
     // Most searches have no set, and then need no second list of heads.
-    if !has_set(specs) {
+    if !has_set(specs, false) {
         return Ok(None);
     }
     let others = boxed_heads(alloc, &heads_beside(alloc, specs)?)?;

@@ -8,8 +8,10 @@ ghost use Rattle.gix_pathspec.specs.Patterns.{pattern_spec};
 ghost use Rattle.gix_pathspec.specs.Matching.{is_chosen, IsChosen};
 ghost use Rattle.gix_pathspec.specs.Found.{is_directory, answer_found, match_view};
 ghost use Rattle.gix_pathspec.specs.Search.{specs_of, answer, selects, IsFresh};
-ghost use Rattle.gix_pathspec.specs.Room.{set_sources, Fits};
+ghost use Rattle.gix_pathspec.specs.Reach.{subtree_excludes_of};
+ghost use Rattle.gix_pathspec.specs.Room.{exclude_set_sources, set_sources, Fits};
 ghost use Rattle.gix_pathspec.specs.Members.{IsScratchOf};
+ghost use Rattle.gix_pathspec.specs.SetCounts.{set_total};
 ghost use Rattle.gix_pathspec.specs.Sets.{IsSetMade};
 ghost use Rattle.gix_pathspec.specs.Effort.{IsCounted, IsLittleCompared, IsSetCounted, IsBySpec, is_settled_early};
 ghost use Rattle.gix_pathspec.specs.SkipLaws.{FoundIsSkipped};
@@ -17,6 +19,7 @@ ghost use Rattle.std.specs.Box.{box_value};
 
 use crate::Pattern;
 use crate::by_head::SpecsByHead;
+use crate::by_head::subtree_excludes::ExcludesByHead;
 use crate::search::counted::SpecScratch;
 use crate::search::{MatchKind, Scratch, Search};
 use bstr::BStr;
@@ -65,7 +68,8 @@ impl Search {
 
     /// Makes room for matches of the search, with all counts at 0. Each walker that shares a search has a scratch of its own.
     /// The cost is linear in the tokens of the largest glob and in the names of attributes that the specs list. If four specs or
-    /// more begin with a wildcard, it is also linear in the size of their set, of which the scratch has a table of at most 6 MiB.
+    /// more begin with a wildcard, it is also linear in the size of their set, of which the scratch has a table of at most 9 MiB;
+    /// and so it is if four of the excludes do that [`Search::may_skip`] asks.
     ///
     /// # Errors
     /// Memory runs out.
@@ -73,12 +77,13 @@ impl Search {
         ensures fits { IfOk result (Fits self.now.specs) }
         ensures fresh { IfOk result (λ scratch. IsFresh scratch.counts) }
     {
-        scratch_for(alloc, &self.specs)
+        scratch_for(alloc, &self.specs, &self.excludes)
     }
 
     /// Whether a scratch has room for matches of the search. One that [`Search::new_scratch`] made for it has. So has one of a
     /// search whose specs list the same attributes and have globs that are no shorter; if four or more begin with a wildcard,
-    /// these are the same. The cost is linear in the names of attributes that the specs list, and in the bytes of those specs.
+    /// these are the same, and the same of them are excludes that [`Search::may_skip`] asks. The cost is linear in the names of
+    /// attributes that the specs list, and in the bytes of those specs.
     pub fn fits(&self, scratch: &Scratch) -> bool
         ensures { IsTrue result ↔ Fits self.now.specs scratch.now }
     {
@@ -145,7 +150,7 @@ impl Search {
         ensures unasked { IsTrue (is_settled_early self.now.specs (bstr_bytes path.entry))
             → (scratch.new.counts.last_tested ≡ 0) × (scratch.new.counts.last_compared ≡ 0) }
 
-        // Counts the steps of the set. It tells which of its specs to ask unless it gives up, and then few are asked.
+        // Counts the steps and looks of the set. It tells which of its specs to ask unless it gives up, and then few are asked.
         ensures by_set { IsSetCounted self.now.specs (bstr_bytes path.entry)
             scratch.old.counts scratch.new.counts }
     {
@@ -285,19 +290,26 @@ pub(super) fn selects(found: &Option<Match<'_>>) -> bool
     }
 }
 
-/// Makes room for matches of the specs, with all counts at 0.
-fn scratch_for(alloc: Global, specs: &SpecsByHead) -> Result<Scratch, AllocError>
+/// Makes room for matches of the specs and for questions to their subtree excludes, with all counts at 0.
+fn scratch_for(
+    alloc: Global,
+    specs: &SpecsByHead,
+    excludes: &ExcludesByHead,
+) -> Result<Scratch, AllocError>
+    requires { excludes.now ≡ subtree_excludes_of (specs_of specs.now) }
     ensures fits { IfOk result (Fits specs.now) }
     ensures fresh { IfOk result (λ scratch. IsFresh scratch.counts) }
 {
     let room = SpecScratch::for_specs(alloc, specs.counted())?;
     let set = set_scratch(alloc, specs)?;
-    Ok(Scratch::new(room, set, specs.heads().new_scratch()))
+    let exclude_set = exclude_scratch(alloc, excludes)?;
+    Ok(Scratch::new(room, set, exclude_set, specs.heads().new_scratch()))
 }
 
 /// Makes room for the set of the specs to read paths in, if there is a set.
 fn set_scratch(alloc: Global, specs: &SpecsByHead) -> Result<Option<SetScratch>, AllocError>
     ensures own { IfOk result (λ set. ForSome set (IsScratchOf (set_sources specs.now))) }
+    ensures unasked { IfOk result (λ set. set_total set ≡ 0) }
     ensures made { IfOk result (λ set. IsSetMade (set_sources specs.now)
         → is_some set ≡ true) }
 {
@@ -307,10 +319,32 @@ fn set_scratch(alloc: Global, specs: &SpecsByHead) -> Result<Option<SetScratch>,
     }
 }
 
+/// Makes room for the set of the excludes to read directories in, if there is a set.
+fn exclude_scratch(
+    alloc: Global,
+    excludes: &ExcludesByHead,
+) -> Result<Option<SetScratch>, AllocError>
+    ensures own { IfOk result (λ set.
+        ForSome set (IsScratchOf (exclude_set_sources excludes.now))) }
+    ensures unasked { IfOk result (λ set. set_total set ≡ 0) }
+    ensures made { IfOk result (λ set. IsSetMade (exclude_set_sources excludes.now)
+        → is_some set ≡ true) }
+{
+    match excludes.members() {
+        Some(members) => Ok(Some(members.new_scratch(alloc)?)),
+        None => Ok(None),
+    }
+}
+
 /// Makes room for matches of the specs, in a box: whoever drops a search needn't prove anew what becomes of a scratch's lists.
-pub(super) fn boxed_scratch(alloc: Global, specs: &SpecsByHead) -> Result<Box<Scratch>, AllocError>
+pub(super) fn boxed_scratch(
+    alloc: Global,
+    specs: &SpecsByHead,
+    excludes: &ExcludesByHead,
+) -> Result<Box<Scratch>, AllocError>
+    requires { excludes.now ≡ subtree_excludes_of (specs_of specs.now) }
     ensures fits { IfOk result (λ scratch. Fits specs.now (box_value scratch)) }
     ensures fresh { IfOk result (λ scratch. IsFresh (box_value scratch).counts) }
 {
-    Ok(Box::new(alloc, scratch_for(alloc, specs)?)?)
+    Ok(Box::new(alloc, scratch_for(alloc, specs, excludes)?)?)
 }

@@ -4,15 +4,15 @@
 //! asks only those whose glob matches. No set is asked of a path that begins with a wildcard byte, since that may be a spec's text.
 ghost use Rattle.std.specs.Prelude.{◌≡◌, ◌+◌, ◌*◌, ◌<◌, ◌≤◌, ◌&&◌, ℕ, Bool, true, false, not, List, Some, None, length, get_or, map, IfOk, IfSome, IsTrue, IsFalse};
 ghost use Rattle.std.specs.Box.{box_value};
-ghost use Rattle.pathspec_glob.specs.Counts.{Counts};
 ghost use Rattle.pathspec_glob_set.specs.Moves.{AreAlike};
 ghost use Rattle.pathspec_glob_set.specs.Sizes.{most_places};
 ghost use Rattle.gix_pathspec.specs.Attributes.{Table};
 ghost use Rattle.gix_pathspec.specs.EndBytes.{has_wildcard_at};
 ghost use Rattle.gix_pathspec.specs.Paths.{IsBytes};
 ghost use Rattle.gix_pathspec.specs.Members.{AreMembersOf, GaveUp, IsAhead, IsHitBy, IsRead, IsScratchOf};
-ghost use Rattle.gix_pathspec.specs.Room.{has_set, set_sources, sources_in_order};
+ghost use Rattle.gix_pathspec.specs.Room.{has_members, has_set, made_sources, member_sources, sources_in_order};
 ghost use Rattle.gix_pathspec.specs.Search.{Numbered};
+ghost use Rattle.gix_pathspec.specs.SetCounts.{GrowsBy, HasLooked};
 ghost use Rattle.gix_pathspec.specs.Sets.{is_member, member_from, member_places, places_of, ArePlacesBeside, IsHit, IsNext, NoneBefore};
 
 use crate::search::counted::CountedHeads;
@@ -24,7 +24,7 @@ use std::alloc::{AllocError, Global};
 use std::marker::Model;
 
 /// How many specs a set has at least.
-const FEWEST: usize = 4;
+pub(super) const FEWEST: usize = 4;
 
 /// What a member of a set is made of: the glob of a spec that begins with a wildcard.
 #[derive(Drop)]
@@ -87,7 +87,7 @@ impl Members {
         ensures none { IfOk result (λ made. made ≡ None
             → most_places < places_of (sources_in_order specs.now)) }
     {
-        let globs = make_members(alloc, &sources(alloc, specs)?)?;
+        let globs = make_members(alloc, &sources(alloc, specs, false)?)?;
         let Some(set) = GlobSet::new(alloc, &globs)? else {
             return Ok(None);
         };
@@ -105,7 +105,8 @@ impl Members {
     /// # Errors
     /// Memory runs out.
     pub(super) fn new_scratch(&self, alloc: Global) -> Result<SetScratch, AllocError>
-        ensures { IfOk result (λ scratch. AreAlike scratch.table.moves self.now.set.moves) }
+        ensures alike { IfOk result (λ scratch. AreAlike scratch.table.moves self.now.set.moves) }
+        ensures unasked { IfOk result (λ scratch. scratch.total ≡ 0) }
     {
         self.set.new_scratch(alloc)
     }
@@ -128,6 +129,8 @@ impl Members {
             → IsBytes path → IsRead path scratch.old → IsHitBy specs path result }
         ensures within { result ≤ length self.now.places.items }
         ensures kept { KeepsReading scratch.old scratch.new }
+        ensures looks { HasLooked (length self.now.places.items) result
+            scratch.old.total scratch.new.total }
     {
         scratch.next_of(0).unwrap_or(self.places.len())
     }
@@ -154,6 +157,9 @@ impl Members {
             → IfSome result (IsHit specs path) × IsHitBy specs path rank.new }
         ensures within { rank.new ≤ length self.now.places.items }
         ensures kept { KeepsReading scratch.old scratch.new }
+        ensures looks { (begun : ℕ)
+            → HasLooked (length self.now.places.items) rank.old begun scratch.old.total
+            → HasLooked (length self.now.places.items) rank.new begun scratch.new.total }
     {
         while self.is_passed(*rank, from) {
             *rank = scratch.next_of(*rank + 1).unwrap_or(self.places.len());
@@ -176,41 +182,39 @@ impl Members {
 }
 
 /// Reads a path by a set, and tells whether the set can say which of its specs may match: not where a wildcard byte begins the path,
-/// nor where the set gives up, which `gave_up` tells. `stepped` counts the steps of the set.
-pub(crate) fn read(
-    path: &[u8],
-    scratch: &mut SetScratch,
-    stepped: &mut u128,
-    gave_up: &mut bool,
-) -> bool
-    requires none { stepped.old ≡ 0 }
+/// nor where the set gives up, which `gave_up` tells.
+pub(crate) fn read(path: &[u8], scratch: &mut SetScratch, gave_up: &mut bool) -> bool
     requires going { gave_up.old ≡ false }
     ensures told { result ≡ (not (has_wildcard_at path.now 0) && not gave_up.new) }
     ensures gave_up { gave_up.new ≡ true → GaveUp path.now scratch.old scratch.new }
     ensures read { IsTrue result → IsRead path.now scratch.new }
     ensures room { scratch.new.table.moves ≡ scratch.old.table.moves }
-    ensures counted { Counts scratch.old.total stepped.new scratch.new.total }
-    ensures few { stepped.new ≤ length path.now * (length scratch.old.table.moves.wide + 2) }
+    ensures few { GrowsBy (length path.now * (length scratch.old.table.moves.wide + 2))
+        scratch.old.total scratch.new.total }
 {
     if has_wildcard_at(path, 0) {
         return false;
     }
     scratch.read(path);
-    *stepped = scratch.last_steps();
     *gave_up = scratch.gave_up();
     !*gave_up
 }
 
-/// What a set of all specs that may be members is made of, in search order.
+/// What a set of all specs that may be members is made of, in search order. `of_excludes` tells whether it is the set of the subtree
+/// excludes.
 ///
 /// # Errors
 /// Memory runs out.
-fn sources(alloc: Global, specs: &[CompiledSpec]) -> Result<Vec<SetMember>, AllocError>
-    ensures { IfOk result (λ sources. sources.items ≡ sources_in_order specs.now) }
+pub(super) fn sources(
+    alloc: Global,
+    specs: &[CompiledSpec],
+    of_excludes: bool,
+) -> Result<Vec<SetMember>, AllocError>
+    ensures { IfOk result (λ sources. sources.items ≡ member_sources of_excludes specs.now) }
 {
     let mut sources = Vec::new(alloc);
     for spec in specs {
-        if let Some(source) = spec.source(alloc)? {
+        if let Some(source) = spec.source(alloc, of_excludes)? {
             sources.push(source)?;
         }
     }
@@ -218,7 +222,10 @@ fn sources(alloc: Global, specs: &[CompiledSpec]) -> Result<Vec<SetMember>, Allo
 }
 
 /// Makes the members of a set.
-fn make_members(alloc: Global, sources: &[SetMember]) -> Result<Vec<Member>, AllocError>
+///
+/// # Errors
+/// Memory runs out.
+pub(super) fn make_members(alloc: Global, sources: &[SetMember]) -> Result<Vec<Member>, AllocError>
     ensures { IfOk result (λ members. members.items ≡ map member_from sources.now) }
 {
     let mut members = Vec::with_capacity(alloc, sources.len())?;
@@ -234,38 +241,39 @@ fn places(alloc: Global, specs: &[CompiledSpec]) -> Result<Vec<usize>, AllocErro
 {
     let mut places = Vec::new(alloc);
     for (place, spec) in specs.iter().enumerate() {
-        if spec.is_member() {
+        if spec.is_member(false) {
             places.push(place)?;
         }
     }
     Ok(places)
 }
 
-/// Whether enough specs begin with a wildcard for a set.
-pub(super) fn has_set(specs: &[CompiledSpec]) -> bool
-    ensures { result ≡ has_set specs.now }
+/// Whether enough specs are there for a set: that of the subtree excludes, or that of all specs.
+pub(super) fn has_set(specs: &[CompiledSpec], of_excludes: bool) -> bool
+    ensures { result ≡ has_members of_excludes specs.now }
 {
     let mut count: usize = 0;
     for spec in specs {
-        if spec.is_member() {
+        if spec.is_member(of_excludes) {
             count += 1;
         }
     }
     count >= FEWEST
 }
 
-/// What the set of some specs is made of, in search order; none without a set.
+/// What a set of some specs is made of, in search order; none without a set.
 ///
 /// # Errors
 /// Memory runs out.
 pub(super) fn set_sources(
     alloc: Global,
     specs: &[CompiledSpec],
+    of_excludes: bool,
 ) -> Result<Vec<SetMember>, AllocError>
-    ensures { IfOk result (λ sources. sources.items ≡ set_sources specs.now) }
+    ensures { IfOk result (λ sources. sources.items ≡ made_sources of_excludes specs.now) }
 {
-    if has_set(specs) {
-        sources(alloc, specs)
+    if has_set(specs, of_excludes) {
+        sources(alloc, specs, of_excludes)
     } else {
         Ok(Vec::new(alloc))
     }

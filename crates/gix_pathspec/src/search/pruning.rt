@@ -12,7 +12,7 @@ ghost use Rattle.gix_pathspec.specs.Skipping.{may_skip, answer_takes_whole, hold
 ghost use Rattle.gix_pathspec.specs.SkipLaws.{SkippedIsNotChosen, NothingIsChosen, SkippedStays, SkipsMore, SkipIsExact};
 ghost use Rattle.gix_pathspec.specs.Search.{BeginsCounts, specs_of, answer, selects};
 ghost use Rattle.gix_pathspec.specs.SkipTables.{holds_nothing_by_tables, skips_by_tables};
-ghost use Rattle.gix_pathspec.specs.SubtreeExcludes.{IsSkipCounted, IsVisitCounted};
+ghost use Rattle.gix_pathspec.specs.SkipCounts.{IsSkipCounted, IsVisitCounted};
 ghost use Rattle.std.specs.Option.{option_map};
 ghost use Rattle.pathspec_parts.specs.Attributes.{AsksLookUp};
 ghost use Rattle.gix_pathspec.specs.Effort.{IsCounted};
@@ -206,6 +206,10 @@ impl Search {
     /// directory. Their glob ends with `**`, or in a shell glob with `*`, or they have a prefix directory and ignore case. The
     /// scratch counts these questions, and the comparisons of heads, as in a match. No more excludes are asked than have a
     /// head that begins the directory.
+    ///
+    /// If four of them or more begin with a wildcard, as `:!*/node_modules/*`, a set of their globs reads the directory and a slash
+    /// once, as in a match, and tells whether one of them takes it. Then none of them is asked. The set tells nothing of a
+    /// directory that begins with a wildcard byte, nor where it gave up.
     pub fn may_skip(&self, directory: BStr<'_>, scratch: &mut Scratch) -> bool
         requires { Fits self.now.specs scratch.old }
         ensures answer { result ≡ may_skip (specs_of self.now.specs) (bstr_bytes directory.entry) }
@@ -325,7 +329,7 @@ impl Search {
         // A file, and a directory whose match takes it whole, needs the match alone.
         ensures counted { let found = answer (L.table look_up.old) self.now.specs
             (bstr_bytes path.entry) is_dir in
-            OnOk result (IsVisitCounted self.now.specs (bstr_bytes path.entry)
+            OnOk result (IsVisitCounted self.now.specs (bstr_bytes path.entry) is_dir
             (is_dir && not (answer_takes_whole found)) scratch.old.counts scratch.new.counts) }
         ensures match_counted { OnErr result (IsCounted self.now.specs (bstr_bytes path.entry)
             scratch.old.counts scratch.new.counts) }

@@ -1,11 +1,12 @@
 //! Specs ready for matching.
-ghost use Rattle.std.specs.Prelude.{◌≡◌, ◌↔◌, ◌≤◌, length, true, Some, IsTrue, IfOk, IfErr};
+ghost use Rattle.std.specs.Prelude.{◌≡◌, ◌↔◌, ◌≤◌, ◌&&◌, length, true, is_some, Some, IsTrue, IfOk, IfErr};
 ghost use Rattle.std.specs.Option.{option_map};
 ghost use Rattle.gix_pathspec.specs.Errors.{IsMemory};
 ghost use Rattle.gix_pathspec.specs.Paths.{IsBytes};
 ghost use Rattle.gix_pathspec.specs.Patterns.{pattern_spec};
 ghost use Rattle.gix_pathspec.specs.Room.{glob_of};
-ghost use Rattle.gix_pathspec.specs.Specs.{has_wildcard};
+ghost use Rattle.gix_pathspec.specs.Reach.{can_take_rest};
+ghost use Rattle.gix_pathspec.specs.Specs.{has_wildcard, is_exclude};
 
 use crate::search::members::SetMember;
 use crate::search::spec_matching::{self, first_byte, last_byte};
@@ -13,7 +14,7 @@ use crate::{Error, MagicSignature, Pattern, SearchMode};
 use bitflags::Flags;
 use pathspec_heads::tables::{SpecStem, StemTable};
 use pathspec_parts::attributes::Outcome;
-use pathspec_parts::glob::{Glob, Mode, Scratch, first_wildcard};
+use pathspec_parts::glob::{DirectoryGlob, Glob, Mode, Scratch, first_wildcard};
 use std::alloc::{AllocError, Global};
 use std::fmt;
 use std::marker::Model;
@@ -31,6 +32,8 @@ pub(crate) struct CompiledSpec {
     pub(super) first: Option<u8>,
     /// The last byte of each path that the glob matches, where the pattern tells one.
     pub(super) last: Option<u8>,
+    /// Whether the spec is an exclude whose glob can take all below a directory, as `:(exclude,glob)a/**`.
+    pub(super) takes_rest: bool,
 }
 
 impl fmt::Debug for CompiledSpec {
@@ -48,13 +51,13 @@ impl Model for CompiledSpec {
 
     ghost view = { λ c. numbered_pattern c.number c.pattern };
 
-    ghost invariant = { λ c. IsCompiled (pattern_spec c.pattern) c.stem c.glob c.first c.last };
+    ghost invariant = { λ c. IsCompiled (pattern_spec c.pattern) c.stem c.glob c.first c.last c.takes_rest };
 }
 
 impl CompiledSpec {
-    ghost use Rattle.std.specs.Prelude.{◌&&◌, List, IfSome};
+    ghost use Rattle.std.specs.Prelude.{List, IfSome};
     ghost use Rattle.gix_pathspec.specs.Patterns.{pattern_spec};
-    ghost use Rattle.gix_pathspec.specs.Specs.{Spec, is_include, ignores_case, wants_directory, always_matches, has_wildcard};
+    ghost use Rattle.gix_pathspec.specs.Specs.{Spec, is_include, ignores_case, wants_directory, always_matches};
     ghost use Rattle.gix_pathspec.specs.Prefixes.{stem, head};
     ghost use Rattle.gix_pathspec.specs.Tables.{IsTableOf};
     ghost use Rattle.gix_pathspec.specs.Plain.{has_one_case};
@@ -62,8 +65,8 @@ impl CompiledSpec {
     ghost use Rattle.gix_pathspec.specs.Reach.{takes_by_path, is_tabled, path_of, taken_paths, is_shadowed, has_stem};
     ghost use Rattle.gix_pathspec.specs.Compiled.{numbered_pattern};
     ghost use Rattle.pathspec_parts.specs.Outcomes.{names_of};
-    ghost use Rattle.gix_pathspec.specs.Room.{tokens_of, asks_no_more, attribute_names, source_of, source_with};
-    ghost use Rattle.gix_pathspec.specs.Sets.{head_beside, is_member};
+    ghost use Rattle.gix_pathspec.specs.Room.{tokens_of, asks_no_more, attribute_names, member_source, source_with};
+    ghost use Rattle.gix_pathspec.specs.Sets.{head_beside};
 
     /// Makes a pattern ready for matching, under its number. The cost is linear in its path.
     ///
@@ -83,6 +86,7 @@ impl CompiledSpec {
         let glob = compile_glob(alloc, &pattern, is_wild)?;
         let first = first_byte(&pattern, stem);
         let last = last_byte(&pattern, is_wild);
+        let takes_rest = takes_rest(alloc, &pattern, is_wild)?;
         Ok(CompiledSpec {
             pattern,
             number,
@@ -90,6 +94,7 @@ impl CompiledSpec {
             glob,
             first,
             last,
+            takes_rest,
         })
     }
 
@@ -253,15 +258,20 @@ impl CompiledSpec {
         }
     }
 
-    /// The spec's glob, as the source of a member of a set. None where the spec doesn't begin with a wildcard, or has no glob, or
-    /// where some path doesn't begin with its head.
+    /// The spec's glob, as the source of a member of a set: that of all specs, or that of the subtree excludes. None where the spec
+    /// doesn't begin with a wildcard, or has no glob, or where some path doesn't begin with its head; and, of excludes, where it is
+    /// no exclude whose glob can take all below a directory.
     ///
     /// # Errors
     /// Memory runs out.
-    pub(super) fn source(&self, alloc: Global) -> Result<Option<SetMember>, AllocError>
-        ensures { IfOk result (λ source. source ≡ source_of self.now.spec) }
+    pub(super) fn source(
+        &self,
+        alloc: Global,
+        of_excludes: bool,
+    ) -> Result<Option<SetMember>, AllocError>
+        ensures { IfOk result (λ source. source ≡ member_source of_excludes self.now.spec) }
     {
-        let Some(mode) = self.member_mode() else {
+        let Some(mode) = self.member_mode(of_excludes) else {
             return Ok(None);
         };
         Ok(Some(SetMember {
@@ -272,23 +282,26 @@ impl CompiledSpec {
         }))
     }
 
-    /// The mode of the spec's glob, where the spec is a member of a set.
-    fn member_mode(&self) -> Option<Mode>
+    /// The mode of the spec's glob, where the spec is a member of the set.
+    fn member_mode(&self, of_excludes: bool) -> Option<Mode>
         ensures { option_map (λ mode. source_with self.now.spec
             (record { mode = mode; pattern = self.now.spec.path })) result
-            ≡ source_of self.now.spec }
+            ≡ member_source of_excludes self.now.spec }
     {
+        if of_excludes && !(self.takes_by_path() && self.takes_rest) {
+            return None;
+        }
         if self.stem != 0 || !self.head().is_empty() {
             return None;
         }
         glob_mode(&self.pattern, self.has_wildcard())
     }
 
-    /// Whether the spec is a member of a set.
-    pub(super) fn is_member(&self) -> bool
-        ensures { result ≡ is_member self.now.spec }
+    /// Whether the spec is a member of the set: that of all specs, or that of the subtree excludes.
+    pub(super) fn is_member(&self, of_excludes: bool) -> bool
+        ensures { result ≡ is_some (member_source of_excludes self.now.spec) }
     {
-        self.member_mode().is_some()
+        self.member_mode(of_excludes).is_some()
     }
 
     /// Whether the spec matches where its glob does: it lists no attribute, wants no directory, and keeps no prefix directory.
@@ -298,22 +311,33 @@ impl CompiledSpec {
         self.pattern.attributes.is_empty() && !self.wants_directory() && self.has_one_case()
     }
 
-    /// Whether a source is that of the spec.
-    pub(super) fn has_source(&self, source: &SetMember) -> bool
-        ensures { IsTrue result ↔ (source_of self.now.spec ≡ Some source.now) }
+    /// Whether a source is that of the spec, as a member of the set.
+    pub(super) fn has_source(&self, source: &SetMember, of_excludes: bool) -> bool
+        ensures { IsTrue result ↔ (member_source of_excludes self.now.spec ≡ Some source.now) }
     {
-        let is_of = self.member_mode() == Some(source.mode);
+        let is_of = self.member_mode(of_excludes) == Some(source.mode);
         is_of
             && source.pattern.as_slice() == self.path()
             && source.case == spec_matching::case_of(&self.pattern)
             && source.cuts == self.asks_no_more()
     }
 
+    /// Whether the spec is an exclude whose glob can take all below a directory.
+    pub(super) fn takes_rest(&self) -> bool
+        ensures { result ≡ (is_exclude self.now.spec && can_take_rest self.now.spec) }
+    {
+        self.takes_rest
+    }
+
     /// The head by which the spec is looked for beside a set: that of a member is a wildcard byte.
     pub(super) fn head_beside(&self) -> &[u8]
         ensures { result.now ≡ head_beside true self.now.spec }
     {
-        if self.is_member() { b"*" } else { self.head() }
+        if self.is_member(false) {
+            b"*"
+        } else {
+            self.head()
+        }
     }
 
     /// The spec as a pattern.
@@ -397,6 +421,31 @@ pub(super) fn glob_mode(pattern: &Pattern, is_wild: bool) -> Option<Mode>
         SearchMode::ShellGlob => Some(Mode::Shell),
         SearchMode::Literal => None,
         SearchMode::PathAwareGlob => Some(Mode::PathAware),
+    }
+}
+
+/// Whether a pattern is an exclude whose glob can take all below a directory. `is_wild` says whether it has a wildcard. The cost is
+/// linear in the path.
+///
+/// # Errors
+/// Memory runs out.
+fn takes_rest(alloc: Global, pattern: &Pattern, is_wild: bool) -> Result<bool, AllocError>
+    requires { is_wild ≡ has_wildcard (pattern_spec pattern.now) }
+    ensures { IfOk result (λ takes_rest. takes_rest ≡ (is_exclude (pattern_spec pattern.now)
+        && can_take_rest (pattern_spec pattern.now))) }
+{
+    if !pattern.is_excluded() || !pattern.attributes.is_empty() {
+        return Ok(false);
+    }
+    if pattern.signature.contains(MagicSignature::MUST_BE_DIR) {
+        return Ok(false);
+    }
+    match glob_mode(pattern, is_wild) {
+        Some(mode) => {
+            let glob = DirectoryGlob::compile(alloc, pattern.path().as_bytes(), mode)?;
+            Ok(glob.has_open_end())
+        }
+        None => Ok(false),
     }
 }
 

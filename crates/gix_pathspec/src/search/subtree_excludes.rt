@@ -1,14 +1,16 @@
 //! Subtree excludes, which a search asks one by one whether a walk may skip a directory.
-ghost use Rattle.std.specs.Prelude.{◌≡◌, ◌≤◌, ◌&&◌, [], ◌∷◌, ◌++◌, List, map, IfOk};
+ghost use Rattle.std.specs.Prelude.{◌≡◌, ◌≤◌, ◌&&◌, true, [], ◌∷◌, ◌++◌, List, map, IfOk};
 ghost use Rattle.bstr.specs.BStr.{bstr_bytes};
 ghost use Rattle.gix_pathspec.specs.Bytes.{slash};
 ghost use Rattle.gix_pathspec.specs.Paths.{without_last_slash};
 ghost use Rattle.gix_pathspec.specs.Specs.{Spec};
 ghost use Rattle.gix_pathspec.specs.Patterns.{pattern_spec};
 ghost use Rattle.gix_pathspec.specs.Matching.{glob_matches};
+ghost use Rattle.gix_pathspec.specs.Reach.{can_take_rest, subtree_excludes_of, takes_by_path};
 ghost use Rattle.gix_pathspec.specs.Room.{tokens_of};
 ghost use Rattle.gix_pathspec.specs.Search.{specs_of};
-ghost use Rattle.gix_pathspec.specs.SubtreeExcludes.{can_take_rest, subtree_excludes_of, as_subtree_exclude, rest_glob, covers, exclude_head};
+ghost use Rattle.gix_pathspec.specs.ExcludeSets.{exclude_head_beside};
+ghost use Rattle.gix_pathspec.specs.SubtreeExcludes.{as_subtree_exclude, rest_glob, covers, exclude_head};
 
 use crate::Pattern;
 use crate::search::spec::{CompiledSpec, glob_mode};
@@ -115,46 +117,54 @@ impl CompiledSpec {
     }
 }
 
-/// Makes the subtree excludes of the specs, in their order, and the head of each.
+/// Makes the subtree excludes of the specs, in their order, and the head by which each is looked for, where a set is asked or isn't.
 ///
 /// # Errors
 /// Memory runs out.
 pub(super) fn excludes_with_heads(
     alloc: Global,
     specs: &[CompiledSpec],
+    is_set_asked: bool,
 ) -> Result<(Vec<SubtreeExclude>, Vec<&[u8]>), AllocError>
     ensures excludes { IfOk result (λ pair. pair.0.items ≡ subtree_excludes_of (specs_of specs.now)) }
-    ensures heads { IfOk result (λ pair.
-        map (λ head. head.now) pair.1.items ≡ map exclude_head pair.0.items) }
+    ensures heads { IfOk result (λ pair. map (λ head. head.now) pair.1.items
+        ≡ map (exclude_head_beside is_set_asked) pair.0.items) }
 {
     let mut excludes = Vec::new(alloc);
     let mut heads = Vec::new(alloc);
     for spec in specs {
         if let Some(exclude) = SubtreeExclude::of_spec(alloc, spec)? {
             excludes.push(exclude)?;
-            heads.push(spec.exclude_head())?;
+            heads.push(head_beside(spec, is_set_asked))?;
         }
     }
     Ok((excludes, heads))
 }
 
-/// Compiles the glob that a spec compares with a directory and a slash; None where it can't take all below a directory.
+/// The head by which a subtree exclude is looked for: that of one in a set that is asked is a wildcard byte.
+fn head_beside(spec: &CompiledSpec, is_set_asked: bool) -> &[u8]
+    ensures { result.now ≡ exclude_head_beside is_set_asked spec.now.spec }
+{
+    if is_set_asked && spec.is_member(true) {
+        b"*"
+    } else {
+        spec.exclude_head()
+    }
+}
+
+/// Compiles the glob that an exclude compares with a directory and a slash; None where it can't take all below a directory.
 ///
 /// # Errors
 /// Memory runs out.
 fn rest_glob(alloc: Global, spec: &CompiledSpec) -> Result<Option<DirectoryGlob>, AllocError>
+    requires { takes_by_path spec.now.spec ≡ true }
     ensures { IfOk result (λ glob. glob ≡ rest_glob spec.now.spec) }
 {
-    if !spec.pattern().attributes.is_empty() || spec.wants_directory() {
+    if !spec.takes_rest() {
         return Ok(None);
     }
-    let Some(mode) = glob_mode(spec.pattern(), spec.has_wildcard()) else {
-        return Ok(None);
-    };
-    let glob = DirectoryGlob::compile(alloc, spec.path(), mode)?;
-    if glob.has_open_end() {
-        Ok(Some(glob))
-    } else {
-        Ok(None)
+    match glob_mode(spec.pattern(), spec.has_wildcard()) {
+        Some(mode) => Ok(Some(DirectoryGlob::compile(alloc, spec.path(), mode)?)),
+        None => Ok(None),
     }
 }

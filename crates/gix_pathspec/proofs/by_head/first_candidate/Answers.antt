@@ -11,6 +11,8 @@ use Rattle.gix_pathspec.proofs.EffortProofs.{match-here, match-later, same-table
 use Rattle.gix_pathspec.proofs.HeadSearchProofs.{few-more, few-test}
 use Rattle.gix_pathspec.proofs.CandidateProofs.{from-next, none-after, none-next, unsettled-there}
 use Rattle.gix_pathspec.proofs.MemberProofs.{as-many, head-within, kept-candidates, kept-trans, next-on}
+use Rattle.gix_pathspec.specs.SetCounts.{asked_count, set_total}
+use Rattle.gix_pathspec.proofs.SetCountsProofs.{few-looks}
 use Rattle.gix_pathspec.proofs.by_head.first_candidate.Goals as goal
 
 pub loop-from-init : goal.loop-from-init
@@ -26,6 +28,7 @@ loop-from-init g c = record {
   steps = omega (arith, c.requires.none);
   asked = kept-candidates c.args.specs.now (bstr_bytes c.args.path) c.args.candidates.now c.args.set.now c.first-rank.new.set c.first-rank.ensures.kept c.requires.candidates;
   kept = c.first-rank.ensures.kept;
+  looked = c.first-rank.ensures.looks;
   none = λ p n l is. absurd (let no : ⊥ = omega (arith, l) in no);
   rank = c.first-rank.ensures.rank;
   next = c.first-rank.ensures.next c.args.specs.now (bstr_bytes c.args.path) c.requires.bytes c.requires.candidates;
@@ -49,8 +52,11 @@ returns-in-None-clause-first g c =
     let said = c.next.ensures.next c.args.specs.now (bstr_bytes c.args.path) (g.L.LookUp.table c.args.look_up.now) c.args.is_dir c.requires.bytes i.asked i.none i.next in
     sym i.rest ∙ none-next (g.L.LookUp.table c.args.look_up.now) c.args.specs.now (bstr_bytes c.args.path) c.args.is_dir c.loop-from.from (subst (IsNext any_spec c.args.specs.now (bstr_bytes c.args.path) c.loop-from.from) c.in-None.is said.0) i.within
 
-pub returns-in-None-clause-kept : goal.returns-in-None-clause-kept
-returns-in-None-clause-kept g c = kept-trans c.args.set.now c.loop-from.set c.next.new.set c.loop-from.invariant.kept c.next.ensures.kept
+pub returns-in-None-clause-asks_set : goal.returns-in-None-clause-asks_set
+returns-in-None-clause-asks_set g c = record {
+  kept = kept-trans c.args.set.now c.loop-from.set c.next.new.set c.loop-from.invariant.kept c.next.ensures.kept;
+  looks = few-looks (asked_count c.args.candidates.now.members) c.next.new.rank (set_total c.args.set.now) (set_total c.next.new.set) (c.next.ensures.looks (set_total c.args.set.now) c.loop-from.invariant.looked);
+}
 
 pub matches-requires-clause-room : goal.matches-requires-clause-room
 matches-requires-clause-room g c = subst (HasRoom c.args.specs.now) (sym c.loop-from.invariant.room) c.requires.room
@@ -70,8 +76,11 @@ returns-in_err-kind-clause-few g c =
     let n = from-next (g.L.LookUp.table c.args.look_up.now) c.args.specs.now (bstr_bytes c.args.path) c.args.is_dir c.loop-from.from c.in-Some.place is in
     omega (arith, few-more (λ n. head n.spec) (bstr_bytes c.args.path) c.args.specs.now c.loop-from.from c.in-Some.place c.loop-from.tested is.behind n.0 n.1 i.few)
 
-pub returns-in_err-kind-clause-kept : goal.returns-in_err-kind-clause-kept
-returns-in_err-kind-clause-kept g c = kept-trans c.args.set.now c.loop-from.set c.next.new.set c.loop-from.invariant.kept c.next.ensures.kept
+pub returns-in_err-kind-clause-asks_set : goal.returns-in_err-kind-clause-asks_set
+returns-in_err-kind-clause-asks_set g c = record {
+  kept = kept-trans c.args.set.now c.loop-from.set c.next.new.set c.loop-from.invariant.kept c.next.ensures.kept;
+  looks = few-looks (asked_count c.args.candidates.now.members) c.next.new.rank (set_total c.args.set.now) (set_total c.next.new.set) (c.next.ensures.looks (set_total c.args.set.now) c.loop-from.invariant.looked);
+}
 
 pub returns-in-Some-2-clause-first : goal.returns-in-Some-2-clause-first
 returns-in-Some-2-clause-first g c =
@@ -90,8 +99,11 @@ returns-in-Some-2-clause-few g c =
     let n = from-next (g.L.LookUp.table c.args.look_up.now) c.args.specs.now (bstr_bytes c.args.path) c.args.is_dir c.loop-from.from c.in-Some.place is in
     omega (arith, few-more (λ n. head n.spec) (bstr_bytes c.args.path) c.args.specs.now c.loop-from.from c.in-Some.place c.loop-from.tested is.behind n.0 n.1 i.few)
 
-pub returns-in-Some-2-clause-kept : goal.returns-in-Some-2-clause-kept
-returns-in-Some-2-clause-kept g c = kept-trans c.args.set.now c.loop-from.set c.next.new.set c.loop-from.invariant.kept c.next.ensures.kept
+pub returns-in-Some-2-clause-asks_set : goal.returns-in-Some-2-clause-asks_set
+returns-in-Some-2-clause-asks_set g c = record {
+  kept = kept-trans c.args.set.now c.loop-from.set c.next.new.set c.loop-from.invariant.kept c.next.ensures.kept;
+  looks = few-looks (asked_count c.args.candidates.now.members) c.next.new.rank (set_total c.args.set.now) (set_total c.next.new.set) (c.next.ensures.looks (set_total c.args.set.now) c.loop-from.invariant.looked);
+}
 
 pub overflow_add-from : goal.overflow_add-from
 overflow_add-from g c =
@@ -132,7 +144,14 @@ loop-from-preserved g c =
       steps = omega (arith, is.behind, i.steps);
       asked = kept-candidates c.args.specs.now (bstr_bytes c.args.path) c.args.candidates.now c.loop-from.set c.next.new.set c.next.ensures.kept i.asked;
       kept = kept-trans c.args.set.now c.loop-from.set c.next.new.set i.kept c.next.ensures.kept;
+      looked = c.next.ensures.looks (set_total c.args.set.now) i.looked;
       none = none-after (g.L.LookUp.table c.args.look_up.now) c.args.specs.now (bstr_bytes c.args.path) c.args.is_dir c.loop-from.from c.in-Some.place is i.none away;
       rank = c.next.ensures.rank;
       next = next-on c.args.specs.now (bstr_bytes c.args.path) c.args.candidates.now c.loop-from.from (c.in-Some.place + 1) c.next.new.rank further said.1;
     }
+
+pub returns-clause-asks_set : goal.returns-clause-asks_set
+returns-clause-asks_set g c = record {
+  kept = c.loop-from.invariant.kept;
+  looks = few-looks (asked_count c.args.candidates.now.members) c.loop-from.rank (set_total c.args.set.now) (set_total c.loop-from.set) c.loop-from.invariant.looked;
+}

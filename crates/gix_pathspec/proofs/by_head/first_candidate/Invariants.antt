@@ -6,6 +6,7 @@ use Rattle.gix_pathspec.specs.Found.{first_match}
 use Rattle.gix_pathspec.specs.Effort.{candidate_count, unsettled_count}
 use Rattle.gix_pathspec.specs.Sets.{NoneBefore}
 use Rattle.gix_pathspec.specs.Candidates.{AreCandidates, AreKept, AreNext, IsRank}
+use Rattle.gix_pathspec.specs.SetCounts.{asked_count, set_total, HasLooked}
 use Rattle.gix_pathspec.proofs.by_head.first_candidate.Given as goal
 
 abbrev pub invariant-loop-from : goal.invariant-loop-from
@@ -22,6 +23,7 @@ invariant-loop-from g l =
       steps : l.tested ≤ l.from;
       asked : AreCandidates l.specs (bstr_bytes l.path) l.candidates l.set;
       kept : AreKept l.fn.set l.set;
+      looked : HasLooked (asked_count l.candidates.members) l.rank (set_total l.fn.set) (set_total l.set);
       none : NoneBefore (g.L.LookUp.table l.fn.look_up) l.specs (bstr_bytes l.path) l.is_dir l.from;
       rank : IsRank l.candidates l.rank;
       next : AreNext l.specs (bstr_bytes l.path) l.candidates l.from l.rank;

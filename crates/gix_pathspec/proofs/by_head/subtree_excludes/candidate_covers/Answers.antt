@@ -1,62 +1,94 @@
--- The next place leaves out only excludes whose head doesn't begin the directory; one that takes it is enough, and one that doesn't leaves it to the rest.
-use Rattle.std.proofs.Common.{◌≡◌, ◌<◌, ◌≤◌, ◌∙◌, sym, arith, List, ℕ, Option, Some, drop, find, length, map, true}
+-- The next place leaves out only excludes that cover nothing beside the set; one that covers the directory is enough, and one that doesn't leaves it to the rest.
+use Rattle.std.proofs.Common.{◌∙◌, sym, arith}
 use Rattle.bstr.specs.BStr.{bstr_bytes}
-use Rattle.pathspec_heads.specs.Heads.{head_at, IsChainOf}
-use Rattle.pathspec_heads.specs.Groups.{GroupedPlaces, IsInChain, IsLeastFrom}
 use Rattle.pathspec_heads.proofs.SearchProofs.{counts-more}
-use Rattle.gix_pathspec.specs.Bytes.{begins_with}
-use Rattle.gix_pathspec.specs.Specs.{Spec}
-use Rattle.gix_pathspec.specs.SubtreeExcludes.{AreExcludePlaces, covers, exclude_head}
-use Rattle.gix_pathspec.proofs.HeadSearchProofs.{next-candidate, no-candidate, few-more}
-use Rattle.gix_pathspec.proofs.SubtreeExcludeProofs.{headless, element-at, passes-at, fails-at, none-passes, none-left-passes}
+use Rattle.gix_pathspec.specs.ExcludeSets.{covers_beside, is_headed_beside}
+use Rattle.gix_pathspec.proofs.ExcludeBesideProofs.{fewer-beside, next-exclude, no-exclude}
+use Rattle.gix_pathspec.proofs.HeadSearchProofs.{few-test}
+use Rattle.gix_pathspec.proofs.SubtreeExcludeProofs.{passes-at, fails-at, none-passes, none-left-passes}
 use Rattle.gix_pathspec.proofs.by_head.subtree_excludes.candidate_covers.Goals as goal
 
-module _ (excludes : List Spec) (places : GroupedPlaces) (grouped : AreExcludePlaces excludes places) (d : List ℕ) (head from : ℕ) (chain : IsChainOf places.heads d head) (next : Option ℕ) (least : IsLeastFrom (IsInChain places.heads places.starts places.order head) from next) where
-  -- the next exclude whose head begins the directory
-  at : (place : ℕ) → next ≡ Some place → (from ≤ place) × (place < length excludes) × (begins_with d (head_at (map exclude_head excludes) place) ≡ true) × (find (λ s. covers s d) (drop from excludes) ≡ find (λ s. covers s d) (drop place excludes))
-  at place is = next-candidate exclude_head (λ s. covers s d) d (headless d) excludes places grouped head chain from next least place is
+pub next_place-requires : goal.next_place-requires
+next_place-requires c = c.requires.beside.1.within
 
 pub returns-in-None-clause-answer : goal.returns-in-None-clause-answer
-returns-in-None-clause-answer c =
+returns-in-None-clause-answer c asked beside =
     let i = c.loop-from.invariant in
     let d = bstr_bytes c.args.directory in
-    none-passes (λ s. covers s d) c.args.excludes.now (sym i.rest ∙ no-candidate exclude_head (λ s. covers s d) d (headless d) c.args.excludes.now c.args.heads.now c.requires.grouped c.args.head c.requires.chain c.loop-from.from c.next_place.result c.next_place.ensures c.in-None.is i.within)
+    let excludes = c.args.excludes.now in
+    none-passes (covers_beside asked d) excludes (sym (i.rest asked beside) ∙ no-exclude asked excludes d c.args.heads.now c.args.head c.loop-from.from beside c.next_place.result c.next_place.ensures c.in-None.is i.within)
 
 pub covers-requires-clause-place : goal.covers-requires-clause-place
-covers-requires-clause-place c = (at c.args.excludes.now c.args.heads.now c.requires.grouped (bstr_bytes c.args.directory) c.args.head c.loop-from.from c.requires.chain c.next_place.result c.next_place.ensures c.in-Some.place c.in-Some.is).1
+covers-requires-clause-place c =
+    let own = c.requires.beside in
+    (next-exclude own.0 c.args.excludes.now (bstr_bytes c.args.directory) c.args.heads.now c.args.head c.loop-from.from own.1 c.next_place.result c.next_place.ensures c.in-Some.place c.in-Some.is).within
 
 pub returns-then-covers-clause-answer : goal.returns-then-covers-clause-answer
-returns-then-covers-clause-answer c =
-    let n = at c.args.excludes.now c.args.heads.now c.requires.grouped (bstr_bytes c.args.directory) c.args.head c.loop-from.from c.requires.chain c.next_place.result c.next_place.ensures c.in-Some.place c.in-Some.is in
-    let e = element-at c.args.excludes.now c.in-Some.place n.1 in
-    passes-at (λ s. covers s (bstr_bytes c.args.directory)) c.args.excludes.now c.in-Some.place e.0 e.1 (sym c.if-covers.true ∙ c.covers.ensures.answer e.0 e.1)
+returns-then-covers-clause-answer c asked beside =
+    let d = bstr_bytes c.args.directory in
+    let excludes = c.args.excludes.now in
+    let n = next-exclude asked excludes d c.args.heads.now c.args.head c.loop-from.from beside c.next_place.result c.next_place.ensures c.in-Some.place c.in-Some.is in
+    passes-at (covers_beside asked d) excludes c.in-Some.place n.spec n.there (sym c.if-covers.true ∙ (c.covers.ensures.answer n.spec n.there ∙ n.own))
+
+pub returns-in-None-clause-few : goal.returns-in-None-clause-few
+returns-in-None-clause-few c =
+    let own = c.requires.beside in
+    omega (arith, c.loop-from.invariant.few own.0 own.1, fewer-beside own.0 (bstr_bytes c.args.directory) c.args.excludes.now)
+
+pub returns-in-None-clause-few_beside : goal.returns-in-None-clause-few_beside
+returns-in-None-clause-few_beside c asked beside = omega (arith, c.loop-from.invariant.few asked beside)
 
 pub returns-then-covers-clause-few : goal.returns-then-covers-clause-few
 returns-then-covers-clause-few c =
-    let n = at c.args.excludes.now c.args.heads.now c.requires.grouped (bstr_bytes c.args.directory) c.args.head c.loop-from.from c.requires.chain c.next_place.result c.next_place.ensures c.in-Some.place c.in-Some.is in
-    omega (arith, few-more exclude_head (bstr_bytes c.args.directory) c.args.excludes.now c.loop-from.from c.in-Some.place c.loop-from.tested n.0 n.1 n.2 c.loop-from.invariant.few)
+    let own = c.requires.beside in
+    let d = bstr_bytes c.args.directory in
+    let excludes = c.args.excludes.now in
+    let n = next-exclude own.0 excludes d c.args.heads.now c.args.head c.loop-from.from own.1 c.next_place.result c.next_place.ensures c.in-Some.place c.in-Some.is in
+    omega (arith, few-test (is_headed_beside own.0 d) excludes c.loop-from.from c.in-Some.place c.loop-from.tested n.spec n.behind n.there n.headed (c.loop-from.invariant.few own.0 own.1), fewer-beside own.0 d excludes)
+
+pub returns-then-covers-clause-few_beside : goal.returns-then-covers-clause-few_beside
+returns-then-covers-clause-few_beside c asked beside =
+    let d = bstr_bytes c.args.directory in
+    let excludes = c.args.excludes.now in
+    let n = next-exclude asked excludes d c.args.heads.now c.args.head c.loop-from.from beside c.next_place.result c.next_place.ensures c.in-Some.place c.in-Some.is in
+    omega (arith, few-test (is_headed_beside asked d) excludes c.loop-from.from c.in-Some.place c.loop-from.tested n.spec n.behind n.there n.headed (c.loop-from.invariant.few asked beside))
+
+pub returns-clause-few : goal.returns-clause-few
+returns-clause-few c =
+    let own = c.requires.beside in
+    omega (arith, c.loop-from.invariant.few own.0 own.1, fewer-beside own.0 (bstr_bytes c.args.directory) c.args.excludes.now)
+
+pub returns-clause-few_beside : goal.returns-clause-few_beside
+returns-clause-few_beside c asked beside = omega (arith, c.loop-from.invariant.few asked beside)
 
 pub overflow_add-from : goal.overflow_add-from
 overflow_add-from c =
-    let n = at c.args.excludes.now c.args.heads.now c.requires.grouped (bstr_bytes c.args.directory) c.args.head c.loop-from.from c.requires.chain c.next_place.result c.next_place.ensures c.in-Some.place c.in-Some.is in
-    omega (arith, n.1, c.len-count.ensures, c.len-count.type_inv)
+    let own = c.requires.beside in
+    let n = next-exclude own.0 c.args.excludes.now (bstr_bytes c.args.directory) c.args.heads.now c.args.head c.loop-from.from own.1 c.next_place.result c.next_place.ensures c.in-Some.place c.in-Some.is in
+    omega (arith, n.within, c.len-count.ensures, c.len-count.type_inv)
 
 pub loop-from-preserved : goal.loop-from-preserved
 loop-from-preserved c =
     let i = c.loop-from.invariant in
+    let own = c.requires.beside in
     let d = bstr_bytes c.args.directory in
-    let n = at c.args.excludes.now c.args.heads.now c.requires.grouped d c.args.head c.loop-from.from c.requires.chain c.next_place.result c.next_place.ensures c.in-Some.place c.in-Some.is in
-    let e = element-at c.args.excludes.now c.in-Some.place n.1 in
+    let excludes = c.args.excludes.now in
+    let places = c.args.heads.now in
+    let n = next-exclude own.0 excludes d places c.args.head c.loop-from.from own.1 c.next_place.result c.next_place.ensures c.in-Some.place c.in-Some.is in
     record {
       room = c.covers.ensures.room ∙ i.room;
-      within = omega (arith, n.1);
-      rest = sym (fails-at (λ s. covers s d) c.args.excludes.now c.in-Some.place e.0 e.1 (sym c.if-covers.false ∙ c.covers.ensures.answer e.0 e.1)) ∙ (sym n.3 ∙ i.rest);
+      within = omega (arith, n.within);
+      rest = λ asked beside.
+          let m = next-exclude asked excludes d places c.args.head c.loop-from.from beside c.next_place.result c.next_place.ensures c.in-Some.place c.in-Some.is in
+          sym (fails-at (covers_beside asked d) excludes c.in-Some.place m.spec m.there (sym c.if-covers.false ∙ (c.covers.ensures.answer m.spec m.there ∙ m.own))) ∙ (sym m.rest ∙ i.rest asked beside);
       counted = counts-more c.args.scratch.now.tested c.loop-from.tested c.loop-from.scratch.tested c.covers.new.scratch.tested i.counted c.covers.ensures.counted;
-      few = few-more exclude_head d c.args.excludes.now c.loop-from.from c.in-Some.place c.loop-from.tested n.0 n.1 n.2 i.few;
-      steps = omega (arith, n.0, i.steps);
+      few = λ asked beside.
+          let m = next-exclude asked excludes d places c.args.head c.loop-from.from beside c.next_place.result c.next_place.ensures c.in-Some.place c.in-Some.is in
+          few-test (is_headed_beside asked d) excludes c.loop-from.from c.in-Some.place c.loop-from.tested m.spec m.behind m.there m.headed (i.few asked beside);
+      steps = omega (arith, n.behind, i.steps);
     }
 
 pub returns-clause-answer : goal.returns-clause-answer
-returns-clause-answer c =
+returns-clause-answer c asked beside =
     let i = c.loop-from.invariant in
-    none-left-passes (λ s. covers s (bstr_bytes c.args.directory)) c.args.excludes.now c.loop-from.from (omega (arith, c.loop-from-test.false, c.len-count.ensures)) i.rest
+    none-left-passes (covers_beside asked (bstr_bytes c.args.directory)) c.args.excludes.now c.loop-from.from (omega (arith, c.loop-from-test.false, c.len-count.ensures)) (i.rest asked beside)

@@ -1,16 +1,19 @@
 -- A directory that holds nothing is passed over, one whose match takes it whole may be skipped, and the law of skipping holds of the specs of each search.
-use Rattle.std.proofs.Common.{◌≡◌, ◌∙◌, ◌&&◌, ℕ, Bool, IsTrue, List, true, false, subst, sym}
+use Rattle.std.proofs.Common.{◌≡◌, ◌∙◌, ◌&&◌, not, ap, ℕ, Bool, IsTrue, List, true, false, subst, sym}
+use Rattle.std.specs.Prelude.{MatchBool}
 use Rattle.std.proofs.lemmas.Bool.{and_parts, both_ways}
 use Rattle.std.specs.Option.{option_map}
 use Rattle.bstr.specs.BStr.{bstr_bytes}
 use Rattle.gix_pathspec.specs.Found.{match_view}
-use Rattle.gix_pathspec.specs.Search.{SearchContents, specs_of, in_search_order}
+use Rattle.gix_pathspec.specs.Room.{ScratchContents}
+use Rattle.gix_pathspec.specs.Search.{answer, specs_of, in_search_order, MatchCounts, SearchContents}
+use Rattle.gix_pathspec.specs.SkipCounts.{IsSkipCounted}
 use Rattle.gix_pathspec.specs.SelectionLaws.{NoNilPrefix}
-use Rattle.gix_pathspec.specs.Skipping.{holds_nothing, HaveOneCase}
+use Rattle.gix_pathspec.specs.Skipping.{answer_takes_whole, holds_nothing, HaveOneCase}
 use Rattle.gix_pathspec.specs.SkipTables.{holds_nothing_by_tables}
 use Rattle.gix_pathspec.specs.Specs.{Spec}
 use Rattle.gix_pathspec.proofs.SkipProofs.{skipped_is_not_chosen}
-use Rattle.gix_pathspec.proofs.VisitProofs.{passed-counted, passed-not-chosen, passed-not-entered, passed-not-selected, visit-skipped}
+use Rattle.gix_pathspec.proofs.VisitProofs.{passed-counted, passed-not-chosen, passed-not-entered, passed-not-selected, visit-counted, visit-skipped}
 use Rattle.gix_pathspec.proofs.SkipTableProofs.{held-by-tables}
 use Rattle.gix_pathspec.proofs.search.Search.visit.Goals.{else-is_dir-via-then-is_dir+else-holds_nothing_by_tables, else-is_dir-via-else-is_dir}
 use Rattle.gix_pathspec.proofs.search.Search.visit.Goals as goal
@@ -46,7 +49,8 @@ returns-then-holds_nothing_by_tables-clause-safe g c table = rw (← c.self.view
 
 pub returns-then-holds_nothing_by_tables-clause-counted :
     goal.returns-then-holds_nothing_by_tables-clause-counted
-returns-then-holds_nothing_by_tables-clause-counted g c = passed-counted c.args.self.now.specs (bstr_bytes c.args.path) _ c.args.scratch.now.counts c.holds_nothing_by_tables.new.scratch.counts c.holds_nothing_by_tables.ensures.begun
+returns-then-holds_nothing_by_tables-clause-counted g c = passed-counted c.args.self.now.specs (bstr_bytes c.args.path) c.args.is_dir _ c.args.scratch.now.counts c.holds_nothing_by_tables.new.scratch.counts c.if-is_dir.true
+    (told _ (bstr_bytes c.args.path) c.holds_nothing_by_tables.ensures.answer c.if-holds_nothing_by_tables.true) c.holds_nothing_by_tables.ensures.begun
 
 pub returns-in_err-found-clause-safe : goal.returns-in_err-found-clause-safe
 returns-in_err-found-clause-safe g c table = rw (← c.self.view_is) (skipped_is_not_chosen table _ c.self.invariant.has_no_nil_prefix)
@@ -75,3 +79,28 @@ returns-clause-passed_over g c =
       | else-is_dir-via-else-is_dir w ↦ λ k. absurd (both_ways c.args.is_dir w.if-is_dir.false k)
     ] in
     not_passed (specs_of c.args.self.now.specs) (bstr_bytes c.args.path) c.args.is_dir none
+
+pub returns-clause-counted : goal.returns-clause-counted
+returns-clause-counted g c =
+    let specs = c.args.self.now.specs in
+    let path = bstr_bytes c.args.path in
+    let old = c.args.scratch.now.counts in
+    let mid = c.else-is_dir.scratch.counts in
+    let none : c.args.is_dir ≡ true → holds_nothing_by_tables (specs_of specs) path ≡ false = elim c.else-is_dir.branch [
+      | else-is_dir-via-then-is_dir+else-holds_nothing_by_tables w ↦ λ k. sym w.holds_nothing_by_tables.ensures.answer ∙ w.if-holds_nothing_by_tables.false
+      | else-is_dir-via-else-is_dir w ↦ λ k. absurd (both_ways c.args.is_dir w.if-is_dir.false k)
+    ] in
+    let kept : (mid.tested ≡ old.tested) × (mid.compared ≡ old.compared) × (mid.stepped ≡ old.stepped) = elim c.else-is_dir.branch [
+      | else-is_dir-via-then-is_dir+else-holds_nothing_by_tables w ↦
+          let is = ap (λ (s : ScratchContents). s.counts) w.scratch-is in
+          let begun = w.holds_nothing_by_tables.ensures.begun in
+          (ap (λ (k : MatchCounts). k.tested) is ∙ begun.tested, ap (λ (k : MatchCounts). k.compared) is ∙ begun.compared, ap (λ (k : MatchCounts). k.stepped) is ∙ begun.stepped)
+      | else-is_dir-via-else-is_dir w ↦
+          let is = ap (λ (s : ScratchContents). s.counts) w.scratch-is in
+          (ap (λ (k : MatchCounts). k.tested) is, ap (λ (k : MatchCounts). k.compared) is, ap (λ (k : MatchCounts). k.stepped) is)
+    ] in
+    let between = c.settle.new.scratch.counts in
+    let new = c.enters-is_entered.new.scratch.counts in
+    let whole : c.takes_whole-is_skipped.result ≡ answer_takes_whole (answer (g.L.LookUp.table c.args.look_up.now) specs path c.args.is_dir) = c.takes_whole-is_skipped.ensures ∙ ap answer_takes_whole c.in_ok-found.ensures.answer in
+    let skipped = subst (λ b. MatchBool (c.args.is_dir && not b) (IsSkipCounted (specs_of specs) path between new) (new ≡ between)) whole c.enters-is_entered.ensures.counted in
+    visit-counted specs path c.args.is_dir _ old mid between new kept.0 kept.1 kept.2 none c.in_ok-found.ensures.counted c.in_ok-found.ensures.by_set skipped

@@ -2,8 +2,7 @@
 use Rattle.std.proofs.Common.{◌≡◌, ◌∙◌, sym, ap, List, subst}
 use Rattle.gix_pathspec.specs.Search.{Numbered, specs_of, in_search_order}
 use Rattle.gix_pathspec.specs.SelectionLaws.{NoNilPrefix, SpecPathsAreBytes}
-use Rattle.gix_pathspec.specs.Reach.{IsReachOf}
-use Rattle.gix_pathspec.specs.SubtreeExcludes.{subtree_excludes_of}
+use Rattle.gix_pathspec.specs.Reach.{subtree_excludes_of, IsReachOf}
 use Rattle.gix_pathspec.proofs.search.init.of_ordered.Goals as goal
 
 pub invariant_of-result : goal.invariant_of-result

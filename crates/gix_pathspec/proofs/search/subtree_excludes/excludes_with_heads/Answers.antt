@@ -1,16 +1,18 @@
 -- A spec that is such an exclude comes last, and its head.
-use Rattle.std.proofs.Common.{◌≡◌, ◌∙◌, sym, ap, List, [], ◌∷◌, ◌++◌, ℕ, map, take, arith}
+use Rattle.std.proofs.Common.{◌≡◌, ◌∙◌, sym, ap, Bool, List, [], ◌∷◌, ◌++◌, ℕ, map, take, arith}
 use Rattle.std.proofs.lemmas.List.{append-nil, map-append}
+use Rattle.gix_pathspec.specs.Reach.{subtree_excludes_of}
 use Rattle.gix_pathspec.specs.Specs.{Spec}
 use Rattle.gix_pathspec.specs.Search.{specs_of}
-use Rattle.gix_pathspec.specs.SubtreeExcludes.{subtree_excludes_of, exclude_head}
+use Rattle.gix_pathspec.specs.ExcludeSets.{exclude_head_beside}
 use Rattle.gix_pathspec.proofs.SubtreeExcludeProofs.{option_list, excludes-more, exclude-same}
 use Rattle.gix_pathspec.proofs.search.subtree_excludes.excludes_with_heads.Goals as goal
 use Rattle.gix_pathspec.proofs.search.subtree_excludes.excludes_with_heads.Goals.{in-Some+in_ok-push+in_ok-push-2, in_default}
 
 -- one more head stands for one more exclude
-head-more : (heads : List (List ℕ)) (excludes : List Spec) (head : List ℕ) (s : Spec) → heads ≡ map exclude_head excludes → head ≡ exclude_head s → heads ++ head ∷ [] ≡ map exclude_head (excludes ++ s ∷ [])
-head-more heads excludes head s e h = rw (e, h) (sym (map-append exclude_head excludes (s ∷ [])))
+head-more : (asked : Bool) (heads : List (List ℕ)) (excludes : List Spec) (head : List ℕ) (s : Spec) → heads ≡ map (exclude_head_beside asked) excludes → head ≡ exclude_head_beside asked s
+    → heads ++ head ∷ [] ≡ map (exclude_head_beside asked) (excludes ++ s ∷ [])
+head-more asked heads excludes head s e h = rw (e, h) (sym (map-append (exclude_head_beside asked) excludes (s ∷ [])))
 
 pub loop-spec-preserved : goal.loop-spec-preserved
 loop-spec-preserved c =
@@ -22,12 +24,12 @@ loop-spec-preserved c =
       | in-Some+in_ok-push+in_ok-push-2 w ↦
           let s = w.in-Some.exclude in
           let excludes : c.match-branch-2.excludes.items ≡ c.loop-spec.excludes.items ++ s ∷ [] = ap (λ v. v.items) w.excludes-is ∙ w.in_ok-push.ensures.items in
-          let heads : c.match-branch-2.heads.items ≡ c.loop-spec.heads.items ++ w.exclude_head.result ∷ [] = ap (λ v. v.items) w.heads-is ∙ w.in_ok-push-2.ensures.items in
+          let heads : c.match-branch-2.heads.items ≡ c.loop-spec.heads.items ++ w.head_beside.result ∷ [] = ap (λ v. v.items) w.heads-is ∙ w.in_ok-push-2.ensures.items in
           let same : s ≡ n.spec = exclude-same n.spec s (sym c.in_ok-exclude.ensures ∙ w.in-Some.is) in
-          let head = w.exclude_head.ensures ∙ ap exclude_head (sym same) in
+          let head = w.head_beside.ensures ∙ ap (exclude_head_beside c.args.is_set_asked) (sym same) in
           record {
             excludes = excludes ∙ (ap (λ ts. ts ++ s ∷ []) i.excludes ∙ sym (more ∙ ap (λ o. before ++ option_list o) w.in-Some.is));
-            heads = rw (heads, excludes) (map-append (λ h. h.now) c.loop-spec.heads.items (w.exclude_head.result ∷ []) ∙ head-more _ c.loop-spec.excludes.items _ s i.heads head);
+            heads = rw (heads, excludes) (map-append (λ h. h.now) c.loop-spec.heads.items (w.head_beside.result ∷ []) ∙ head-more c.args.is_set_asked _ c.loop-spec.excludes.items _ s i.heads head);
           }
       | in_default w ↦ record {
         excludes = ap (λ v. v.items) w.excludes-is ∙ (i.excludes ∙ sym (more ∙ (ap (λ o. before ++ option_list o) w.in_default.is ∙ append-nil before)));

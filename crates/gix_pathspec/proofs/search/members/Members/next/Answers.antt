@@ -2,9 +2,11 @@
 use Rattle.std.proofs.Common.{◌≡◌, ◌+◌, ◌≤◌, ◌∙◌, ap, arith, length, refl, slice_get, ℕ, List}
 use Rattle.std.specs.Prelude.{unwrap_or}
 use Rattle.pathspec_glob_set.specs.declared.table.Table as set_table
+use Rattle.pathspec_glob_set.specs.Answers.{set_in}
 use Rattle.gix_pathspec.specs.Candidates.{IsSetAsked}
 use Rattle.gix_pathspec.proofs.MemberProofs.{keeps-asked, keeps-self, keeps-trans}
 use Rattle.gix_pathspec.proofs.NextMemberProofs.{found-within, got-copied, hit-found, next-found, next-hit, next-said}
+use Rattle.gix_pathspec.proofs.SetCountsProofs.{next-looked}
 use Rattle.gix_pathspec.proofs.search.members.Members.next.Goals as goal
 
 pub loop-scratch-init : goal.loop-scratch-init
@@ -13,6 +15,7 @@ loop-scratch-init c = record {
   kept = keeps-self c.args.scratch.now;
   ahead = λ specs path table is_dir asked bytes none ahead. ahead;
   hit = λ specs path table is_dir asked bytes none ahead hit. hit;
+  looked = λ begun looked. looked;
 }
 
 -- as many globs as places
@@ -42,6 +45,9 @@ loop-scratch-preserved c =
           let now = keeps-asked specs path c.args.self.now c.args.scratch.now c.loop-scratch.scratch i.kept asked in
           next-hit specs path c.args.self.now c.loop-scratch.scratch bytes now table is_dir c.args.from c.loop-scratch.rank c.next_of.result c.unwrap_or.result passed.0 passed.1 none
           (i.ahead specs path table is_dir asked bytes none ahead) (c.next_of.ensures.matches path now.read.read) is;
+      looked = λ begun looked.
+          next-looked (length c.args.self.now.places.items) c.loop-scratch.rank begun (set_in c.loop-scratch.scratch) c.next_of.result c.unwrap_or.result c.loop-scratch.scratch c.next_of.new.self same passed.0 is
+          c.next_of.ensures.total (i.looked begun looked);
     }
 
 pub returns-clause-next : goal.returns-clause-next

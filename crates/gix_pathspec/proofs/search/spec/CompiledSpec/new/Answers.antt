@@ -9,3 +9,6 @@ compile_glob-requires c = stem-wild (pattern_spec c.args.pattern) _ _ c.stem_len
 
 pub last_byte-last-requires : goal.last_byte-last-requires
 last_byte-last-requires c = stem-wild (pattern_spec c.args.pattern) _ _ c.stem_length-stem.ensures (c.as_bytes.ensures ∙ c.path.ensures.path)
+
+pub takes_rest-requires : goal.takes_rest-requires
+takes_rest-requires c = stem-wild (pattern_spec c.args.pattern) _ _ c.stem_length-stem.ensures (c.as_bytes.ensures ∙ c.path.ensures.path)

@@ -1,12 +1,12 @@
 -- The glob's answer is the exclude's.
 use Rattle.std.proofs.Common.{◌≡◌, ◌∙◌, sym, subst, ◌&&◌, ◌++◌, ◌∷◌, []}
 use Rattle.bstr.specs.BStr.{bstr_bytes}
+use Rattle.gix_pathspec.specs.Reach.{can_take_rest}
 use Rattle.gix_pathspec.specs.Bytes.{slash}
 use Rattle.gix_pathspec.specs.Specs.{Spec}
 use Rattle.gix_pathspec.specs.Patterns.{pattern_spec}
 use Rattle.pathspec_glob.specs.Globs.{AnswersGlob}
 use Rattle.gix_pathspec.specs.Matching.{case_of, glob_matches}
-use Rattle.gix_pathspec.specs.SubtreeExcludes.{can_take_rest}
 use Rattle.gix_pathspec.proofs.SubtreeExcludeProofs.{glob-takes}
 use Rattle.gix_pathspec.proofs.search.subtree_excludes.SubtreeExclude.covers_rest.Goals as goal
 
