@@ -1,5 +1,5 @@
 -- The names in a directory, as the system gives them: each with the byte 0 at its end.
-use Rattle.std.specs.Prelude.{ℕ, ◌==◌, Bool, not, ◌||◌, List, [], length, map, if◌then◌else◌, codes, bytes_eq, Vec}
+use Rattle.std.specs.Prelude.{ℕ, ◌==◌, ◌≡◌, Bool, not, ◌||◌, List, [], length, map, if◌then◌else◌, codes, bytes_eq, Vec, Option, IfSome}
 use Rattle.std.specs.List.{filter, slice_split, list_any}
 use Rattle.std.specs.Global.{Global}
 
@@ -34,3 +34,7 @@ given_names path nested bytes = if length path == 0 || nested || not (has_git by
 -- the texts that names hold
 abbrev pub texts_of : List (Vec ℕ Global) → List (List ℕ)
 texts_of names = map (λ name. name.items) names
+
+-- The bytes are all those that a directory has left, where they are known.
+abbrev pub AreAllOf : {D : Type 0} → (D → Option (List ℕ)) → List ℕ → Type 0
+AreAllOf {D} remaining bytes = (directory : D) × IfSome (remaining directory) (λ left. bytes ≡ left)

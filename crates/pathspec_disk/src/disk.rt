@@ -4,7 +4,7 @@ ghost use Rattle.std.specs.Ordering.{nat_cmp};
 ghost use Rattle.std.specs.Cmp.Lexicographic.{slice_cmp};
 ghost use Rattle.std.specs.List.Sorted.{IsSorted, IsPermutation};
 ghost use Rattle.std.specs.Str.{is_utf8};
-ghost use Rattle.pathspec_disk.specs.Names.{given_names, texts_of};
+ghost use Rattle.pathspec_disk.specs.Names.{AreAllOf, given_names, texts_of};
 ghost use Rattle.pathspec_disk.specs.declared.fault.DiskFault.TheVariants.{NotUtf8, Memory};
 
 use crate::names::{has_git, names_of};
@@ -105,7 +105,9 @@ impl<'a, R: Files + AllocGlobal> Directories for Disk<'a, R> {
 
     /// Opens a directory, reads the names in it and closes it. A nested repository that isn't to be opened has no names.
     fn open(&mut self, path: &[u8]) -> Result<Option<Vec<Vec<u8>>>, DiskFault>
-        // They are those of the names that were read.
+        // The bytes are all those of a directory that was opened, and the names are those in them.
+        ensures read { IfOk result (λ found. IfSome found (λ _.
+            AreAllOf R.Dir.remaining self.new.bytes.items)) }
         ensures kept { IfOk result (λ found. IfSome found (λ names. IsPermutation
             (given_names path.now self.old.options.nested self.new.bytes.items)
             (texts_of names.items))) }
@@ -115,12 +117,13 @@ impl<'a, R: Files + AllocGlobal> Directories for Disk<'a, R> {
         ensures sorted { IfOk result (λ found. IfSome found (λ names.
             self.old.options.unsorted ≡ false →
             IsSorted (λ x y. slice_cmp nat_cmp x.items y.items) names.items)) }
+        ensures utf8 { IfErr result (λ fault. fault ≡ NotUtf8 → is_utf8 path.now ≡ false) }
     {
         let options = self.options;
         self.seen.ask();
         self.turn_to(path)?;
         let opened = self.rt.open_dir(self.name.as_str());
-        if !read_opened(opened, &mut self.room, &mut self.bytes)? {
+        if !read_opened(opened, &mut self.room, &mut self.bytes)?? {
             return Ok(None);
         }
         if !path.is_empty() && !options.nested && has_git(&self.bytes) {
