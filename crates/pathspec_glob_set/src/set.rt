@@ -71,7 +71,7 @@ impl GlobSet {
     }
 
     /// Makes room to search the set in, of 1,024 rows, or 4,096 where it has 64 globs or more, but 60 for each star behind the front
-    /// of a glob, up to 32,768. They take at most 9 MiB, so a set of many places has fewer.
+    /// of a glob, up to 32,768. They take at most 9 MiB, and 64 KiB for each glob, so a set of many places has fewer.
     ///
     /// # Errors
     /// Memory runs out.
