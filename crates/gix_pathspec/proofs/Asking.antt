@@ -19,7 +19,7 @@ use Rattle.gix_pathspec.specs.Skipping.{takes_whole, takes_rest, shadows, holds_
 use Rattle.gix_pathspec.specs.Directories.{directory_matches, common_directory}
 use Rattle.gix_pathspec.specs.Search.{Numbered, Answer, search_of, answer, selects, specs_of}
 use Rattle.gix_pathspec.specs.Room.{source_of}
-use Rattle.gix_pathspec.specs.Sets.{member_places}
+use Rattle.gix_pathspec.specs.SetSources.{all_sources, has_set_behind, places_behind, set_source_of}
 use Rattle.gix_pathspec.specs.ExcludeSets.{is_exclude_member}
 use Rattle.pathspec_pattern.proofs.Asking.{parse}
 
@@ -42,6 +42,11 @@ unfoldable pub set_member : List ℕ → List ℕ → Option Bool
 unfolding parse normal_form climb
 set_member prefix text = option_map (λ source. source.cuts) (option_and_then source_of (result_ok (parse text >>= λ s. normal_form prefix [] s)))
 
+-- the head right behind which the glob of a text's spec begins, if it does so, and whether the spec decides where its glob matches
+unfoldable pub headed_member : List ℕ → List ℕ → Option (List ℕ × Bool)
+unfolding parse normal_form climb
+headed_member prefix text = option_map (λ source. (source.head, source.member.cuts)) (option_and_then set_source_of (result_ok (parse text >>= λ s. normal_form prefix [] s)))
+
 -- whether a text's spec is an exclude that stands in the set of those that a skip question asks
 unfoldable pub exclude_member : List ℕ → List ℕ → Option Bool
 unfolding parse normal_form climb tokens_from
@@ -60,10 +65,15 @@ unfoldable pub searched : List ℕ → List (List ℕ) → Option (List Numbered
 unfolding parse normal_form climb search_of
 searched prefix texts = option_and_then (λ specs. result_ok (search_of prefix [] specs)) (result_ok (all_ok (map parse texts)))
 
--- the places of the members of a search
-unfoldable pub set_places : List ℕ → List (List ℕ) → Option (List ℕ)
+-- whether a head has a set in a search
+unfoldable pub has_head_set : List ℕ → List (List ℕ) → List ℕ → Option Bool
+unfolding searched tokens_from
+has_head_set prefix texts h = option_map (λ search. has_set_behind (all_sources search) h) (searched prefix texts)
+
+-- the places of the specs whose glob begins right behind a head
+unfoldable pub head_places : List ℕ → List (List ℕ) → List ℕ → Option (List ℕ)
 unfolding searched
-set_places prefix texts = option_map member_places (searched prefix texts)
+head_places prefix texts h = option_map (places_behind h) (searched prefix texts)
 
 -- what it answers to a path
 unfoldable pub answered : List ℕ → List (List ℕ) → List ℕ → Bool → Option (Option Answer)

@@ -63,7 +63,7 @@ module _ (s : Spec) (wild : has_wildcard s ≡ true) where
   abbrev folds : Bool
   folds = ignores_case s
 
-  parts : (s.nil ≡ false) × (list_any is_wildcard s.path ≡ true)
+  pub parts : (s.nil ≡ false) × (list_any is_wildcard s.path ≡ true)
   parts = at s.nil (list_any is_wildcard s.path) wild
     where
       at : (n a : Bool) → (not n && a) ≡ true → (n ≡ false) × (a ≡ true)

@@ -13,7 +13,7 @@ use Rattle.gix_pathspec.specs.EndBytes.{has_wildcard_at}
 use Rattle.gix_pathspec.specs.Specs.{Spec}
 use Rattle.gix_pathspec.specs.SubtreeExcludes.{AreExcludePlaces, covers, exclude_head, subtree_exclude_count}
 use Rattle.gix_pathspec.specs.ExcludeSets.{covers_beside, exclude_count_beside, exclude_head_beside, is_exclude_member, is_headed_beside, member_covers, AreExcludePlacesBeside, AreExcludesBeside, AreHeadsBeside}
-use Rattle.gix_pathspec.proofs.CandidateProofs.{star-wild}
+use Rattle.gix_pathspec.proofs.CandidateProofs.{ended-wild}
 use Rattle.gix_pathspec.proofs.HeadSearchProofs.{got-within, next-candidate, no-candidate}
 use Rattle.gix_pathspec.proofs.SubtreeExcludeProofs.{element-at, headless}
 
@@ -36,7 +36,7 @@ module _ (asked : Bool) (excludes : List Spec) (d : List ℕ) (plain : asked ≡
   outside = at (asked && is_exclude_member s) refl (subst (λ h. begins_with d h ≡ true) (head-there (exclude_head_beside asked) excludes place s is) begun)
     where
       at : (c : Bool) → (asked && is_exclude_member s) ≡ c → begins_with d (cond c (star ∷ []) (exclude_head s)) ≡ true → (asked && is_exclude_member s) ≡ false
-      at true e h = absurd (both_ways (has_wildcard_at d 0) (plain (and_parts asked (is_exclude_member s) e).0) (star-wild d h))
+      at true e h = absurd (both_ways (has_wildcard_at d 0) (plain (and_parts asked (is_exclude_member s) e).0) (ended-wild d [] h).1)
       at false e h = e
 
   -- so its own head begins the directory

@@ -1,27 +1,23 @@
 -- What a set of globs says of the subtree excludes in it.
-use Rattle.std.proofs.Common.{◌≡◌, ℕ, zero, suc, ◌+◌, ◌<◌, Bool, true, false, not, ◌&&◌, ◌||◌, inl, inr, refl, sym, ◌∙◌, ap, arith, cond, List, [], ◌∷◌, ◌++◌, length, take, get_or, Option, Some, None}
+use Rattle.std.proofs.Common.{◌≡◌, ℕ, zero, suc, ◌<◌, Bool, true, false, not, ◌&&◌, inl, inr, refl, sym, ◌∙◌, ap, arith, cond, List, [], ◌∷◌, ◌++◌, length, get_or, Some, None}
 use Rattle.std.proofs.lemmas.Bool.{and_parts, or_left, or_right, cases_Bool, both_ways, not-true, false_from_ne_true}
-use Rattle.std.specs.Prelude.{is_some, ltb}
+use Rattle.std.specs.Prelude.{ltb}
 use Rattle.std.specs.List.{cons_option, list_any}
-use Rattle.std.specs.Option.{option_map}
-use Rattle.pathspec_glob.specs.Globs.{GlobSource}
 use Rattle.pathspec_glob_set.specs.Sets.{member_matches}
 use Rattle.gix_pathspec.specs.Bytes.{slash, is_empty, is_wildcard}
 use Rattle.gix_pathspec.specs.Paths.{IsBytes}
-use Rattle.gix_pathspec.specs.Specs.{Spec, always_matches, is_exclude, has_wildcard, ignores_case, prefix_directory, wants_directory}
+use Rattle.gix_pathspec.specs.Specs.{Spec, has_wildcard, ignores_case, prefix_directory}
 use Rattle.gix_pathspec.specs.Plain.{has_one_case}
 use Rattle.gix_pathspec.specs.Matching.{glob_matches, is_in_prefix_directory, is_prefix_match, is_verbatim_match}
 use Rattle.gix_pathspec.specs.Prefixes.{head, stem}
 use Rattle.gix_pathspec.specs.EndBytes.{has_wildcard_at}
-use Rattle.gix_pathspec.specs.Skipping.{has_open_end}
-use Rattle.gix_pathspec.specs.Room.{exclude_set_sources, exclude_source_of, exclude_sources, glob_of, has_exclude_set, has_members, made_sources, member_sources, source_of, source_with, MemberSource}
-use Rattle.gix_pathspec.specs.Reach.{can_take_rest, is_subtree_exclude, subtree_excludes_of, takes_by_path}
+use Rattle.gix_pathspec.specs.Room.{exclude_set_sources, exclude_source_of, exclude_sources, has_exclude_set, has_members, made_sources, member_sources, source_of, MemberSource}
+use Rattle.gix_pathspec.specs.Reach.{can_take_rest, is_subtree_exclude, subtree_excludes_of}
 use Rattle.gix_pathspec.specs.Search.{Numbered, specs_of}
-use Rattle.gix_pathspec.specs.Sets.{is_member, member_from}
-use Rattle.gix_pathspec.specs.SubtreeExcludes.{as_subtree_exclude, rest_glob}
-use Rattle.gix_pathspec.specs.ExcludeSets.{ExcludeSetCuts, ExcludeSetLeavesOut, ExcludesCut}
+use Rattle.gix_pathspec.specs.Sets.{member_from}
+use Rattle.gix_pathspec.specs.ExcludeSets.{ExcludeSetCuts, ExcludeSetLeavesOut}
 use Rattle.gix_pathspec.proofs.EndByteProofs.{prefix-wild, verbatim-wild}
-use Rattle.gix_pathspec.proofs.SubtreeExcludeProofs.{exclude-lost, exclude-rest, exclude-whole, excludes-more, option_list}
+use Rattle.gix_pathspec.proofs.SubtreeExcludeProofs.{exclude-lost, exclude-rest, exclude-whole}
 use Rattle.gix_pathspec.proofs.SetProofs.{all-bytes, bytes-at, kept, length-none, member-is-glob, source-parts, IsSource}
 
 -- ---- the source of an exclude
@@ -104,56 +100,21 @@ exclude-set-cuts s source d e bytes on =
       ]
     ]
 
-pub excludes-cut : ExcludesCut
-excludes-cut s source e =
-    let p = exclude-source-parts s source e in
-    ap (λ (x : MemberSource). x.cuts) p.is.is
-    ∙ no-more (is_empty s.attributes) (not (wants_directory s)) (has_wildcard s) (has_open_end s.mode s) (has_one_case s) p.takes_rest (no-head-one-case s p.is.wild p.is.no_head)
-  where
-    no-more : (a n w o c : Bool) → (a && n && w && o) ≡ true → c ≡ true → (a && n && c) ≡ true
-    no-more true true w o c h one = one
-    no-more true false w o c h one = cc
-    no-more false n w o c h one = cc
-
--- ---- which specs have a source
-
-module _ (s : Spec) (rest : Bool) (is : rest ≡ (is_exclude s && can_take_rest s)) where
-  -- one that takes nothing by its path, or not the rest of a directory, has none
-  pub no-source : (takes_by_path s && rest) ≡ false → None ≡ exclude_source_of s
-  no-source h = at (is_exclude s) (is_empty s.attributes) (not (always_matches s)) (can_take_rest s) (not (has_one_case s)) (ap (λ r. takes_by_path s && r) (sym is) ∙ h)
-    where
-      at : (e a m r o : Bool) → ((e && a && m) && (e && r)) ≡ false → None ≡ cond (((e && a && m) && (r || o)) && r) (source_of s) None
-      at true true true true o h = cc
-      at true true true false true h = refl
-      at true true true false false h = refl
-      at true true false r o h = refl
-      at true false m r o h = refl
-      at false a m r o h = refl
-
-  -- and another one has that of a spec which begins with a wildcard
-  pub own-source : (takes_by_path s && rest) ≡ true → source_of s ≡ exclude_source_of s
-  own-source h = at (is_exclude s) (is_empty s.attributes) (not (always_matches s)) (can_take_rest s) (not (has_one_case s)) (ap (λ r. takes_by_path s && r) (sym is) ∙ h)
-    where
-      at : (e a m r o : Bool) → ((e && a && m) && (e && r)) ≡ true → source_of s ≡ cond (((e && a && m) && (r || o)) && r) (source_of s) None
-      at true true true true o h = refl
-      at true true true false o h = cc
-      at true true false r o h = cc
-      at true false m r o h = cc
-      at false a m r o h = cc
+-- ---- all specs
 
 -- the sources of the subtree excludes are gathered of all specs
-pub excludes-are : (specs : List Numbered) → exclude_sources (subtree_excludes_of (specs_of specs)) ≡ member_sources true specs
+pub excludes-are : (specs : List Numbered) → exclude_sources (subtree_excludes_of (specs_of specs)) ≡ member_sources specs
 excludes-are [] = refl
 excludes-are (n ∷ specs) = at (is_subtree_exclude n.spec) refl (excludes-are specs)
   where
-    at : (b : Bool) → is_subtree_exclude n.spec ≡ b → exclude_sources (subtree_excludes_of (specs_of specs)) ≡ member_sources true specs
-        → exclude_sources (cond b (n.spec ∷ subtree_excludes_of (specs_of specs)) (subtree_excludes_of (specs_of specs))) ≡ cons_option (exclude_source_of n.spec) (member_sources true specs)
+    at : (b : Bool) → is_subtree_exclude n.spec ≡ b → exclude_sources (subtree_excludes_of (specs_of specs)) ≡ member_sources specs
+        → exclude_sources (cond b (n.spec ∷ subtree_excludes_of (specs_of specs)) (subtree_excludes_of (specs_of specs))) ≡ cons_option (exclude_source_of n.spec) (member_sources specs)
     at true h more = ap (λ xs. cons_option (exclude_source_of n.spec) xs) more
-    at false h more = more ∙ ap (λ b. cons_option (cond (b && can_take_rest n.spec) (source_of n.spec) None) (member_sources true specs)) (sym h)
+    at false h more = more ∙ ap (λ b. cons_option (cond (b && can_take_rest n.spec) (source_of n.spec) None) (member_sources specs)) (sym h)
 
 -- and so they are enough for a set or not
-pub excludes-enough : (specs : List Numbered) → has_exclude_set (subtree_excludes_of (specs_of specs)) ≡ has_members true specs
+pub excludes-enough : (specs : List Numbered) → has_exclude_set (subtree_excludes_of (specs_of specs)) ≡ has_members specs
 excludes-enough specs = ap (λ (xs : List MemberSource). not (ltb (length xs) 4)) (excludes-are specs)
 
-pub excludes-made : (specs : List Numbered) → exclude_set_sources (subtree_excludes_of (specs_of specs)) ≡ made_sources true specs
+pub excludes-made : (specs : List Numbered) → exclude_set_sources (subtree_excludes_of (specs_of specs)) ≡ made_sources specs
 excludes-made specs = ap (λ (xs : List MemberSource). cond (not (ltb (length xs) 4)) xs []) (excludes-are specs)

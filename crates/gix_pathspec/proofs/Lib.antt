@@ -37,16 +37,25 @@ pub mod EffortProofs
 pub mod HeadSearchProofs
 pub mod EndByteProofs
 pub mod SetProofs
-pub mod SetMadeProofs
+pub mod SetSourceProofs
+pub mod PositionProofs
+pub mod HeadSetProofs
+pub mod HeadSumProofs
+pub mod HeadCountsProofs
+pub mod HeadGroupProofs
+pub mod SetSourceSteps
+pub mod HeadSetsProofs
+pub mod SetBuildingProofs
+pub mod KeptSetsProofs
+pub mod BeginProofs
 pub mod CandidateProofs
-pub mod MemberProofs
 pub mod MemberStepProofs
-pub mod NextMemberProofs
 pub mod SetCountsProofs
 pub mod ExcludeSetProofs
 pub mod ExcludeMemberProofs
 pub mod ExcludeBesideProofs
 pub mod ExcludeMadeProofs
 mod SetRows
+mod HeadSetRows
 mod ExcludeSetRows
 pub mod ReachProofs

@@ -1,21 +1,12 @@
--- What the set of a search counts: each member is looked at once at most, since each question begins behind what the last one found.
-use Rattle.std.proofs.Common.{◌≡◌, ℕ, ◌+◌, ◌*◌, ◌%◌, ◌^◌, ◌<◌, ◌≤◌, refl, sym, ◌∙◌, ap, subst, arith, add_assoc, cond, List, [], ◌∷◌, ◌++◌, Option, Some, None, length, length-append}
+-- What sets count.
+use Rattle.std.proofs.Common.{◌≡◌, ℕ, ◌+◌, ◌*◌, ◌%◌, ◌^◌, ◌≤◌, sym, ◌∙◌, ap, subst, arith, add_assoc, List, [], ◌∷◌, ◌++◌, Option, length, length-append}
 use Rattle.std.proofs.Math.Nat.{mod-add-mod, mod-mod}
-use Rattle.std.specs.Prelude.{unwrap_or}
-use Rattle.std.specs.Option.{ForSome}
-use Rattle.std.specs.Borrow.{Bor}
 use Rattle.pathspec_glob.specs.Counts.{Counts}
 use Rattle.pathspec_glob_set.specs.declared.set.SetScratch.{SetScratch}
-use Rattle.pathspec_glob_set.specs.declared.set.GlobSet.{GlobSet}
 use Rattle.pathspec_glob_set.specs.Tables.{AreFewSteps}
 use Rattle.gix_pathspec.specs.Bytes.{slash}
-use Rattle.pathspec_glob_set.specs.Answers.{found_or, set_in, CountsLooks}
-use Rattle.gix_pathspec.specs.declared.search.members.Members.{Members}
-use Rattle.gix_pathspec.specs.Members.{AreMembersOf}
-use Rattle.gix_pathspec.specs.Room.{set_sources, sources_in_order}
-use Rattle.gix_pathspec.specs.Search.{Numbered}
-use Rattle.gix_pathspec.specs.SetCounts.{asked_count, GrowsBy, HasLooked}
-use Rattle.gix_pathspec.proofs.MemberProofs.{places-count}
+use Rattle.pathspec_glob_set.specs.Answers.{set_in, CountsLooks}
+use Rattle.gix_pathspec.specs.SetCounts.{GrowsBy}
 
 add_in : (m a n b k c : ℕ) → b % m ≡ (a + n) % m → c % m ≡ (b + k) % m → c % m ≡ (a + (n + k)) % m
 add_in m a n b k c p q = q ∙ (sym (mod-add-mod b m k) ∙ (ap (λ x. (x + k) % m) p ∙ (mod-add-mod (a + n) m k ∙ ap (λ x. x % m) (add_assoc a n k))))
@@ -41,10 +32,6 @@ counts-behind a n b c p = subst (λ k. Counts (k % 2 ^ 128) n ((c + b) % 2 ^ 128
     flip : (x y : ℕ) → x + y ≡ y + x
     flip x y = omega arith
 
--- a total that stays grew by none
-pub stays : (most total : ℕ) → GrowsBy most total total
-stays most total = record { by = 0; few = omega arith; counted = ap (λ x. x % 2 ^ 128) (omega arith) }
-
 -- what grew by few grew by no more than more
 pub grows-few : (most more a b : ℕ) → most ≤ more → GrowsBy most a b → GrowsBy more a b
 grows-few most more a b low p = record { by = p.by; few = omega (arith, p.few, low); counted = p.counted }
@@ -52,42 +39,6 @@ grows-few most more a b low p = record { by = p.by; few = omega (arith, p.few, l
 -- growths add up
 pub grows-then : (most more a b c : ℕ) → GrowsBy most a b → GrowsBy more b c → GrowsBy (most + more) a c
 grows-then most more a b c p q = record { by = p.by + q.by; few = omega (arith, p.few, q.few); counted = counts-then a p.by b q.by c p.counted q.counted }
-
--- without a question nothing is looked at
-pub none-looked : (members number total : ℕ) → HasLooked members number total total
-none-looked members number total = record { looks = 0; few = record { within = omega arith; before = omega arith }; counted = ap (λ x. x % 2 ^ 128) (omega arith) }
-
--- looks at members, each once at most, are no more than the members
-pub few-looks : (members number before now : ℕ) → HasLooked members number before now → GrowsBy members before now
-few-looks members number before now h = record { by = h.looks; few = omega (arith, h.few.within); counted = h.counted }
-
-found-same : (count : ℕ) (found : Option ℕ) → found_or count found ≡ unwrap_or found count
-found-same count None = refl
-found-same count (Some k) = refl
-
--- a question from behind the member that was next before looks at none of those again
-pub next-looked : (members rank begun : ℕ) (set : GlobSet) (found : Option ℕ) (result : ℕ) (old new : SetScratch) → length set.moves.ends.items ≡ members → rank < members → result ≡ unwrap_or found members
-    → CountsLooks set (rank + 1) found 0 old new → HasLooked members rank begun old.total → HasLooked members result begun new.total
-next-looked members rank begun set found result old new same low is counts h =
-    let globs = ap (λ k. found_or k found) same in
-    let none : 0 + new.looks ≡ new.looks = omega arith in
-    let found_is : found_or (length set.moves.ends.items) found ≡ result = globs ∙ (found-same members found ∙ sym is) in
-    record {
-      looks = h.looks + new.looks;
-      few = record {
-        within = omega (arith, same, low, h.few.before, counts.looks.within);
-        before = omega (arith, found_is, h.few.before, counts.looks.before);
-      };
-      counted = counts-then begun h.looks old.total new.looks new.total h.counted (subst (λ k. Counts old.total k new.total) none counts.total);
-    }
-
--- a set that is asked has no more members than the specs have sources of members
-pub asked-few : (specs : List Numbered) (members : Option (Bor Members)) → ForSome members (λ set. AreMembersOf specs set.now) → asked_count members ≤ length (set_sources specs)
-asked-few specs None are = omega arith
-asked-few specs (Some members) are =
-    let set = are members refl in
-    let all : set_sources specs ≡ sources_in_order specs = ap (λ b. cond b (sources_in_order specs) []) set.enough in
-    omega (arith, ap (λ (ps : List ℕ). length ps) set.places, places-count 0 specs, ap length all)
 
 -- what a directory and its slash cost to read
 pub few-read : (places : ℕ) (d : List ℕ) (before : ℕ) (new : SetScratch) → AreFewSteps places (length (d ++ slash ∷ [])) new.table → Counts before new.table.steps new.total

@@ -12,14 +12,12 @@ use Rattle.gix_pathspec.specs.declared.search.MatchKind.TheVariants.{Always, Wil
 use Rattle.gix_pathspec.specs.Bytes.{is_empty}
 use Rattle.gix_pathspec.specs.Paths.{IsBytes}
 use Rattle.gix_pathspec.specs.Attributes.{Table}
-use Rattle.gix_pathspec.specs.Specs.{Spec, always_matches, has_wildcard, ignores_case, prefix_directory, wants_directory}
+use Rattle.gix_pathspec.specs.Specs.{Spec, always_matches, has_wildcard, wants_directory}
 use Rattle.gix_pathspec.specs.Plain.{has_one_case}
-use Rattle.gix_pathspec.specs.Matching.{case_of, fit, fits, glob_matches, has_attributes, is_glob_match, is_in_prefix_directory, spec_matches, takes_kind, text_way}
+use Rattle.gix_pathspec.specs.Matching.{case_of, fit, fits, glob_matches, has_attributes, is_glob_match, is_in_prefix_directory, spec_matches, text_way}
 use Rattle.gix_pathspec.specs.Prefixes.{head, stem}
-use Rattle.gix_pathspec.specs.EndBytes.{has_wildcard_at}
 use Rattle.gix_pathspec.specs.Room.{asks_no_more, glob_in_mode, source_of, source_with, MemberSource}
-use Rattle.gix_pathspec.specs.Sets.{member_from, SetCuts, SetLeavesOut}
-use Rattle.gix_pathspec.proofs.EndByteProofs.{never-behind}
+use Rattle.gix_pathspec.specs.Sets.{member_from}
 use Rattle.gix_pathspec.proofs.SubtreeExcludeProofs.{in-mode}
 
 -- ---- the source of a member
@@ -65,11 +63,6 @@ pub length-none : {X : Type 0} (xs : List X) → is_empty xs ≡ true → length
 length-none [] h = refl
 length-none (x ∷ xs) h = cc
 
-pub set-leaves-out : SetLeavesOut
-set-leaves-out s source path e bytes plain off =
-    let is = source-parts s source e in
-    never-behind s path is.wild (ap (has_wildcard_at path) (length-none (stem s) is.no_stem) ∙ plain) (sym (member-is-glob s source path is bytes) ∙ off)
-
 -- ---- what cuts
 
 pub kept : (i b c d e : Bool) → not (i && not b) ≡ true → (not i || b || c || d && e) ≡ true
@@ -77,11 +70,11 @@ kept false b c d e h = refl
 kept true true c d e h = refl
 kept true false c d e h = cc
 
-taken : (w d : Bool) → not w ≡ true → (not w || d) ≡ true
+pub taken : (w d : Bool) → not w ≡ true → (not w || d) ≡ true
 taken false d h = refl
 taken true d h = cc
 
-all-three : (a b c : Bool) → a ≡ true → b ≡ true → c ≡ true → (a && b && c) ≡ true
+pub all-three : (a b c : Bool) → a ≡ true → b ≡ true → c ≡ true → (a && b && c) ≡ true
 all-three a b c p q r = rw (p, q, r) refl
 
 some-way : (k a g : Bool) (t : Option MatchKind) → k ≡ true → g ≡ true → is_some (cond k (cond a (Some Always) (cond g (Some WildcardMatch) t)) None) ≡ true
@@ -95,7 +88,7 @@ unasked true b h = refl
 unasked false b h = cc
 
 -- what asks no more has no attribute, wants no directory, and keeps no prefix directory
-no-more : (s : Spec) → asks_no_more s ≡ true → (is_empty s.attributes ≡ true) × (not (wants_directory s) ≡ true) × (has_one_case s ≡ true)
+pub no-more : (s : Spec) → asks_no_more s ≡ true → (is_empty s.attributes ≡ true) × (not (wants_directory s) ≡ true) × (has_one_case s ≡ true)
 no-more s h = at (is_empty s.attributes) (not (wants_directory s)) (has_one_case s) h
   where
     at : (a b c : Bool) → (a && b && c) ≡ true → (a ≡ true) × (b ≡ true) × (c ≡ true)
@@ -104,7 +97,7 @@ no-more s h = at (is_empty s.attributes) (not (wants_directory s)) (has_one_case
     at true false c e = cc
     at false b c e = cc
 
-fits-by-glob : (s : Spec) (path : List ℕ) (is_dir : Bool) → is_in_prefix_directory s path is_dir ≡ true → is_glob_match s path is_dir ≡ true → fits s path is_dir ≡ true
+pub fits-by-glob : (s : Spec) (path : List ℕ) (is_dir : Bool) → is_in_prefix_directory s path is_dir ≡ true → is_glob_match s path is_dir ≡ true → fits s path is_dir ≡ true
 unfolding fit
 fits-by-glob s path is_dir k g = some-way (is_in_prefix_directory s path is_dir) (always_matches s) (is_glob_match s path is_dir) (text_way s path is_dir) k g
 
@@ -115,17 +108,6 @@ attributes-unasked table s path is_dir h = unasked (is_empty s.attributes) _ h
 both-true : (a b : Bool) → a ≡ true → b ≡ true → (a && b) ≡ true
 both-true a b p q = rw (p, q) refl
 
-matches-by-glob : (table : Table) (s : Spec) (path : List ℕ) (is_dir : Bool) → fits s path is_dir ≡ true → is_empty s.attributes ≡ true → spec_matches table s path is_dir ≡ true
+pub matches-by-glob : (table : Table) (s : Spec) (path : List ℕ) (is_dir : Bool) → fits s path is_dir ≡ true → is_empty s.attributes ≡ true → spec_matches table s path is_dir ≡ true
 unfolding spec_matches
 matches-by-glob table s path is_dir f a = both-true (fits s path is_dir) (has_attributes table s path is_dir) f (attributes-unasked table s path is_dir a)
-
-pub set-cuts : SetCuts
-set-cuts s source path e bytes cuts on table is_dir =
-    let is = source-parts s source e in
-    let asks : asks_no_more s ≡ true = sym (ap (λ (x : MemberSource). x.cuts) is.is) ∙ cuts in
-    let no = no-more s asks in
-    let glob : glob_matches s.mode s path ≡ true = sym (member-is-glob s source path is bytes) ∙ on in
-    matches-by-glob table s path is_dir
-    (fits-by-glob s path is_dir (kept (ignores_case s) (is_empty (prefix_directory s)) _ _ is_dir no.2)
-    (all-three (has_wildcard s) (glob_matches s.mode s path) (takes_kind s is_dir) is.wild glob (taken (wants_directory s) is_dir no.1)))
-    no.0

@@ -1,7 +1,7 @@
 -- Rows on the specs that one set of globs stands for.
 use Rattle.std.proofs.Common.{ℕ, Bool, true, false, refl, List, [], ◌∷◌, Option, Some, None}
 use Rattle.std.specs.Prelude.{codes}
-use Rattle.gix_pathspec.proofs.Asking.{IsTable, set_member, set_places}
+use Rattle.gix_pathspec.proofs.Asking.{IsTable, set_member}
 
 -- a prefix and a spec; and whether the spec decides where its glob matches, if it is a member
 abbrev MemberRow : Type 0
@@ -33,16 +33,3 @@ members : IsTable (λ (r : MemberRow). set_member r.0 r.1) (λ r. r.2) (
     [])
 unfolding set_member
 members = refl
-
--- a prefix and specs; and the places of the members in search order, where excludes stand first
-abbrev PlacesRow : Type 0
-PlacesRow = List ℕ × List (List ℕ) × List ℕ
-
-places : IsTable (λ (r : PlacesRow). set_places r.0 r.1) (λ r. Some r.2) (
-    ([], codes "*.c" ∷ [], 0 ∷ []) ∷
-    ([], codes "a" ∷ codes "*.c" ∷ codes ":!*.o" ∷ codes "b*" ∷ codes "*.h" ∷ [], 0 ∷ 2 ∷ 4 ∷ []) ∷
-    ([], codes "a" ∷ [], []) ∷
-    ([], [], []) ∷
-    [])
-unfolding set_places
-places = refl

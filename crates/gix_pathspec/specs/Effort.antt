@@ -1,5 +1,5 @@
 -- How much a search looks at: the specs that it asks about a path, and the heads that it compares with it.
-use Rattle.std.specs.Prelude.{◌≡◌, ◌≢◌, ℕ, ◌+◌, ◌*◌, ◌^◌, ◌<◌, ◌≤◌, Bool, true, false, not, ◌&&◌, ◌||◌, List, [], length, map, filter, slice_get, Option, Some, None, is_some}
+use Rattle.std.specs.Prelude.{◌≡◌, ◌≢◌, ℕ, ◌+◌, ◌*◌, ◌^◌, ◌<◌, ◌≤◌, Bool, true, false, not, ◌&&◌, ◌||◌, List, [], length, map, filter, slice_get, if◌then◌else◌, Option, Some, None, is_some}
 use Rattle.std.specs.Option.{option_and_then, ForSome}
 use Rattle.gix_pathspec.specs.declared.search.MatchKind.{MatchKind}
 use Rattle.gix_pathspec.specs.Bytes.{is_empty, begins_with}
@@ -12,8 +12,11 @@ use Rattle.gix_pathspec.specs.Search.{Numbered, Answer, MatchCounts, specs_of}
 use Rattle.gix_pathspec.specs.Found.{matched_kind}
 use Rattle.gix_pathspec.specs.declared.search.members.Members.{Members}
 use Rattle.gix_pathspec.specs.Members.{AreMembersOf}
-use Rattle.gix_pathspec.specs.Room.{has_set, set_sources}
-use Rattle.gix_pathspec.specs.Sets.{is_settled_by_set, places_of, IsSetMade}
+use Rattle.gix_pathspec.specs.Specs.{Spec}
+use Rattle.gix_pathspec.specs.Matching.{glob_matches}
+use Rattle.gix_pathspec.specs.Beside.{IsUnbarred}
+use Rattle.gix_pathspec.specs.Room.{asks_no_more}
+use Rattle.gix_pathspec.specs.SetSources.{all_sources, has_any_set, has_set_behind, head_set_sources, places_behind_heads, stands_in_set, SetSource}
 
 -- the heads of the specs in search order
 abbrev pub heads_in_order : List Numbered → List (List ℕ)
@@ -23,11 +26,11 @@ heads_in_order specs = map (λ n. head n.spec) specs
 abbrev pub ArePlacesOf : List Numbered → GroupedPlaces → Type 0
 ArePlacesOf specs places = IsGrouped (heads_in_order specs) places.heads places.starts places.order
 
--- The places are those of the specs, as is the set, which is there if one is made of them; and this is their common prefix.
+-- The places are those of the specs, as are the members, which are there if some head has a set; and this is their common prefix.
 pub record IsByHead (specs : List Numbered) (heads : GroupedPlaces) (members : Option Members) (common : List ℕ) : Type 0 where
   pub is_grouped : ArePlacesOf specs heads
   pub are_members : ForSome members (AreMembersOf specs)
-  pub is_made : IsSetMade (set_sources specs) → is_some members ≡ true
+  pub is_made : is_some members ≡ has_any_set (all_sources specs)
   pub is_common : common ≡ common_prefix (specs_of specs)
 
 -- how the spec at a place matches a path, where there is one
@@ -61,15 +64,19 @@ pub record IsLastCounted (candidates heads : ℕ) (old new : MatchCounts) : Type
 abbrev pub IsCounted : List Numbered → List ℕ → MatchCounts → MatchCounts → Type 0
 IsCounted specs path = IsLastCounted (candidate_count specs path) (length specs)
 
--- a candidate that the set doesn't settle: it stands in no set, or asks for more than its glob
-abbrev pub is_unsettled_candidate : List ℕ → Numbered → Bool
-is_unsettled_candidate path n = is_candidate path n && not (is_settled_by_set n.spec)
+-- No set settles the spec: it stands in none, or its glob matches the path, and it asks for more.
+abbrev pub is_unsettled : List SetSource → List ℕ → Spec → Bool
+is_unsettled sources path s = if stands_in_set sources s then not (asks_no_more s) && glob_matches s.mode s path else true
+
+-- a candidate that no set settles
+abbrev pub is_unsettled_candidate : List SetSource → List ℕ → Numbered → Bool
+is_unsettled_candidate sources path n = is_candidate path n && is_unsettled sources path n.spec
 
 -- how many there are
 abbrev pub unsettled_count : List Numbered → List ℕ → ℕ
-unsettled_count specs path = length (filter (is_unsettled_candidate path) specs)
+unsettled_count specs path = length (filter (is_unsettled_candidate (all_sources specs) path) specs)
 
--- Where the set told which of its specs to ask, at most one was asked of those that match where their glob does.
+-- Where the sets told which of their specs to ask, at most one was asked of those that match where their glob does.
 abbrev pub AskedOnce : List Numbered → List ℕ → MatchCounts → Type 0
 AskedOnce specs path counts = counts.last_by_set ≡ true → counts.last_tested ≤ unsettled_count specs path + 1
 
@@ -77,23 +84,30 @@ AskedOnce specs path counts = counts.last_by_set ≡ true → counts.last_tested
 abbrev pub is_settled_early : List Numbered → List ℕ → Bool
 is_settled_early specs path = is_empty path || not (begins_with path (common_prefix (specs_of specs)))
 
--- Where a set is made of the specs, it told which of them to ask, unless the path is settled early, a wildcard byte begins it, or the set gave up.
+-- Where some head has a set, the sets told which of their specs to ask, unless the path is settled early, a wildcard byte stands in it right behind such a head, or a set gave up.
 abbrev pub ToldBySet : List Numbered → List ℕ → MatchCounts → Type 0
 ToldBySet specs path counts =
-    IsSetMade (set_sources specs) → is_settled_early specs path ≡ false → has_wildcard_at path 0 ≡ false → counts.last_gave_up ≡ false → counts.last_by_set ≡ true
+    has_any_set (all_sources specs) ≡ true → is_settled_early specs path ≡ false → IsUnbarred specs path → counts.last_gave_up ≡ false → counts.last_by_set ≡ true
 
--- The set gave up on the path: enough specs begin with a wildcard, the path isn't settled early, and no wildcard byte begins it. It told nothing.
+-- A set gave up on the path: its head begins the path, which isn't settled early, and no wildcard byte stands right behind. The sets told nothing.
 pub record GaveUpOn (specs : List Numbered) (path : List ℕ) (counts : MatchCounts) : Type 0 where
-  pub enough : has_set specs ≡ true
+  pub head : List ℕ
+  pub enough : has_set_behind (all_sources specs) head ≡ true
+  pub begins : begins_with path head ≡ true
+  pub plain : has_wildcard_at path (length head) ≡ false
   pub late : is_settled_early specs path ≡ false
-  pub plain : has_wildcard_at path 0 ≡ false
   pub silent : counts.last_by_set ≡ false
 
--- The total grew by the steps and looks of the set in the last match, which are few: for each byte as many steps as the set has
--- places, and two; and at most one look at each member. It says whether the set told which of its specs to ask, and where it gave up.
+-- how many steps and looks the sets of specs take at most: for each byte of a path as many steps as they have places, and one for each
+-- member; a look at each member; and one more for each, in which looks at heads are counted
+abbrev pub most_steps : List Numbered → List ℕ → ℕ
+most_steps specs path = length path * (places_behind_heads (head_set_sources specs) + length (head_set_sources specs)) + 2 * length (head_set_sources specs)
+
+-- The total grew by the steps and looks of the sets in the last match, which are few. It says whether the sets told which of their specs
+-- to ask, and where one gave up.
 pub record IsSetCounted (specs : List Numbered) (path : List ℕ) (old new : MatchCounts) : Type 0 where
   pub stepped : Counts old.stepped new.last_stepped new.stepped
-  pub few_stepped : new.last_stepped ≤ length path * (places_of (set_sources specs) + 2) + length (set_sources specs)
+  pub few_stepped : new.last_stepped ≤ most_steps specs path
   pub once : AskedOnce specs path new
   pub told : ToldBySet specs path new
   pub gave_up : new.last_gave_up ≡ true → GaveUpOn specs path new

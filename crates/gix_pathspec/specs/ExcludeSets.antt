@@ -1,5 +1,5 @@
 -- Subtree excludes that one set of globs stands for: those that begin with a wildcard, and can take the rest of a directory.
-use Rattle.std.specs.Prelude.{◌≡◌, ◌<◌, ℕ, Bool, true, false, not, ◌&&◌, List, [], ◌∷◌, ◌++◌, length, ltb, filter, filter_map, map, if◌then◌else◌, Option, Some, None, is_some}
+use Rattle.std.specs.Prelude.{◌≡◌, ◌<◌, ℕ, Bool, true, false, not, ◌&&◌, List, [], ◌∷◌, ◌++◌, length, filter, map, if◌then◌else◌, Some, is_some}
 use Rattle.pathspec_glob.specs.Bytes.{star}
 use Rattle.pathspec_glob_set.specs.Sets.{member_matches}
 use Rattle.pathspec_heads.specs.Groups.{GroupedPlaces, IsGrouped}
@@ -29,10 +29,6 @@ abbrev pub ExcludeSetCuts : Type 0
 ExcludeSetCuts =
     (s : Spec) (source : MemberSource) (d : List ℕ) → exclude_source_of s ≡ Some source → IsBytes d
     → member_matches (member_from source) (d ++ slash ∷ []) ≡ true → covers s d ≡ true
-
--- Each exclude of the set decides where its glob matches.
-abbrev pub ExcludesCut : Type 0
-ExcludesCut = (s : Spec) (source : MemberSource) → exclude_source_of s ≡ Some source → source.cuts ≡ true
 
 -- ---- the excludes of a search
 

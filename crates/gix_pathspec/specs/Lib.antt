@@ -29,12 +29,16 @@ pub mod Plain
 pub mod SelectionLaws
 pub mod PruningLaws
 pub mod DirectoryLaws
+pub mod Sources
 pub mod Room
 pub mod Compiled
 pub mod Found
 pub mod EndBytes
 pub mod Effort
 pub mod Sets
+pub mod SetSources
+pub mod Beside
+pub mod HeadSets
 pub mod Members
 pub mod Candidates
 pub mod SetCounts

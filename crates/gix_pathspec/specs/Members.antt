@@ -1,38 +1,29 @@
--- The set of a search, and what a match knows once the set read a path.
-use Rattle.std.specs.Prelude.{◌≡◌, ◌<◌, ◌≤◌, ℕ, Bool, true, false, List, length, map, get_or, slice_get, Option, Some, None, is_some}
+-- The members of the sets of a search, and the sets in a scratch.
+use Rattle.std.specs.Prelude.{◌≡◌, ℕ, Bool, true, List, map, Option, Some, None, is_some}
+use Rattle.std.specs.List.{sum_by}
 use Rattle.std.specs.Option.{ForSome}
 use Rattle.std.specs.Box.{box_value}
+use Rattle.pathspec_glob.specs.Counts.{Counts}
 use Rattle.pathspec_glob_set.specs.declared.set.SetScratch.{SetScratch}
-use Rattle.pathspec_glob_set.specs.Answers.{GivesUp, HasRead, IsSetOf}
 use Rattle.pathspec_glob_set.specs.Sets.{AreMovesOf}
+use Rattle.gix_pathspec.specs.declared.search.head_set.HeadSet.{HeadSet}
 use Rattle.gix_pathspec.specs.declared.search.members.Members.{Members}
-use Rattle.gix_pathspec.specs.EndBytes.{has_wildcard_at, NeverMatches}
+use Rattle.gix_pathspec.specs.Beside.{ArePlacesBeside}
+use Rattle.gix_pathspec.specs.HeadSets.{total_of, AreHeadSetsOf}
 use Rattle.gix_pathspec.specs.Search.{Numbered}
-use Rattle.gix_pathspec.specs.Room.{has_set, sources_in_order, MemberSource, Room}
-use Rattle.gix_pathspec.specs.Sets.{member_from, member_places, ArePlacesBeside, IsHit, IsSetMade}
+use Rattle.gix_pathspec.specs.Room.{MemberSource, Room}
+use Rattle.gix_pathspec.specs.SetSources.{all_sources, has_any_set, source_places}
+use Rattle.gix_pathspec.specs.Sets.{member_from, IsSetMade}
 
--- the set, the places and the groups are those of the specs
+-- the places and the groups are those of the specs, of which some head has a set
 pub record AreMembersOf (specs : List Numbered) (members : Members) : Type 0 where
-  pub enough : has_set specs ≡ true
-  pub set : IsSetOf (map member_from (sources_in_order specs)) members.set
-  pub places : members.places.items ≡ member_places specs
+  pub enough : has_any_set (all_sources specs) ≡ true
+  pub places : members.places.items ≡ source_places specs
   pub beside : ArePlacesBeside true specs (box_value members.others)
 
 -- the scratch is one for the set of these members
 abbrev pub IsScratchOf : List MemberSource → SetScratch → Type 0
 IsScratchOf sources scratch = AreMovesOf (map member_from sources) scratch.table.moves
-
--- The path was read: no wildcard byte begins it, and the set didn't give up.
-pub record IsRead (path : List ℕ) (scratch : SetScratch) : Type 0 where
-  pub plain : has_wildcard_at path 0 ≡ false
-  pub read : HasRead scratch path
-  pub went_on : scratch.gave_up ≡ false
-
--- The set read the path, and gave up: no wildcard byte begins it, and the scratch was spent or too many cells were filled.
-pub record GaveUp (path : List ℕ) (old new : SetScratch) : Type 0 where
-  pub plain : has_wildcard_at path 0 ≡ false
-  pub gave_up : new.gave_up ≡ true
-  pub reason : GivesUp old new
 
 -- there is a set, and it gave up
 abbrev pub HasGivenUp : Option SetScratch → Type 0
@@ -45,16 +36,9 @@ pub record IsSetIn (sources : List MemberSource) (set : Option SetScratch) (gave
   pub made : IsSetMade sources → is_some set ≡ true
   pub told : gave_up ≡ true → HasGivenUp set
 
--- The sets of the specs and of the excludes in a scratch of this room. A flag tells of each whether it gave up.
-pub record AreSetsIn (room : Room) (set : Option SetScratch) (gave_up : Bool) (excludes : Option SetScratch) (excludes_gave_up : Bool) : Type 0 where
-  pub of_specs : IsSetIn room.members set gave_up
+-- The sets of the specs, with their steps and looks, and the set of the excludes in a scratch of this room. A flag tells of the last
+-- whether it gave up.
+pub record AreSetsIn (room : Room) (sets : List HeadSet) (stepped : ℕ) (excludes : Option SetScratch) (excludes_gave_up : Bool) : Type 0 where
+  pub of_specs : AreHeadSetsOf room.members sets
+  pub counted : Counts 0 (sum_by total_of sets) stepped
   pub of_excludes : IsSetIn room.excludes excludes excludes_gave_up
-
--- Of the members before one with this number, none that stands at or behind a place matches.
-abbrev pub IsAhead : List Numbered → List ℕ → ℕ → ℕ → Type 0
-IsAhead specs path from rank = (k : ℕ) (n : Numbered) → k < rank → from ≤ get_or (member_places specs) k 0
-    → slice_get specs (get_or (member_places specs) k 0) ≡ Some n → NeverMatches n.spec path
-
--- the glob of the member with this number matches the path, if there is one
-abbrev pub IsHitBy : List Numbered → List ℕ → ℕ → Type 0
-IsHitBy specs path rank = rank < length (member_places specs) → IsHit specs path (get_or (member_places specs) rank 0)

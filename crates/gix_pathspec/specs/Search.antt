@@ -23,8 +23,8 @@ abbrev pub specs_of : List Numbered → List Spec
 specs_of search = map (λ n. n.spec) search
 
 -- How many specs the last match asked, or the last question whether a walk may skip a directory, and how many heads it
--- compared with the path; and how many all of them asked and compared, modulo 2 ^ 128. The same of the steps of the set. And
--- whether the set told which of its specs the last match asked, and whether it gave up in that match.
+-- compared with the path; and how many all of them asked and compared, modulo 2 ^ 128. The same of the steps and looks of sets. And
+-- whether these told which of their specs to ask, or whether one covers the directory, and whether one of them gave up.
 pub record MatchCounts : Type 0 where
   pub last_tested : ℕ
   pub last_compared : ℕ

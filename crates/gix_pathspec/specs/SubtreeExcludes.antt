@@ -1,17 +1,14 @@
 -- Excludes that are asked one by one whether a walk may skip a directory, and how many are asked.
-use Rattle.std.specs.Prelude.{◌≡◌, MatchBool, ℕ, Bool, true, not, ◌&&◌, ◌||◌, List, length, map, filter, if◌then◌else◌, Option, Some, None}
+use Rattle.std.specs.Prelude.{◌≡◌, ℕ, Bool, true, ◌&&◌, ◌||◌, List, length, map, filter, if◌then◌else◌, Option, Some, None}
 use Rattle.pathspec_glob.specs.Globs.{GlobSource}
 use Rattle.pathspec_heads.specs.Groups.{GroupedPlaces, IsGrouped}
-use Rattle.gix_pathspec.specs.Bytes.{is_empty, begins_with}
+use Rattle.gix_pathspec.specs.Bytes.{begins_with}
 use Rattle.gix_pathspec.specs.Paths.{without_last_slash}
-use Rattle.gix_pathspec.specs.Specs.{Spec, is_exclude, ignores_case, wants_directory, has_wildcard, prefix_directory}
-use Rattle.gix_pathspec.specs.Plain.{has_one_case}
+use Rattle.gix_pathspec.specs.Specs.{Spec, ignores_case, prefix_directory}
 use Rattle.gix_pathspec.specs.Prefixes.{stem}
-use Rattle.gix_pathspec.specs.Search.{Numbered, MatchCounts, specs_of}
-use Rattle.gix_pathspec.specs.Effort.{IsCounted, IsLastCounted}
-use Rattle.gix_pathspec.specs.Skipping.{takes_whole, takes_rest, has_open_end}
+use Rattle.gix_pathspec.specs.Skipping.{takes_whole, takes_rest}
 use Rattle.gix_pathspec.specs.Room.{glob_of}
-use Rattle.gix_pathspec.specs.Reach.{can_take_rest, is_subtree_exclude, subtree_excludes_of}
+use Rattle.gix_pathspec.specs.Reach.{can_take_rest, is_subtree_exclude}
 
 -- the subtree exclude that a spec is, if it is one
 abbrev pub as_subtree_exclude : Spec → Option Spec

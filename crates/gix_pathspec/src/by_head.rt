@@ -3,33 +3,34 @@
 //! A match stands outside of the module `search`, which alone reads specs and makes scratches. It asks which heads begin a
 //! path and how the spec at a place matches it, and the scratch that it borrows counts both. It asks nothing of an empty path,
 //! nor of one that lacks the common prefix.
-ghost use Rattle.std.specs.Prelude.{◌≡◌, ◌+◌, ◌*◌, ◌<◌, ◌≤◌, ℕ, Bool, true, false, List, Some, length, is_some, IfSome, IsSome, IsTrue, IfOk, OnOk, OnErr};
+ghost use Rattle.std.specs.Prelude.{◌≡◌, ◌+◌, ◌<◌, ◌≤◌, ◌&&◌, ℕ, Bool, true, false, All, List, Some, length, is_some, IfSome, IsSome, IsTrue, IfOk, OnOk, OnErr};
 ghost use Rattle.std.specs.Option.{ForSome};
-ghost use Rattle.pathspec_glob_set.specs.declared.set.SetScratch.{SetScratch};
-ghost use Rattle.gix_pathspec.specs.Sets.{places_of, ArePlacesBeside, IsSetMade};
+ghost use Rattle.gix_pathspec.specs.Beside.{ArePlacesBeside};
+ghost use Rattle.gix_pathspec.specs.HeadSets.{AreHeadSetsOf, IsUnread};
+ghost use Rattle.gix_pathspec.specs.SetSources.{all_sources, has_any_set};
 ghost use Rattle.std.specs.Box.{box_value};
 ghost use Rattle.bstr.specs.BStr.{bstr_bytes};
 ghost use Rattle.pathspec_parts.specs.Attributes.{AsksLookUp};
 ghost use Rattle.pathspec_glob.specs.Counts.{Counts};
-ghost use Rattle.pathspec_heads.specs.Groups.{earlier};
 ghost use Rattle.gix_pathspec.specs.Found.{IsFirstFound};
 ghost use Rattle.gix_pathspec.specs.Prefixes.{common_prefix};
 ghost use Rattle.gix_pathspec.specs.Search.{specs_of, BeginsCounts, IsFresh};
-ghost use Rattle.gix_pathspec.specs.Room.{set_sources, HasRoom, Fits, MemberSource};
+ghost use Rattle.gix_pathspec.specs.Room.{HasRoom, Fits};
 ghost use Rattle.gix_pathspec.specs.Paths.{IsBytes};
 ghost use Rattle.gix_pathspec.specs.Attributes.{Table};
 ghost use Rattle.gix_pathspec.specs.Search.{Numbered};
-ghost use Rattle.gix_pathspec.specs.Members.{AreMembersOf, IsRead, IsScratchOf};
-ghost use Rattle.gix_pathspec.specs.EndBytes.{has_wildcard_at};
-ghost use Rattle.gix_pathspec.specs.Candidates.{AreCandidates, AreKept, HasSameMoves, SetGaveUp};
-ghost use Rattle.gix_pathspec.specs.SetCounts.{asked_count, set_total, AsksSet, GrowsBy};
+ghost use Rattle.gix_pathspec.specs.Members.{AreMembersOf};
+ghost use Rattle.gix_pathspec.specs.Candidates.{AreCandidates, AreNext, KeepsSets};
+ghost use Rattle.gix_pathspec.specs.SetCounts.{set_total, GrowsBy};
 ghost use Rattle.gix_pathspec.specs.Effort.{ArePlacesOf, candidate_count, unsettled_count, IsCounted, IsLittleCompared, IsSetCounted, is_settled_early};
 
 pub(crate) mod subtree_excludes;
 
 use crate::search::MatchKind;
 use crate::search::counted::{CountedHeads, CountedSpecs, SpecScratch};
-use crate::search::members::{Members, read};
+use crate::search::head_set::HeadSet;
+use crate::search::head_sets::{ask_sets, earlier, effort_of, next_of_sets};
+use crate::search::members::Members;
 use crate::search::spec_matching::begins_with;
 use bstr::BStr;
 use pathspec_glob_set::SetScratch;
@@ -39,15 +40,15 @@ use pathspec_parts::attributes::LookUp;
 use std::fmt;
 use std::marker::Model;
 
-/// The effort of one match or skip question: specs asked, heads compared with the path, and steps and looks of the set.
+/// The effort of one match or skip question: specs asked, heads compared with the path, and steps and looks of sets.
 #[derive(Clone, Copy)]
 struct Effort {
     tested: usize,
     compared: usize,
     stepped: u128,
-    /// Whether the set told which of its specs to ask.
+    /// Whether the sets of heads told which of their specs to ask.
     by_set: bool,
-    /// Whether the set of the specs was to read the path, and gave up.
+    /// Whether the set of a head was to read the path, and gave up.
     gave_up: bool,
     /// Whether the set of the subtree excludes was to read the directory, and gave up.
     excludes_gave_up: bool,
@@ -69,8 +70,10 @@ const NO_EFFORT: Effort = Effort {
 /// totals are never set back.
 pub struct Scratch {
     specs: SpecScratch,
-    /// Where the set of the specs reads paths, if there is one. It counts its own steps and looks.
-    set: Option<SetScratch>,
+    /// The sets of heads, which read paths.
+    sets: Vec<HeadSet>,
+    /// Their steps and looks in all matches, modulo 2^128.
+    stepped: u128,
     /// Where the set of the subtree excludes reads directories, if there is one.
     exclude_set: Option<SetScratch>,
     heads: CompareScratch,
@@ -84,7 +87,8 @@ impl Drop for Scratch {
     fn drop(self) {
         let Scratch {
             specs: _specs,
-            set: _set,
+            sets: _sets,
+            stepped: _stepped,
             exclude_set: _exclude_set,
             heads: _heads,
             stems: _stems,
@@ -110,9 +114,9 @@ impl Model for Scratch {
 
     ghost Value = { ScratchContents };
 
-    ghost view = { λ s. record { room = s.specs.room; counts = record { last_tested = s.effort.tested; last_compared = s.effort.compared; last_stepped = s.effort.stepped; last_by_set = s.effort.by_set; last_gave_up = s.effort.excludes_gave_up || s.effort.gave_up; tested = s.specs.tested; compared = s.heads; stepped = sets_total s.set s.exclude_set } } };
+    ghost view = { λ s. record { room = s.specs.room; counts = record { last_tested = s.effort.tested; last_compared = s.effort.compared; last_stepped = s.effort.stepped; last_by_set = s.effort.by_set; last_gave_up = s.effort.excludes_gave_up || s.effort.gave_up; tested = s.specs.tested; compared = s.heads; stepped = sets_total s.stepped s.exclude_set } } };
 
-    ghost invariant = { λ s. AreSetsIn s.specs.room s.set s.effort.gave_up s.exclude_set s.effort.excludes_gave_up };
+    ghost invariant = { λ s. AreSetsIn s.specs.room s.sets.items s.stepped s.exclude_set s.effort.excludes_gave_up };
 }
 
 impl Scratch {
@@ -121,21 +125,23 @@ impl Scratch {
     /// Makes a scratch of the given room, with all counts at 0.
     pub(crate) fn new(
         specs: SpecScratch,
-        set: Option<SetScratch>,
+        sets: Vec<HeadSet>,
         exclude_set: Option<SetScratch>,
         heads: CompareScratch,
     ) -> Scratch
-        requires set { IsSetIn specs.room.members set false }
+        requires sets { AreHeadSetsOf specs.room.members sets.items }
+        requires sets_unread { All IsUnread sets.items }
         requires exclude_set { IsSetIn specs.room.excludes exclude_set false }
         requires specs_unasked { specs.tested ≡ 0 }
         requires heads_unasked { heads ≡ 0 }
-        requires set_unasked { (set_total set ≡ 0) × (set_total exclude_set ≡ 0) }
+        requires set_unasked { set_total exclude_set ≡ 0 }
         ensures room { result.room ≡ specs.room }
         ensures fresh { IsFresh result.counts }
     {
         Scratch {
             specs,
-            set,
+            sets,
+            stepped: 0,
             exclude_set,
             heads,
             stems: StemScratch::new(),
@@ -176,20 +182,21 @@ impl Scratch {
         self.effort.compared as u128
     }
 
-    /// The count of steps and looks of a set in the last match or skip question: that of the specs, or that of the excludes. It
-    /// takes a step for each byte that it reads: of the path, or of the directory and a slash. For each cell of its table that
-    /// it fills it takes one for each of its places, and one more. It looks at each of its specs once at most, to find those
-    /// that match. The count is 0 where no set was asked: the path was empty, lacked the common prefix or begins with a
-    /// wildcard byte, or the search has no such set.
+    /// The count of steps and looks of sets in the last match or skip question: those of the specs, or that of the excludes. A
+    /// set takes a step for each byte that it reads: of what stands in the path behind its head, or of the directory and a
+    /// slash. For each cell of its table that it fills it takes one for each of its places, and one more. It looks at each of
+    /// its specs once at most, to find those that match; a look at each head that isn't empty is counted as well. The count is
+    /// 0 where the path was empty or lacked the common prefix, or where the search has no such set.
     pub fn last_stepped(&self) -> u128
         ensures { result ≡ self.now.counts.last_stepped }
     {
         self.effort.stepped
     }
 
-    /// Whether the set told which of its specs the last match had to ask, or whether one of its excludes covers the directory of
-    /// the last skip question. It tells nothing where no set was asked ([`Scratch::last_stepped`]), nor where it gave up
-    /// ([`Scratch::last_gave_up`]); else it tells.
+    /// Whether the sets told which of their specs the last match had to ask, or whether one of the excludes in their set covers
+    /// the directory of the last skip question. They tell nothing where the path was empty or lacked the common prefix, where
+    /// the search has no set, where a wildcard byte stands in the path right behind a set's head that begins it, nor where a set
+    /// gave up ([`Scratch::last_gave_up`]); else they tell.
     pub fn last_by_set(&self) -> bool
         ensures { result ≡ self.now.counts.last_by_set }
     {
@@ -222,7 +229,7 @@ impl Scratch {
     pub fn total_stepped(&self) -> u128
         ensures { result ≡ self.now.counts.stepped }
     {
-        set_total(&self.set).wrapping_add(set_total(&self.exclude_set))
+        self.stepped.wrapping_add(set_total(&self.exclude_set))
     }
 }
 
@@ -232,7 +239,7 @@ pub(crate) struct SpecsByHead {
     specs: CountedSpecs,
     /// The places of the specs in search order, by their heads.
     heads: Box<CountedHeads>,
-    /// The set of the specs that begin with a wildcard, where they are four or more.
+    /// The members of the sets of heads, if some head has one.
     members: Option<Box<Members>>,
     common_prefix: Vec<u8>,
 }
@@ -264,7 +271,7 @@ impl SpecsByHead {
     ) -> SpecsByHead
         requires places { ArePlacesOf specs (box_value heads) }
         requires members { ForSome members (λ set. AreMembersOf specs (box_value set)) }
-        requires made { IsSetMade (set_sources specs) → is_some members ≡ true }
+        requires made { is_some members ≡ has_any_set (all_sources specs) }
         requires common { common.items ≡ common_prefix (specs_of specs) }
         ensures { result ≡ specs }
     {
@@ -304,10 +311,10 @@ impl SpecsByHead {
         &self.heads
     }
 
-    /// The set of the specs that begin with a wildcard, if there is one.
+    /// The members of the sets of heads, if some head has one.
     pub(crate) fn members(&self) -> Option<&Members>
         ensures members { ForSome result (λ set. AreMembersOf self.now set.now) }
-        ensures made { IsSetMade (set_sources self.now) → is_some result ≡ true }
+        ensures made { is_some result ≡ has_any_set (all_sources self.now) }
     {
         match &self.members {
             Some(members) => Some(&**members),
@@ -353,7 +360,7 @@ impl SpecsByHead {
         ensures unasked { IsTrue (is_settled_early self.now (bstr_bytes path.entry))
             → (scratch.new.counts.last_tested ≡ 0) × (scratch.new.counts.last_compared ≡ 0) }
 
-        // Counts the steps and looks of the set. It tells which of its specs to ask unless it gives up, and then few are asked.
+        // Counts the steps and looks of the sets. They tell which of their specs to ask unless one gives up, and then few are asked.
         ensures by_set { IsSetCounted self.now (bstr_bytes path.entry)
             scratch.old.counts scratch.new.counts }
     {
@@ -383,70 +390,40 @@ impl SpecsByHead {
     }
 }
 
-/// The specs that may match a path: those whose head begins it, and beside a set that read the path, the members whose glob
-/// matches.
+/// The specs that may match a path: those whose head begins it, and where sets told, of their members those whose glob matches.
 #[derive(Clone, Copy)]
 struct Candidates<'a> {
     heads: &'a CountedHeads,
     /// The number of the longest head that begins the path, if one does.
     head: Option<usize>,
-    /// The set, where it read the path.
+    /// The members of the sets, where these told.
     members: Option<&'a Members>,
 }
 
 impl Candidates<'_> {
     ghost use Rattle.std.specs.Prelude.{true};
-    ghost use Rattle.gix_pathspec.specs.Candidates.{AreBeside, AreNext, IsAsMany, IsRank};
-    ghost use Rattle.gix_pathspec.specs.SetCounts.{HasLooked};
-    ghost use Rattle.gix_pathspec.specs.Sets.{any_spec, is_beside, IsHit, IsKindAt, IsNext, NoneBefore};
+    ghost use Rattle.gix_pathspec.specs.Beside.{is_beside, IsHit};
+    ghost use Rattle.gix_pathspec.specs.Candidates.{AreBeside};
+    ghost use Rattle.gix_pathspec.specs.Sets.{any_spec, IsKindAt, IsNext, NoneBefore};
 
-    /// The number of the first member that may match, or the count of members; 0 without a set.
-    fn first(&self, set: &mut Option<SetScratch>) -> usize
-        requires { IsAsMany self.now set.old }
-        ensures rank { IsRank self.now result }
-        ensures next { (specs : List Numbered) (path : List ℕ) → IsBytes path
-            → AreCandidates specs path self.now set.old → AreNext specs path self.now 0 result }
-        ensures kept { AreKept set.old set.new }
-        ensures looks { HasLooked (asked_count self.now.members) result
-            (set_total set.old) (set_total set.new) }
-    {
-        let Some(members) = self.members else {
-            return 0;
-        };
-        match set {
-            Some(set) => members.first(set),
-            None => 0,
-        }
-    }
-
-    /// The next place from one on of a spec that may match. `rank` is the number of the member that was next before, and then of
-    /// the next one.
-    fn next(&self, from: usize, rank: &mut usize, set: &mut Option<SetScratch>) -> Option<usize>
-        requires set { IsAsMany self.now set.old }
-        requires rank { IsRank self.now rank.old }
+    /// The next place from one on of a spec that may match.
+    fn next(&self, from: usize, sets: &mut [HeadSet]) -> Option<usize>
         requires head { IfSome self.now.head (λ head. head < length self.now.heads.now.heads) }
-        ensures rank { IsRank self.now rank.new }
         ensures next { (specs : List Numbered) (path : List ℕ) (table : Table) (is_dir : Bool)
-            → IsBytes path → AreCandidates specs path self.now set.old
-            → NoneBefore table specs path is_dir from → AreNext specs path self.now from rank.old
-            → IsNext any_spec specs path from result × AreNext specs path self.now from rank.new }
+            → IsBytes path → AreCandidates specs path self.now sets.old
+            → NoneBefore table specs path is_dir from → AreNext specs path self.now sets.old from
+            → IsNext any_spec specs path from result × AreNext specs path self.now sets.new from }
         ensures hit { (specs : List Numbered) (path : List ℕ) (table : Table) (is_dir : Bool)
-            → IsBytes path → AreCandidates specs path self.now set.old
-            → NoneBefore table specs path is_dir from → AreNext specs path self.now from rank.old
+            → IsBytes path → AreCandidates specs path self.now sets.old
+            → NoneBefore table specs path is_dir from → AreNext specs path self.now sets.old from
             → is_some self.now.members ≡ true → IfSome result (IsHit specs path) }
-        ensures kept { AreKept set.old set.new }
-        ensures looks { (begun : ℕ)
-            → HasLooked (asked_count self.now.members) rank.old begun (set_total set.old)
-            → HasLooked (asked_count self.now.members) rank.new begun (set_total set.new) }
+        ensures kept { KeepsSets sets.old sets.new }
     {
         let other = self.next_beside(from);
         let Some(members) = self.members else {
             return other;
         };
-        let Some(set) = set else {
-            return other;
-        };
-        earlier(other, members.next(from, rank, set))
+        earlier(other, next_of_sets(sets, members.places(), from))
     }
 
     /// The next place from one on of a spec that is looked for by its head, and whose head begins the path.
@@ -454,10 +431,10 @@ impl Candidates<'_> {
         requires { IfSome self.now.head (λ head. head < length self.now.heads.now.heads) }
         ensures next { (specs : List Numbered) (path : List ℕ) (is_set_asked : Bool)
             → AreBeside specs path self.now.heads.now self.now.head is_set_asked
-            → IsNext (is_beside is_set_asked) specs path from result }
+            → IsNext (is_beside is_set_asked (all_sources specs)) specs path from result }
         ensures beside { (specs : List Numbered) (path : List ℕ) (is_set_asked : Bool)
             → AreBeside specs path self.now.heads.now self.now.head is_set_asked
-            → IfSome result (IsKindAt (is_beside is_set_asked) specs) }
+            → IfSome result (IsKindAt (is_beside is_set_asked (all_sources specs)) specs) }
     {
         match self.head {
             Some(head) => self.heads.next_place(head, from),
@@ -466,18 +443,7 @@ impl Candidates<'_> {
     }
 }
 
-/// The lesser of two places, of those that are there.
-fn earlier(left: Option<usize>, right: Option<usize>) -> Option<usize>
-    ensures { result ≡ earlier left right }
-{
-    match (left, right) {
-        (Some(left), Some(right)) => Some(left.min(right)),
-        (Some(place), None) | (None, Some(place)) => Some(place),
-        (None, None) => None,
-    }
-}
-
-/// The heads by which specs are looked for, where a set is asked or isn't.
+/// The heads by which specs are looked for, where sets are asked or aren't.
 fn heads_beside<'a>(heads: &'a CountedHeads, members: Option<&'a Members>) -> &'a CountedHeads
     ensures { (specs : List Numbered) → ArePlacesOf specs heads.now
         → ForSome members.entry (λ set. AreMembersOf specs set.now)
@@ -489,33 +455,12 @@ fn heads_beside<'a>(heads: &'a CountedHeads, members: Option<&'a Members>) -> &'
     }
 }
 
-/// The set, where it read a path, and so tells which of its specs may match. `gave_up` tells whether it read the path and gave up.
-fn set_for<'a>(
-    members: Option<&'a Members>,
-    path: &[u8],
-    set: &mut Option<SetScratch>,
-    gave_up: &mut bool,
-) -> Option<&'a Members>
-    requires going { gave_up.old ≡ false }
-    ensures told { is_some members.entry ≡ true → is_some set.old ≡ true
-        → has_wildcard_at path.now 0 ≡ false → gave_up.new ≡ false → is_some result ≡ true }
-    ensures gave_up { gave_up.new ≡ true → SetGaveUp path.now set.old set.new
-        × (is_some members.entry ≡ true) × (is_some result ≡ false) }
+/// The members of the sets, where these told which of them may match.
+fn told_members(members: Option<&Members>, tells: bool) -> Option<&Members>
     ensures same { ForSome result (λ asked. members.entry ≡ Some asked) }
-    ensures read { IsTrue (is_some result) → (scratch : SetScratch) × (set.new ≡ Some scratch)
-        × IsRead path.now scratch }
-    ensures kept { HasSameMoves set.old set.new }
-    ensures few { (sources : List MemberSource) → ForSome set.old (IsScratchOf sources)
-        → GrowsBy (length path.now * (places_of sources + 2))
-        (set_total set.old) (set_total set.new) }
+    ensures told { is_some result ≡ (tells && is_some members.entry) }
 {
-    let Some(members) = members else {
-        return None;
-    };
-    let Some(set) = set else {
-        return None;
-    };
-    read(path, set, gave_up).then_some(members)
+    if tells { members } else { None }
 }
 
 /// Finds the place of the first spec that matches a path, and the way in which it matches. It asks no more specs than have a
@@ -531,7 +476,7 @@ fn first_match<L: LookUp>(
 ) -> Result<Option<(usize, MatchKind)>, L::Fault>
     requires grouped { ArePlacesOf specs.now heads.now }
     requires members { ForSome members (λ set. AreMembersOf specs.now set.now) }
-    requires made { IsSetMade (set_sources specs.now) → is_some members ≡ true }
+    requires made { is_some members ≡ has_any_set (all_sources specs.now) }
     requires late { is_settled_early specs.now (bstr_bytes path) ≡ false }
     requires fits { Fits specs.now scratch.old }
     ensures room { scratch.new.room ≡ scratch.old.room }
@@ -547,9 +492,9 @@ fn first_match<L: LookUp>(
         scratch.old.counts scratch.new.counts }
 {
     let bytes = path.as_bytes();
-    let before = set_total(&scratch.set);
     let mut gave_up = false;
-    let members = set_for(members, bytes, &mut scratch.set, &mut gave_up);
+    let tells = ask_sets(&mut scratch.sets, bytes, &mut gave_up);
+    let members = told_members(members, tells);
     let heads = heads_beside(heads, members);
     let LongestHead { head, compared } = heads.longest_head_of(bytes, &mut scratch.heads);
     let mut tested = 0;
@@ -561,17 +506,19 @@ fn first_match<L: LookUp>(
     let found = first_candidate(
         specs,
         &candidates,
-        &mut scratch.set,
+        &mut scratch.sets,
         &mut scratch.specs,
         &mut tested,
         path,
         is_dir,
         look_up,
     );
+    let stepped = effort_of(&scratch.sets);
+    scratch.stepped = scratch.stepped.wrapping_add(stepped);
     scratch.effort = Effort {
         tested,
         compared,
-        stepped: growth(before, set_total(&scratch.set)),
+        stepped,
         by_set: members.is_some(),
         gave_up,
         excludes_gave_up: false,
@@ -601,19 +548,20 @@ fn growth(before: u128, now: u128) -> u128
 fn first_candidate<L: LookUp>(
     specs: &CountedSpecs,
     candidates: &Candidates<'_>,
-    set: &mut Option<SetScratch>,
+    sets: &mut [HeadSet],
     scratch: &mut SpecScratch,
     tested: &mut usize,
     path: BStr<'_>,
     is_dir: bool,
     look_up: &mut L,
 ) -> Result<Option<(usize, MatchKind)>, L::Fault>
-    requires candidates { AreCandidates specs.now (bstr_bytes path) candidates.now set.old }
+    requires candidates { AreCandidates specs.now (bstr_bytes path) candidates.now sets.old }
+    requires next { AreNext specs.now (bstr_bytes path) candidates.now sets.old 0 }
     requires bytes { IsBytes (bstr_bytes path) }
     requires room { HasRoom specs.now scratch.old.room }
     requires none { tested.old ≡ 0 }
     ensures room { scratch.new.room ≡ scratch.old.room }
-    ensures asks_set { AsksSet (asked_count candidates.now.members) set.old set.new }
+    ensures kept { KeepsSets sets.old sets.new }
     ensures first { IfOk result (λ found.
         IsFirstFound (L.table look_up.old) specs.now (bstr_bytes path.entry) is_dir found) }
     ensures look_up { AsksLookUp (L.table look_up.old) (L.failures look_up.old)
@@ -626,9 +574,8 @@ fn first_candidate<L: LookUp>(
 {
     let count = specs.len();
     let mut from = 0;
-    let mut rank = candidates.first(set);
     while from < count {
-        let place = match candidates.next(from, &mut rank, set) {
+        let place = match candidates.next(from, sets) {
             Some(place) => place,
             None => return Ok(None),
         };

@@ -175,18 +175,25 @@ fn paths_near_the_head_of_the_last_compare_one(rt: HostRuntime) -> Result<(), Fa
 
 #[test]
 fn specs_of_one_head_are_compared_once(rt: HostRuntime) -> Result<(), Fail> {
-    const ROWS: &[Telling<'_>] = &[
-        (0, "a/bc", (Some((0, WILDCARD)), 1), Some(1)),
+    const DIRECTORIES: &[Telling<'_>] = &[
+        (0, "a/b/c", (Some((0, PREFIX)), 1), Some(1)),
         (0, "a/b", (None, 10_000), Some(1)),
         (0, "a/c", (None, 0), Some(0)),
     ];
-    assert_tells(rt.alloc(), 10_000, Texts::Same("a/b*c"), ROWS)?;
+    // Globs stand in a set, which is asked of no path with a wildcard byte right behind its head.
+    const GLOBS: &[Telling<'_>] = &[
+        (0, "a/bc", (Some((0, WILDCARD)), 1), Some(1)),
+        (0, "a/b", (None, 0), Some(1)),
+        (0, "a/b?", (None, 65), None),
+        (0, "a/c", (None, 0), Some(0)),
+    ];
+    assert_tells(rt.alloc(), 10_000, Texts::Same("a/b/"), DIRECTORIES)?;
     // A word of places has 64.
+    assert_tells(rt.alloc(), 65, Texts::Same("a/b*c"), GLOBS)?;
     assert_tells(
         rt.alloc(),
         65,
         Texts::Same("*.rs"),
-        // Those that begin with a wildcard stand in a set, which is asked of no path that does.
         &[(0, "a.c", (None, 0), None), (0, "?.c", (None, 65), None)],
     )
 }

@@ -20,8 +20,8 @@ const TEXT: &str = ":(top,icase,attr:a=x\\,y)p/";
 /// directories it takes.
 const TEXTS: &[&str] = &[TEXT, "../c", ":(exclude,glob)d/**", "*.c"];
 
-/// Specs that have a set, since four begin with a wildcard.
-const SET: &[&str] = &[":(top)*.c", ":(top)*.h", ":(top)*.md", ":(top,exclude)*~"];
+/// Specs that have a set, since the globs of four begin right behind the directory that they are given in.
+const SET: &[&str] = &["*.c", "*.h", "*.md", ":!*~"];
 
 /// The answer of a call, or that memory ran out. Any other fault counts as a wrong answer.
 fn or_memory(answer: Result<bool, Error>) -> Result<bool, AllocError> {

@@ -141,13 +141,20 @@ fn a_scratch_fits_what_wants_no_other_room(rt: HostRuntime) -> Result<(), Fail> 
         (&["x", "y"], &["x"], false),
         (&["a*b"], &["a*bc"], true),
         (&["a*bcd", "e*"], &["e*", "a*bc"], false),
-        // Where four specs or more begin with a wildcard, these are the same.
+        // Where some head has a set, all globs that begin right behind their head are the same, with that.
         (&["*a", "*b", "*c"], &["*a", "*b", "*d"], true),
         (&["*a", "*b", "*c", "*d"], &["*a", "*b", "*c", "*d"], true),
         (&["*a", "*b", "*c", "*d"], &["*a", "*b", "*c", "*e"], false),
         (&["*a", "*b", "*c", "*d"], &["*a", "*b", "*c", "*d/"], false),
         (&["*a", "*b", "*c", "*d"], &["*a", "*b", "*c", ":(icase)*d"], false),
-        // So are the excludes among them whose glob can take all below a directory.
+        (&["s/*a", "s/*b", "s/*c"], &["s/*a", "s/*b", "s/*d"], true),
+        (&["s/*a", "s/*b", "s/*c", "s/*d"], &["s/*a", "s/*b", "s/*c", "s/*d"], true),
+        (&["s/*a", "s/*b", "s/*c", "s/*d"], &["s/*a", "s/*b", "s/*c", "s/*e"], false),
+        (&["s/*a", "s/*b", "s/*c", "s/*d"], &["t/*a", "t/*b", "t/*c", "t/*d"], false),
+        (&["s/*a", "s/*b", "s/*c", "s/*d", "t/*"], &["s/*a", "s/*b", "s/*c", "s/*d", "u/*"], false),
+        (&["s/*a", "s/*b", "s/*c", "s/*d", "t"], &["s/*a", "s/*b", "s/*c", "s/*d", "u"], true),
+        (&["s/*a", "s/*b", "s/*c", "s/*d", ":(icase)t*"], &["s/*a", "s/*b", "s/*c", "s/*d", ":(icase)u*"], true),
+        // So are the excludes that begin with a wildcard and whose glob can take all below a directory.
         (&[":!*a*", ":!*b*", ":!*c*", ":!*d*"], &[":!*a*", ":!*b*", ":!*c*", ":!*d*"], true),
         (&[":!*a*", ":!*b*", ":!*c*", ":!*d*"], &["*a*", "*b*", "*c*", "*d*"], false),
     ];

@@ -1,9 +1,10 @@
-//! Searches with a set of globs: those where four specs or more begin with a wildcard.
+//! Searches with sets of globs: those where four specs or more have a glob right behind the same head.
 use crate::searches::{Settled, may_skip, scratch_of, settled_in};
-use gix_pathspec::search::MatchKind;
+use gix_pathspec::Search;
+use gix_pathspec::search::{MatchKind, Scratch};
 use pathspec_test_searches::search_of_line;
 use pathspec_test_support::look_ups::Marks;
-use std::alloc::Global;
+use std::alloc::{AllocError, Global};
 use std::test::Fail;
 
 /// The texts in a line, a file, the match, how many specs are asked, and whether the set tells which.
@@ -73,6 +74,8 @@ fn told(alloc: Global, line: &str, path: &str) -> Result<Told, Fail> {
 
 const PREFIX: MatchKind = MatchKind::Prefix;
 
+const VERBATIM: MatchKind = MatchKind::Verbatim;
+
 const WILDCARD: MatchKind = MatchKind::WildcardMatch;
 
 // The tests' look-up sets `gen` of the path `x`, and says nothing else.
@@ -117,6 +120,163 @@ fn a_set_answers_as_its_specs_do_one_by_one(rt: HostRuntime) -> Result<(), Fail>
     for (line, path, want, tested, by_set) in ROWS {
         assert!(rt; told(rt.alloc(), line, path)? == (Some(*want), *tested, *by_set), "{line} {path}");
         assert!(rt; one_by_one(rt.alloc(), line, path)? == *want, "{line} {path}");
+    }
+    Ok(())
+}
+
+#[test]
+#[rattlefmt::skip]
+fn sets_of_heads_answer_as_their_specs_do_one_by_one(rt: HostRuntime) -> Result<(), Fail> {
+    const ROWS: &[Row<'_>] = &[
+        ("s/*.rs s/*.md s/*.c s/*.h", "s/a.md", Some((1, WILDCARD)), 1, true),
+        ("s/*.rs s/*.md s/*.c s/*.h", "s/a.txt", None, 0, true),
+        // The common prefix settles a path first.
+        ("s/*.rs s/*.md s/*.c s/*.h", "t/a.md", None, 0, false),
+        // Three specs of a head make no set, and stand beside that of another head. A spec without case has another head.
+        ("s/*.rs s/*.md s/*.c t/*.h", "s/a.md", Some((1, WILDCARD)), 2, false),
+        ("s/*.rs s/*.md s/*.c s/*.h t/*.rs t/*.md t/*.c", "t/a.md", Some((5, WILDCARD)), 2, true),
+        ("s/*.rs s/*.md s/*.c :(icase)s/*.h", "s/a.h", Some((3, WILDCARD)), 4, false),
+        ("s/*.rs s/*.md s/*.c s/*.h :(icase)S/*.PY", "s/a.py", Some((4, WILDCARD)), 1, true),
+        ("s/*.rs s/*.md s/*.h s/*.txt :(icase,prefix:1)s/*.C", "s/a.c", Some((4, WILDCARD)), 1, true),
+        // Two heads with sets, of which one begins the other.
+        ("s/*.rs s/*.md s/*.c s/*.h *.rs *.md *.c *.h", "s/a.h", Some((3, WILDCARD)), 1, true),
+        ("s/*.rs s/*.md s/*.c s/*.h *.rs *.md *.c *.h", "a.h", Some((7, WILDCARD)), 1, true),
+        ("s/*.rs s/*.md s/*.c s/*.h *.rs *.md *.c *.h", "t/a.txt", None, 0, true),
+        ("*.rs *.md *.c *.h s/*.rs s/*.md s/*.c s/*.txt", "s/a.txt", Some((7, WILDCARD)), 1, true),
+        ("s/*.rs s/*.md s/*.c s/g/*.rs s/g/*.txt s/g/*.c s/g/*.h s/*.h", "s/g/a.txt", Some((4, WILDCARD)), 1, true),
+        ("s/*.rs s/*.md s/*.c s/g/*.rs s/g/*.txt s/g/*.c s/g/*.h s/*.h", "s/g/a.c", Some((2, WILDCARD)), 1, true),
+        ("s/*.rs s/*.md s/*.c s/g/*.rs s/g/*.txt s/g/*.c s/g/*.h s/*.h", "s/g/a.h", Some((6, WILDCARD)), 1, true),
+        ("s/*.rs s/*.md s/*.c s/g/*.rs s/g/*.txt s/g/*.c s/g/*.h s/*.h", "s/g/a.py", None, 0, true),
+        // A wildcard byte right behind a head that begins the path.
+        ("s/*.rs s/*.md s/*.c s/*.h", "s/*.h", Some((3, WILDCARD)), 4, false),
+        ("s/*.rs s/*.md s/*.c s/*.h", "s/?/a", None, 4, false),
+        ("s/*.rs s/*.md s/*.c s/*.h", "s/*.md/x", Some((1, PREFIX)), 2, false),
+        ("s/*.rs s/*.md s/*.c s/*.h", "s/\\a.md", Some((1, WILDCARD)), 2, false),
+        ("s/*.rs s/*.md s/*.c s/*.h", "s/[a", None, 4, false),
+        ("s/*.rs s/*.md s/*.c s/g/*.rs s/g/*.txt s/g/*.c s/g/*.h s/*.h", "s/g/?", None, 8, false),
+        ("s/*.rs s/*.md s/*.c s/g/*.rs s/g/*.txt s/g/*.c s/g/*.h s/*.h", "s/?/a.md", Some((1, WILDCARD)), 2, false),
+        ("s/*.rs s/*.md s/*.c s/*.h t", "t/?", Some((4, PREFIX)), 1, true),
+        ("s/*.rs s/*.md s/*.c s/g/*.rs s/g/*.txt s/g/*.c s/g/*.h s/*.h", "s/g*", None, 0, true),
+        // A path that is the head, ends within it, or goes on with no slash between.
+        ("s*.rs s* s*.c s*.h", "s", Some((1, WILDCARD)), 1, true),
+        ("s*.rs s*.md s*.c s*.h", "s", None, 0, true),
+        ("s*.rs s*.md s*.c s*.h", "sx/a.c", Some((2, WILDCARD)), 1, true),
+        ("s/*.rs s/*.md s/*.c s/*.h t", "s", None, 0, true),
+        // Sets of excludes are asked, too, and excludes come first.
+        (":!s/*.o :!s/*.a :!s/*.so :!s/*.d s t", "s/x.o", Some((0, WILDCARD)), 1, true),
+        (":!s/*.o :!s/*.a :!s/*.so :!s/*.d s t", "s/x.c", Some((4, PREFIX)), 1, true),
+        ("s/*.rs s/*.md s/*.c :!s/*_test.rs", "s/_test.rs", Some((3, WILDCARD)), 1, true),
+        ("s/*.rs s/*.md s/*.c :!s/*_test.rs", "s/a.rs", Some((0, WILDCARD)), 1, true),
+        // Specs that list attributes or want a directory are asked.
+        ("s/*.rs s/*.md :(attr:gen)s/*.c s/*.c", "s/a.c", Some((3, WILDCARD)), 2, true),
+        (":(attr:gen)x* x*.a x*.b x*", "x", Some((0, WILDCARD)), 1, true),
+        (":(attr:!gen)x* x*.a x*.b x*", "x", Some((3, WILDCARD)), 2, true),
+        ("s/*.rs/ s/*.rs s/*.md s/*.c", "s/a.rs", Some((1, WILDCARD)), 2, true),
+        // Globs whose stars stop at a slash. Two stars behind a plain byte do, too.
+        (":(glob)s/*.c :(glob)s/**/b :(glob)s/*/e :(glob)s/*.h", "s/b", Some((1, WILDCARD)), 1, true),
+        (":(glob)s/*.c :(glob)s/**/b :(glob)s/*/e :(glob)s/*.h", "s/d/f/b", Some((1, WILDCARD)), 1, true),
+        (":(glob)s/*.c :(glob)s/**/b :(glob)s/*/e :(glob)s/*.h", "s/d/e", Some((2, WILDCARD)), 1, true),
+        (":(glob)s/*.c :(glob)s/**/b :(glob)s/*/e :(glob)s/*.h", "s/d/a.c", None, 0, true),
+        (":(glob)s**/b s*.rs s*.md s*.c", "sx/b", Some((0, WILDCARD)), 1, true),
+        (":(glob)s**/b s*.rs s*.md s*.c", "sx/y/b", None, 0, true),
+        // Specs with the same head, but no glob right behind it, or with a longer one, stand beside the set.
+        ("s/*.rs s/*.md s/*.c s/*.h s/a", "s/a", Some((4, VERBATIM)), 1, true),
+        ("s/*.rs s/*.md s/*.c s/*.h s", "s/a.txt", Some((4, PREFIX)), 1, true),
+        ("s/*.rs s/*.md s/*.h s/*.txt :(literal)s/*.c", "s/a.c", None, 1, true),
+        ("s/*.rs s/a* s/*.md s/*.c s/*.h", "s/a.md", Some((1, WILDCARD)), 1, true),
+        ("s/*.rs s/a* s/*.md s/*.c s/*.h", "s/b.md", Some((2, WILDCARD)), 1, true),
+        ("s/a s/*.rs s/*.md s/*.c s/*.h", "s/a/x.md", Some((0, PREFIX)), 1, true),
+        // Where one set gives up, no other tells.
+        ("*.md *.c *.h *.txt s/*.md s/*.c s/*.h s/*_test.rs", "s/a_test.rs", Some((7, WILDCARD)), 8, false),
+    ];
+    for (line, path, want, tested, by_set) in ROWS {
+        assert!(rt; told(rt.alloc(), line, path)? == (Some(*want), *tested, *by_set), "{line} {path}");
+        assert!(rt; one_by_one(rt.alloc(), line, path)? == *want, "{line} {path}");
+    }
+    Ok(())
+}
+
+/// Four specs for each of so many heads, `h0/` the first, and others behind them.
+fn line_of_heads(alloc: Global, heads: usize, others: &str) -> Result<String, AllocError> {
+    let mut line = String::new(alloc);
+    for head in 0..heads {
+        let specs = format!(in alloc; "h{head}/*.rs h{head}/*.md h{head}/*.c h{head}/*.h ")?;
+        line.push_str(specs.as_str())?;
+    }
+    line.push_str(others)?;
+    Ok(line)
+}
+
+// A head has a set where it has one in 64 of all globs, so that a match looks at few heads; the empty head needs none.
+#[test]
+#[rattlefmt::skip]
+fn heads_with_few_of_all_globs_have_no_set(rt: HostRuntime) -> Result<(), Fail> {
+    const ROWS: &[(usize, &str, &str, Settled, usize, bool)] = &[
+        (0, "a *.rs *.md *.c", "a", Some((0, VERBATIM)), 1, false),
+        (64, "", "h63/a.md", Some((253, WILDCARD)), 1, true),
+        (64, "", "h63/a.txt", None, 0, true),
+        (64, "h9/a*", "h63/a.md", Some((253, WILDCARD)), 2, false),
+        (65, "", "h63/a.md", Some((253, WILDCARD)), 2, false),
+        (63, "*.rs *.md *.c *.h", "h62/a.md", Some((249, WILDCARD)), 1, true),
+        (64, "*.rs *.md *.c *.h", "h63/a.md", Some((253, WILDCARD)), 2, true),
+        (64, "*.rs *.md *.c *.h", "a.md", Some((257, WILDCARD)), 1, true),
+    ];
+    for (heads, others, path, want, tested, by_set) in ROWS {
+        let line = line_of_heads(rt.alloc(), *heads, others)?;
+        let told = told(rt.alloc(), line.as_str(), path)?;
+        assert!(rt; told == (Some(*want), *tested, *by_set), "{heads} {others} {path}");
+    }
+    Ok(())
+}
+
+/// What a match counts and tells: specs asked, steps and looks of sets, whether these told which to ask, and whether one gave up.
+type Counted = (usize, u128, bool, bool);
+
+/// What a match counts and tells.
+fn counted(search: &Search, path: &str, scratch: &mut Scratch) -> Result<Counted, Fail> {
+    let file = Some(false);
+    settled_in(search, path.as_bytes(), file, scratch, &mut Marks::new())?;
+    Ok((
+        scratch.last_tested(),
+        scratch.last_stepped(),
+        scratch.last_by_set(),
+        scratch.last_gave_up(),
+    ))
+}
+
+// A set takes a step for each byte that it reads. For each of the cells that the first match fills it takes one for each of its places,
+// and one more. The globs `*.rs`, `*.md`, `*.c` and `*.h` have 5, 5, 4 and 4 places; `*.txt` has 6, and `*_test.rs` 10. A look at each head
+// that isn't empty is counted, and one at each member behind the first that fits.
+#[test]
+#[rattlefmt::skip]
+fn sets_of_heads_count_their_steps_and_looks(rt: HostRuntime) -> Result<(), Fail> {
+    const ROWS: &[(&str, &str, Counted, Counted)] = &[
+        ("s/*.rs s/*.md s/*.c s/*.h", "s/a.md", (1, 4 + 4 * 19 + 1, true, false), (1, 4 + 1, true, false)),
+        // A head that doesn't begin the path, one that the path ends within, and one that is the path.
+        ("s/*.rs s/*.md s/*.c s/*.h t", "t/a.md", (1, 1, true, false), (1, 1, true, false)),
+        ("s/*.rs s/*.md s/*.c s/*.h t", "s", (0, 1, true, false), (0, 1, true, false)),
+        ("s*.rs s*.md s*.c s*.h", "s", (0, 1, true, false), (0, 1, true, false)),
+        ("s/*.rs s/*.md s/*.c s/*.h", "s", (0, 0, false, false), (0, 0, false, false)),
+        // Each set reads what stands behind its own head.
+        ("s/*.rs s/*.md s/*.c s/*.h *.rs *.md *.c *.h", "s/a.md", (1, 81 + 80, true, false), (1, 5 + 4, true, false)),
+        ("s/*.rs s/*.md s/*.c s/*.h s/g/*.rs s/g/*.md s/g/*.c s/g/*.h", "s/g/a.md", (1, 2 * 81, true, false), (1, 2 * 5, true, false)),
+        // A set isn't asked where a wildcard byte stands right behind its head; the others are, but then don't tell.
+        ("s/*.rs s/*.md s/*.c s/*.h *.rs *.md *.c *.h", "s/*.md", (2, 1 + 80, false, false), (2, 1 + 4, false, false)),
+        // The exclude that lists attributes, or a spec that does, is asked, and then the next whose glob matches.
+        ("s/*.rs s/*.md :(attr:gen)s/*.c s/*.c", "s/a.c", (2, 3 + 3 * 19 + 1 + 1, true, false), (2, 3 + 1 + 1, true, false)),
+        ("s/*.rs s/*.md s/*.c :!s/*_test.rs", "s/_test.rs", (1, 8 + 8 * 25 + 1, true, false), (1, 8 + 1, true, false)),
+        // A first path gives up where it would fill a ninth cell. A later one finds eight filled, and fills it.
+        ("s/*.md s/*.c s/*.h s/*_test.rs", "s/a_test.rs", (4, 9 + 8 * 24 + 1, false, true), (1, 9 + 24 + 1, true, false)),
+        ("*.md *.c *.h *.txt s/*.md s/*.c s/*.h s/*_test.rs", "s/a_test.rs", (8, 1 + 20 + 202, false, true), (1, 1 + 34, true, false)),
+        // Excludes alone.
+        (":!s/*.rs :!s/*.md :!s/*.c :!s/*.h", "s/a.txt", (0, 1 + 19 + 1, true, false), (0, 1 + 1, true, false)),
+    ];
+    for (line, path, first, later) in ROWS {
+        let search = search_of_line(rt.alloc(), line, "")?;
+        let mut scratch = scratch_of(rt.alloc(), &search)?;
+        assert!(rt; counted(&search, path, &mut scratch)? == *first, "{line} {path}");
+        assert!(rt; counted(&search, path, &mut scratch)? == *later, "{line} {path}");
+        assert!(rt; scratch.total_stepped() == first.1.wrapping_add(later.1), "{line} {path}");
     }
     Ok(())
 }
@@ -192,6 +352,10 @@ fn specs_of_too_many_places_are_asked_one_by_one(rt: HostRuntime) -> Result<(), 
         }
     }
     assert!(rt; told(rt.alloc(), line.as_str(), "b")? == (Some(None), 4, false));
+    // Those of another head have a set still.
+    line.push_str(" s/*.rs s/*.md s/*.c s/*.h")?;
+    let want = (Some(Some((5, WILDCARD))), 5, true);
+    assert!(rt; told(rt.alloc(), line.as_str(), "s/a.md")? == want);
     Ok(())
 }
 

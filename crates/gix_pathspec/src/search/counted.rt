@@ -8,10 +8,12 @@ ghost use Rattle.pathspec_parts.specs.Attributes.{AsksLookUp};
 ghost use Rattle.pathspec_glob.specs.Counts.{Counts};
 ghost use Rattle.gix_pathspec.specs.Effort.{kind_at};
 ghost use Rattle.pathspec_parts.specs.Outcomes.{names_of};
+ghost use Rattle.gix_pathspec.specs.SetSources.{all_sources, has_any_set, head_set_sources};
 ghost use Rattle.gix_pathspec.specs.Room.{HasGlobRoom, HasRoom, tokens_of, names_in_order, made_sources, member_sources};
 
 use crate::search::MatchKind;
 use crate::search::members::{SetMember, has_set, set_sources};
+use crate::search::set_sources::{HeadedMember, headed_members};
 use crate::search::spec::CompiledSpec;
 use crate::search::subtree_excludes::SubtreeExclude;
 use bstr::BStr;
@@ -71,8 +73,8 @@ pub(crate) struct SpecScratch {
     globs: glob::Scratch,
     /// An outcome for each spec in search order, with a place for each attribute that the spec lists.
     outcomes: Vec<Outcome>,
-    /// What the set of the specs is made of.
-    members: Vec<SetMember>,
+    /// What the sets of heads are made of.
+    members: Vec<HeadedMember>,
     /// What the set of the subtree excludes is made of.
     excludes: Vec<SetMember>,
     tested: u128,
@@ -233,38 +235,46 @@ impl CountedHeads {
 
 impl SpecScratch {
     /// Makes room for questions to the specs, with the count at 0. The cost is linear in the tokens of the largest glob, in the
-    /// names of attributes that the specs list, and in the bytes of those that begin with a wildcard.
+    /// names of attributes that the specs list, and in the bytes of the globs that sets are made of.
     ///
     /// # Errors
     /// Memory runs out.
-    pub(super) fn for_specs(alloc: Global, specs: &CountedSpecs) -> Result<SpecScratch, AllocError>
+    pub(super) fn for_specs(
+        alloc: Global,
+        specs: &CountedSpecs,
+        has_sets: bool,
+    ) -> Result<SpecScratch, AllocError>
+        requires { has_sets ≡ has_any_set (all_sources specs.now) }
         ensures room { IfOk result (λ scratch. HasRoom specs.now scratch.room) }
         ensures unasked { IfOk result (λ scratch. scratch.tested ≡ 0) }
     {
         Ok(SpecScratch {
             globs: glob::Scratch::for_tokens(alloc, most_tokens(&specs.all))?,
             outcomes: outcomes(alloc, &specs.all)?,
-            members: set_sources(alloc, &specs.all, false)?,
-            excludes: set_sources(alloc, &specs.all, true)?,
+            members: head_set_sources(alloc, &specs.all, has_sets)?,
+            excludes: set_sources(alloc, &specs.all)?,
             tested: 0,
         })
     }
 
     /// Whether there is room for questions to the specs. The cost is linear in the names of their attributes and in the specs.
-    pub(super) fn fits(&self, specs: &CountedSpecs) -> bool
+    pub(super) fn fits(&self, specs: &CountedSpecs, has_sets: bool) -> bool
+        requires { has_sets ≡ has_any_set (all_sources specs.now) }
         ensures { IsTrue result ↔ HasRoom specs.now self.now.room }
     {
         self.outcomes.len() == specs.all.len()
             && have_room(&specs.all, &self.globs, &self.outcomes)
-            && self.has_sources(&specs.all)
+            && self.has_sources(&specs.all, has_sets)
     }
 
     /// Whether the sets are made of the same sources as those of the specs.
-    fn has_sources(&self, specs: &[CompiledSpec]) -> bool
-        ensures { IsTrue result ↔ (self.now.room.members ≡ made_sources false specs.now)
-            × (self.now.room.excludes ≡ made_sources true specs.now) }
+    fn has_sources(&self, specs: &[CompiledSpec], has_sets: bool) -> bool
+        requires { has_sets ≡ has_any_set (all_sources specs.now) }
+        ensures { IsTrue result ↔ (self.now.room.members ≡ head_set_sources specs.now)
+            × (self.now.room.excludes ≡ made_sources specs.now) }
     {
-        are_set_sources(specs, &self.members, false) && are_set_sources(specs, &self.excludes, true)
+        are_head_set_sources(specs, &self.members, has_sets)
+            && are_set_sources(specs, &self.excludes)
     }
 
     /// The count of questions to specs, modulo 2^128.
@@ -310,26 +320,73 @@ fn have_room(specs: &[CompiledSpec], globs: &glob::Scratch, outcomes: &[Outcome]
     true
 }
 
-/// Whether these are the sources of the members of a set of the specs, in order; none without a set.
-fn are_set_sources(specs: &[CompiledSpec], sources: &[SetMember], of_excludes: bool) -> bool
-    ensures { IsTrue result ↔ (sources.now ≡ made_sources of_excludes specs.now) }
+/// Whether these are the sources of the members of the set of the subtree excludes, in order; none without a set.
+fn are_set_sources(specs: &[CompiledSpec], sources: &[SetMember]) -> bool
+    ensures { IsTrue result ↔ (sources.now ≡ made_sources specs.now) }
 {
-    if has_set(specs, of_excludes) {
-        are_sources(specs, sources, of_excludes)
+    if has_set(specs) {
+        are_sources(specs, sources)
     } else {
         sources.is_empty()
     }
 }
 
-/// Whether these are the sources of the specs that may be members of a set, in order.
-fn are_sources(specs: &[CompiledSpec], sources: &[SetMember], of_excludes: bool) -> bool
-    ensures { IsTrue result ↔ (sources.now ≡ member_sources of_excludes specs.now) }
+/// Whether these are the sources of the excludes that may be members of the set, in order.
+fn are_sources(specs: &[CompiledSpec], sources: &[SetMember]) -> bool
+    ensures { IsTrue result ↔ (sources.now ≡ member_sources specs.now) }
 {
     let mut rank = 0;
     for spec in specs {
-        if spec.is_member(of_excludes) {
+        if spec.is_member() {
             match sources.get(rank) {
-                Some(source) if spec.has_source(source, of_excludes) => rank += 1,
+                Some(source) if spec.has_source(source) => rank += 1,
+                _ => return false,
+            }
+        }
+    }
+    rank == sources.len()
+}
+
+/// What the sets of heads are made of, in search order; nothing without a set.
+///
+/// # Errors
+/// Memory runs out.
+fn head_set_sources(
+    alloc: Global,
+    specs: &[CompiledSpec],
+    has_sets: bool,
+) -> Result<Vec<HeadedMember>, AllocError>
+    requires { has_sets ≡ has_any_set (all_sources specs.now) }
+    ensures { IfOk result (λ sources. sources.items ≡ head_set_sources specs.now) }
+{
+    if has_sets {
+        headed_members(alloc, specs)
+    } else {
+        Ok(Vec::new(alloc))
+    }
+}
+
+/// Whether these are the sources of the sets of heads, in order; none without a set.
+fn are_head_set_sources(specs: &[CompiledSpec], sources: &[HeadedMember], has_sets: bool) -> bool
+    requires { has_sets ≡ has_any_set (all_sources specs.now) }
+    ensures { IsTrue result ↔ (sources.now ≡ head_set_sources specs.now) }
+{
+    if has_sets {
+        are_headed_members(specs, sources)
+    } else {
+        sources.is_empty()
+    }
+}
+
+/// Whether these are the sources of the specs that have one, in order.
+fn are_headed_members(specs: &[CompiledSpec], sources: &[HeadedMember]) -> bool
+    ensures { IsTrue result ↔ (sources.now ≡ all_sources specs.now) }
+{
+    let mut rank = 0;
+    for spec in specs {
+        if spec.has_headed_member() {
+            match sources.get(rank) {
+                Some(source) if spec.has_this_source(source) => rank += 1,
                 _ => return false,
             }
         }

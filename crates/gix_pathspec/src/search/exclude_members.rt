@@ -53,7 +53,7 @@ impl ExcludeMembers {
         ensures none { IfOk result (λ made. made ≡ None → most_places
             < places_of (exclude_sources (subtree_excludes_of (specs_of specs.now)))) }
     {
-        let globs = make_members(alloc, &sources(alloc, specs, true)?)?;
+        let globs = make_members(alloc, &sources(alloc, specs)?)?;
         let Some(set) = GlobSet::new(alloc, &globs)? else {
             return Ok(None);
         };

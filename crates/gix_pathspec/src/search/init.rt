@@ -16,9 +16,12 @@ ghost use Rattle.gix_pathspec.specs.Effort.{ArePlacesOf, heads_in_order};
 ghost use Rattle.gix_pathspec.specs.ExcludeMembers.{AreExcludeMembersOf};
 ghost use Rattle.gix_pathspec.specs.Building.{prefix_bytes, TellsFault, Builds, IsErrorAt, AreNumbered, AddsNext, with_next, default_numbered_to_prefix, search_of_numbered};
 ghost use Rattle.gix_pathspec.specs.Reach.{subtree_excludes_of, IsReachOf};
-ghost use Rattle.gix_pathspec.specs.Room.{exclude_set_sources, set_sources, Fits};
+ghost use Rattle.gix_pathspec.specs.Room.{exclude_set_sources, Fits};
 ghost use Rattle.gix_pathspec.specs.Members.{AreMembersOf};
-ghost use Rattle.gix_pathspec.specs.Sets.{head_beside, IsSetMade};
+ghost use Rattle.gix_pathspec.specs.Beside.{head_beside};
+ghost use Rattle.gix_pathspec.specs.HeadSets.{AreHeadSetsOf};
+ghost use Rattle.gix_pathspec.specs.SetSources.{all_sources, has_any_set, stands_in_set, SetSource};
+ghost use Rattle.gix_pathspec.specs.Sets.{IsSetMade};
 ghost use Rattle.gix_pathspec.specs.SelectionLaws.{NoNilPrefix, SpecPathsAreBytes};
 ghost use Rattle.gix_pathspec.specs.Reading.{reading};
 ghost use Rattle.gix_pathspec.specs.Lines.{numbered_of_lines, search_of_lines};
@@ -28,9 +31,13 @@ use crate::by_head::subtree_excludes::ExcludesByHead;
 use crate::search::compiling::{compile, compile_all, compile_lines};
 use crate::search::counted::{CountedExcludes, CountedHeads, CountedSpecs};
 use crate::search::exclude_members::ExcludeMembers;
+use crate::search::head_set::HeadSet;
+use crate::search::head_sets::has_head;
 use crate::search::matching::boxed_scratch;
 use crate::search::members::{Members, has_set};
 use crate::search::reach::Reach;
+use crate::search::set_building::{sets_of_heads, slices};
+use crate::search::set_sources::source_places;
 use crate::search::spec::CompiledSpec;
 use crate::search::subtree_excludes::excludes_with_heads;
 use crate::search::{Scratch, Search};
@@ -296,7 +303,7 @@ fn by_head(alloc: Global, specs: Vec<CompiledSpec>) -> Result<SpecsByHead, Alloc
 {
     let common = common_prefix(alloc, specs.as_slice())?;
     let heads = places_by_head(alloc, specs.as_slice())?;
-    let members = set_of(alloc, specs.as_slice())?;
+    let members = members_of(alloc, specs.as_slice())?;
     Ok(SpecsByHead::new(CountedSpecs::new(specs), heads, members, common))
 }
 
@@ -322,7 +329,7 @@ fn exclude_set_of(
         → is_some made ≡ true) }
 {
     // Most searches have no set, and then need no second list of heads.
-    if !has_set(specs, true) {
+    if !has_set(specs) {
         return Ok(None);
     }
     let (_excludes, heads) = excludes_with_heads(alloc, specs, true)?;
@@ -338,31 +345,67 @@ fn places_by_head(alloc: Global, specs: &[CompiledSpec]) -> Result<Box<CountedHe
     boxed_heads(alloc, &heads)
 }
 
-/// The set of the specs that begin with a wildcard, if there is one.
-fn set_of(alloc: Global, specs: &[CompiledSpec]) -> Result<Option<Box<Members>>, AllocError>
+/// The members of the sets of heads, if some head has one.
+///
+/// # Errors
+/// Memory runs out.
+fn members_of(alloc: Global, specs: &[CompiledSpec]) -> Result<Option<Box<Members>>, AllocError>
     ensures members { IfOk result (λ made. IfSome made (λ members.
         AreMembersOf specs.now (box_value members))) }
-    ensures made { IfOk result (λ made. IsSetMade (set_sources specs.now)
-        → is_some made ≡ true) }
+    ensures made { IfOk result (λ made. is_some made ≡ has_any_set (all_sources specs.now)) }
 {
+    let sets = sets_of_heads(alloc, specs)?;
     // Most searches have no set, and then need no second list of heads.
-    if !has_set(specs, false) {
+    if sets.is_empty() {
         return Ok(None);
     }
-    let others = boxed_heads(alloc, &heads_beside(alloc, specs)?)?;
-    Members::of_specs(alloc, specs, others)
+    let owned = heads_beside(alloc, specs, &sets)?;
+    let others = boxed_heads(alloc, &slices(alloc, &owned)?)?;
+    let members = Members::new(source_places(alloc, specs)?, others);
+    Ok(Some(Box::new(alloc, members)?))
 }
 
-/// The heads by which specs are looked for beside the set, in their order.
-fn heads_beside(alloc: Global, specs: &[CompiledSpec]) -> Result<Vec<&[u8]>, AllocError>
-    ensures { IfOk result (λ heads. map (λ head. head.now) heads.items
-        ≡ map (λ n. head_beside true n.spec) specs.now) }
+/// The heads by which specs are looked for beside the sets, in their order.
+///
+/// # Errors
+/// Memory runs out.
+fn heads_beside(
+    alloc: Global,
+    specs: &[CompiledSpec],
+    sets: &[HeadSet],
+) -> Result<Vec<Vec<u8>>, AllocError>
+    ensures { (sources : List SetSource) → AreHeadSetsOf sources sets.now
+        → IfOk result (λ heads. map (λ head. head.items) heads.items
+        ≡ map (λ n. head_beside true sources n.spec) specs.now) }
 {
     let mut heads = Vec::with_capacity(alloc, specs.len())?;
     for spec in specs {
-        heads.push(spec.head_beside())?;
+        heads.push(head_beside(alloc, spec, sets)?)?;
     }
     Ok(heads)
+}
+
+/// The head by which a spec is looked for beside the sets: that of a member has a star behind it.
+///
+/// # Errors
+/// Memory runs out.
+fn head_beside(alloc: Global, spec: &CompiledSpec, sets: &[HeadSet]) -> Result<Vec<u8>, AllocError>
+    ensures { (sources : List SetSource) → AreHeadSetsOf sources sets.now
+        → IfOk result (λ head. head.items ≡ head_beside true sources spec.now.spec) }
+{
+    let mut head = Vec::from_slice(alloc, spec.head())?;
+    if stands_in_set(spec, sets) {
+        head.push(b'*')?;
+    }
+    Ok(head)
+}
+
+/// Whether a spec stands in one of the sets.
+fn stands_in_set(spec: &CompiledSpec, sets: &[HeadSet]) -> bool
+    ensures { (sources : List SetSource) → AreHeadSetsOf sources sets.now
+        → result ≡ stands_in_set sources spec.now.spec }
+{
+    spec.has_headed_member() && has_head(sets, spec.head())
 }
 
 /// Heads with their places, in a box.

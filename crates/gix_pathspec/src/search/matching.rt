@@ -9,7 +9,7 @@ ghost use Rattle.gix_pathspec.specs.Matching.{is_chosen, IsChosen};
 ghost use Rattle.gix_pathspec.specs.Found.{is_directory, answer_found, match_view};
 ghost use Rattle.gix_pathspec.specs.Search.{specs_of, answer, selects, IsFresh};
 ghost use Rattle.gix_pathspec.specs.Reach.{subtree_excludes_of};
-ghost use Rattle.gix_pathspec.specs.Room.{exclude_set_sources, set_sources, Fits};
+ghost use Rattle.gix_pathspec.specs.Room.{exclude_set_sources, Fits};
 ghost use Rattle.gix_pathspec.specs.Members.{IsScratchOf};
 ghost use Rattle.gix_pathspec.specs.SetCounts.{set_total};
 ghost use Rattle.gix_pathspec.specs.Sets.{IsSetMade};
@@ -21,6 +21,7 @@ use crate::Pattern;
 use crate::by_head::SpecsByHead;
 use crate::by_head::subtree_excludes::ExcludesByHead;
 use crate::search::counted::SpecScratch;
+use crate::search::set_building::sets_of_heads;
 use crate::search::{MatchKind, Scratch, Search};
 use bstr::BStr;
 use pathspec_glob_set::SetScratch;
@@ -67,9 +68,13 @@ impl Search {
     ghost use Rattle.gix_pathspec.specs.SelectionLaws.{SelectsChosen, SelectsCommon, OrderIsFree, ChosenIsTest, FittedBeginsHead, FittedBeginsStem, FittedMatches};
 
     /// Makes room for matches of the search, with all counts at 0. Each walker that shares a search has a scratch of its own.
-    /// The cost is linear in the tokens of the largest glob and in the names of attributes that the specs list. If four specs or
-    /// more begin with a wildcard, it is also linear in the size of their set, of which the scratch has a table of at most 9 MiB;
-    /// and so it is if four of the excludes do that [`Search::may_skip`] asks.
+    /// The cost is linear in the tokens of the largest glob and in the names of attributes that the specs list.
+    ///
+    /// The scratch makes a set for each head right behind which enough globs begin: four or more, and one in 64 of all globs
+    /// that begin right behind their spec's head, unless the head is empty. So there are at most 64 sets. Each takes a table of
+    /// at most 9 MiB, and at most 64 KiB for each of its globs. It takes time in the order of its places: each token is asked of each
+    /// byte. A set of more than 131,072 places isn't made, and its specs are asked one by one. Four of the excludes that
+    /// [`Search::may_skip`] asks have a set as well.
     ///
     /// # Errors
     /// Memory runs out.
@@ -81,13 +86,14 @@ impl Search {
     }
 
     /// Whether a scratch has room for matches of the search. One that [`Search::new_scratch`] made for it has. So has one of a
-    /// search whose specs list the same attributes and have globs that are no shorter; if four or more begin with a wildcard,
-    /// these are the same, and the same of them are excludes that [`Search::may_skip`] asks. The cost is linear in the names of
-    /// attributes that the specs list, and in the bytes of those specs.
+    /// search whose specs list the same attributes and have globs that are no shorter; if some head of either has a set, the globs that
+    /// begin right behind their spec's head are the same, and the same of them are excludes that [`Search::may_skip`] asks. The
+    /// cost is linear in the names of attributes that the specs list, and in the bytes of those specs.
     pub fn fits(&self, scratch: &Scratch) -> bool
         ensures { IsTrue result ↔ Fits self.now.specs scratch.now }
     {
-        scratch.specs().fits(self.specs.counted())
+        let has_sets = self.specs.members().is_some();
+        scratch.specs().fits(self.specs.counted(), has_sets)
     }
 
     /// The spec that settles a path: the first in search order that matches it. A path is selected if that is no exclude
@@ -104,10 +110,12 @@ impl Search {
     /// a fixed number of times, and takes its glob's steps. Where it lists attributes and fits, it resets an outcome and asks
     /// the look-up.
     ///
-    /// If four specs or more begin with a wildcard, a set of their globs reads the path once, from its end, before any spec is
-    /// asked ([`Scratch::last_stepped`]). It tells which of them match, and the others aren't asked. Of those that list no
-    /// attributes and aren't for directories alone, at most one is asked. The set tells nothing of a path that begins with a
-    /// wildcard byte, nor where it gave up ([`Scratch::last_by_set`], [`Scratch::last_gave_up`]).
+    /// If four globs or more begin right behind the same head, they may have a set, as [`Search::new_scratch`] says. Each set whose
+    /// head begins the path reads what stands behind that once, from its end, before any spec is asked
+    /// ([`Scratch::last_stepped`]). It tells which of its specs have a glob that matches, and the others aren't asked. Of the
+    /// specs in all sets that list no attributes, aren't for directories alone and keep no prefix directory, at most one is
+    /// asked. The sets tell nothing where a wildcard byte stands in the path right behind such a head, nor where one of them
+    /// gave up ([`Scratch::last_by_set`], [`Scratch::last_gave_up`]): then heads alone tell.
     ///
     /// # Errors
     /// The look-up's fault, and only where the look-up failed in this call.
@@ -150,7 +158,7 @@ impl Search {
         ensures unasked { IsTrue (is_settled_early self.now.specs (bstr_bytes path.entry))
             → (scratch.new.counts.last_tested ≡ 0) × (scratch.new.counts.last_compared ≡ 0) }
 
-        // Counts the steps and looks of the set. It tells which of its specs to ask unless it gives up, and then few are asked.
+        // Counts the steps and looks of the sets. They tell which of their specs to ask unless one gives up, and then few are asked.
         ensures by_set { IsSetCounted self.now.specs (bstr_bytes path.entry)
             scratch.old.counts scratch.new.counts }
     {
@@ -300,23 +308,11 @@ fn scratch_for(
     ensures fits { IfOk result (Fits specs.now) }
     ensures fresh { IfOk result (λ scratch. IsFresh scratch.counts) }
 {
-    let room = SpecScratch::for_specs(alloc, specs.counted())?;
-    let set = set_scratch(alloc, specs)?;
+    let has_sets = specs.members().is_some();
+    let room = SpecScratch::for_specs(alloc, specs.counted(), has_sets)?;
+    let sets = sets_of_heads(alloc, specs.as_slice())?;
     let exclude_set = exclude_scratch(alloc, excludes)?;
-    Ok(Scratch::new(room, set, exclude_set, specs.heads().new_scratch()))
-}
-
-/// Makes room for the set of the specs to read paths in, if there is a set.
-fn set_scratch(alloc: Global, specs: &SpecsByHead) -> Result<Option<SetScratch>, AllocError>
-    ensures own { IfOk result (λ set. ForSome set (IsScratchOf (set_sources specs.now))) }
-    ensures unasked { IfOk result (λ set. set_total set ≡ 0) }
-    ensures made { IfOk result (λ set. IsSetMade (set_sources specs.now)
-        → is_some set ≡ true) }
-{
-    match specs.members() {
-        Some(members) => Ok(Some(members.new_scratch(alloc)?)),
-        None => Ok(None),
-    }
+    Ok(Scratch::new(room, sets, exclude_set, specs.heads().new_scratch()))
 }
 
 /// Makes room for the set of the excludes to read directories in, if there is a set.

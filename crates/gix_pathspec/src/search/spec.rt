@@ -65,8 +65,7 @@ impl CompiledSpec {
     ghost use Rattle.gix_pathspec.specs.Reach.{takes_by_path, is_tabled, path_of, taken_paths, is_shadowed, has_stem};
     ghost use Rattle.gix_pathspec.specs.Compiled.{numbered_pattern};
     ghost use Rattle.pathspec_parts.specs.Outcomes.{names_of};
-    ghost use Rattle.gix_pathspec.specs.Room.{tokens_of, asks_no_more, attribute_names, member_source, source_with};
-    ghost use Rattle.gix_pathspec.specs.Sets.{head_beside};
+    ghost use Rattle.gix_pathspec.specs.Room.{tokens_of, asks_no_more, attribute_names, exclude_source_of, source_with};
 
     /// Makes a pattern ready for matching, under its number. The cost is linear in its path.
     ///
@@ -258,20 +257,15 @@ impl CompiledSpec {
         }
     }
 
-    /// The spec's glob, as the source of a member of a set: that of all specs, or that of the subtree excludes. None where the spec
-    /// doesn't begin with a wildcard, or has no glob, or where some path doesn't begin with its head; and, of excludes, where it is
-    /// no exclude whose glob can take all below a directory.
+    /// The spec's glob, as the source of a member of the set of the subtree excludes. None where the spec is no exclude whose glob can
+    /// take all below a directory, or where it doesn't begin with a wildcard.
     ///
     /// # Errors
     /// Memory runs out.
-    pub(super) fn source(
-        &self,
-        alloc: Global,
-        of_excludes: bool,
-    ) -> Result<Option<SetMember>, AllocError>
-        ensures { IfOk result (λ source. source ≡ member_source of_excludes self.now.spec) }
+    pub(super) fn source(&self, alloc: Global) -> Result<Option<SetMember>, AllocError>
+        ensures { IfOk result (λ source. source ≡ exclude_source_of self.now.spec) }
     {
-        let Some(mode) = self.member_mode(of_excludes) else {
+        let Some(mode) = self.member_mode() else {
             return Ok(None);
         };
         Ok(Some(SetMember {
@@ -283,12 +277,12 @@ impl CompiledSpec {
     }
 
     /// The mode of the spec's glob, where the spec is a member of the set.
-    fn member_mode(&self, of_excludes: bool) -> Option<Mode>
+    fn member_mode(&self) -> Option<Mode>
         ensures { option_map (λ mode. source_with self.now.spec
             (record { mode = mode; pattern = self.now.spec.path })) result
-            ≡ member_source of_excludes self.now.spec }
+            ≡ exclude_source_of self.now.spec }
     {
-        if of_excludes && !(self.takes_by_path() && self.takes_rest) {
+        if !(self.takes_by_path() && self.takes_rest) {
             return None;
         }
         if self.stem != 0 || !self.head().is_empty() {
@@ -297,25 +291,25 @@ impl CompiledSpec {
         glob_mode(&self.pattern, self.has_wildcard())
     }
 
-    /// Whether the spec is a member of the set: that of all specs, or that of the subtree excludes.
-    pub(super) fn is_member(&self, of_excludes: bool) -> bool
-        ensures { result ≡ is_some (member_source of_excludes self.now.spec) }
+    /// Whether the spec may be a member of the set.
+    pub(super) fn is_member(&self) -> bool
+        ensures { result ≡ is_some (exclude_source_of self.now.spec) }
     {
-        self.member_mode(of_excludes).is_some()
+        self.member_mode().is_some()
     }
 
     /// Whether the spec matches where its glob does: it lists no attribute, wants no directory, and keeps no prefix directory.
-    fn asks_no_more(&self) -> bool
+    pub(super) fn asks_no_more(&self) -> bool
         ensures { result ≡ asks_no_more self.now.spec }
     {
         self.pattern.attributes.is_empty() && !self.wants_directory() && self.has_one_case()
     }
 
     /// Whether a source is that of the spec, as a member of the set.
-    pub(super) fn has_source(&self, source: &SetMember, of_excludes: bool) -> bool
-        ensures { IsTrue result ↔ (member_source of_excludes self.now.spec ≡ Some source.now) }
+    pub(super) fn has_source(&self, source: &SetMember) -> bool
+        ensures { IsTrue result ↔ (exclude_source_of self.now.spec ≡ Some source.now) }
     {
-        let is_of = self.member_mode(of_excludes) == Some(source.mode);
+        let is_of = self.member_mode() == Some(source.mode);
         is_of
             && source.pattern.as_slice() == self.path()
             && source.case == spec_matching::case_of(&self.pattern)
@@ -327,17 +321,6 @@ impl CompiledSpec {
         ensures { result ≡ (is_exclude self.now.spec && can_take_rest self.now.spec) }
     {
         self.takes_rest
-    }
-
-    /// The head by which the spec is looked for beside a set: that of a member is a wildcard byte.
-    pub(super) fn head_beside(&self) -> &[u8]
-        ensures { result.now ≡ head_beside true self.now.spec }
-    {
-        if self.is_member(false) {
-            b"*"
-        } else {
-            self.head()
-        }
     }
 
     /// The spec as a pattern.

@@ -145,7 +145,7 @@ pub(super) fn excludes_with_heads(
 fn head_beside(spec: &CompiledSpec, is_set_asked: bool) -> &[u8]
     ensures { result.now ≡ exclude_head_beside is_set_asked spec.now.spec }
 {
-    if is_set_asked && spec.is_member(true) {
+    if is_set_asked && spec.is_member() {
         b"*"
     } else {
         spec.exclude_head()

@@ -6,13 +6,14 @@ use Rattle.pathspec_heads.proofs.SearchProofs.{counts-more}
 use Rattle.gix_pathspec.specs.Prefixes.{head}
 use Rattle.gix_pathspec.specs.Effort.{is_unsettled_candidate}
 use Rattle.gix_pathspec.specs.Room.{HasRoom}
-use Rattle.gix_pathspec.specs.Sets.{any_spec, IsHit, IsNext, IsNextAt}
+use Rattle.gix_pathspec.specs.Beside.{IsHit}
+use Rattle.gix_pathspec.specs.Sets.{any_spec, IsNext, IsNextAt}
 use Rattle.gix_pathspec.proofs.EffortProofs.{match-here, match-later, same-table}
 use Rattle.gix_pathspec.proofs.HeadSearchProofs.{few-more, few-test}
 use Rattle.gix_pathspec.proofs.CandidateProofs.{from-next, none-after, none-next, unsettled-there}
-use Rattle.gix_pathspec.proofs.MemberProofs.{as-many, head-within, kept-candidates, kept-trans, next-on}
-use Rattle.gix_pathspec.specs.SetCounts.{asked_count, set_total}
-use Rattle.gix_pathspec.proofs.SetCountsProofs.{few-looks}
+use Rattle.gix_pathspec.proofs.BeginProofs.{head-within, kept-candidates, next-on}
+use Rattle.gix_pathspec.proofs.KeptSetsProofs.{kept-self, kept-trans}
+use Rattle.gix_pathspec.specs.SetSources.{all_sources}
 use Rattle.gix_pathspec.proofs.by_head.first_candidate.Goals as goal
 
 pub loop-from-init : goal.loop-from-init
@@ -26,25 +27,14 @@ loop-from-init g c = record {
   few = omega (arith, c.requires.none);
   once = λ e. omega (arith, c.requires.none);
   steps = omega (arith, c.requires.none);
-  asked = kept-candidates c.args.specs.now (bstr_bytes c.args.path) c.args.candidates.now c.args.set.now c.first-rank.new.set c.first-rank.ensures.kept c.requires.candidates;
-  kept = c.first-rank.ensures.kept;
-  looked = c.first-rank.ensures.looks;
+  asked = c.requires.candidates;
+  kept = kept-self c.args.sets.now;
   none = λ p n l is. absurd (let no : ⊥ = omega (arith, l) in no);
-  rank = c.first-rank.ensures.rank;
-  next = c.first-rank.ensures.next c.args.specs.now (bstr_bytes c.args.path) c.requires.bytes c.requires.candidates;
+  next = c.requires.next;
 }
 
-pub first-rank-requires : goal.first-rank-requires
-first-rank-requires g c = as-many c.args.specs.now (bstr_bytes c.args.path) c.args.candidates.now c.args.set.now c.requires.candidates
-
-pub next-requires-clause-set : goal.next-requires-clause-set
-next-requires-clause-set g c = as-many c.args.specs.now (bstr_bytes c.args.path) c.args.candidates.now c.loop-from.set c.loop-from.invariant.asked
-
-pub next-requires-clause-rank : goal.next-requires-clause-rank
-next-requires-clause-rank g c = c.loop-from.invariant.rank
-
-pub next-requires-clause-head : goal.next-requires-clause-head
-next-requires-clause-head g c = head-within c.args.specs.now (bstr_bytes c.args.path) c.args.candidates.now.heads.now c.args.candidates.now.head _ c.loop-from.invariant.asked.beside
+pub next-requires : goal.next-requires
+next-requires g c = record { head = head-within c.args.specs.now (bstr_bytes c.args.path) c.args.candidates.now.heads.now c.args.candidates.now.head _ c.loop-from.invariant.asked.beside }
 
 pub returns-in-None-clause-first : goal.returns-in-None-clause-first
 returns-in-None-clause-first g c =
@@ -52,11 +42,8 @@ returns-in-None-clause-first g c =
     let said = c.next.ensures.next c.args.specs.now (bstr_bytes c.args.path) (g.L.LookUp.table c.args.look_up.now) c.args.is_dir c.requires.bytes i.asked i.none i.next in
     sym i.rest ∙ none-next (g.L.LookUp.table c.args.look_up.now) c.args.specs.now (bstr_bytes c.args.path) c.args.is_dir c.loop-from.from (subst (IsNext any_spec c.args.specs.now (bstr_bytes c.args.path) c.loop-from.from) c.in-None.is said.0) i.within
 
-pub returns-in-None-clause-asks_set : goal.returns-in-None-clause-asks_set
-returns-in-None-clause-asks_set g c = record {
-  kept = kept-trans c.args.set.now c.loop-from.set c.next.new.set c.loop-from.invariant.kept c.next.ensures.kept;
-  looks = few-looks (asked_count c.args.candidates.now.members) c.next.new.rank (set_total c.args.set.now) (set_total c.next.new.set) (c.next.ensures.looks (set_total c.args.set.now) c.loop-from.invariant.looked);
-}
+pub returns-in-None-clause-kept : goal.returns-in-None-clause-kept
+returns-in-None-clause-kept g c = kept-trans c.args.sets.now c.loop-from.sets c.next.new.sets c.loop-from.invariant.kept c.next.ensures.kept
 
 pub matches-requires-clause-room : goal.matches-requires-clause-room
 matches-requires-clause-room g c = subst (HasRoom c.args.specs.now) (sym c.loop-from.invariant.room) c.requires.room
@@ -76,11 +63,8 @@ returns-in_err-kind-clause-few g c =
     let n = from-next (g.L.LookUp.table c.args.look_up.now) c.args.specs.now (bstr_bytes c.args.path) c.args.is_dir c.loop-from.from c.in-Some.place is in
     omega (arith, few-more (λ n. head n.spec) (bstr_bytes c.args.path) c.args.specs.now c.loop-from.from c.in-Some.place c.loop-from.tested is.behind n.0 n.1 i.few)
 
-pub returns-in_err-kind-clause-asks_set : goal.returns-in_err-kind-clause-asks_set
-returns-in_err-kind-clause-asks_set g c = record {
-  kept = kept-trans c.args.set.now c.loop-from.set c.next.new.set c.loop-from.invariant.kept c.next.ensures.kept;
-  looks = few-looks (asked_count c.args.candidates.now.members) c.next.new.rank (set_total c.args.set.now) (set_total c.next.new.set) (c.next.ensures.looks (set_total c.args.set.now) c.loop-from.invariant.looked);
-}
+pub returns-in_err-kind-clause-kept : goal.returns-in_err-kind-clause-kept
+returns-in_err-kind-clause-kept g c = kept-trans c.args.sets.now c.loop-from.sets c.next.new.sets c.loop-from.invariant.kept c.next.ensures.kept
 
 pub returns-in-Some-2-clause-first : goal.returns-in-Some-2-clause-first
 returns-in-Some-2-clause-first g c =
@@ -99,11 +83,8 @@ returns-in-Some-2-clause-few g c =
     let n = from-next (g.L.LookUp.table c.args.look_up.now) c.args.specs.now (bstr_bytes c.args.path) c.args.is_dir c.loop-from.from c.in-Some.place is in
     omega (arith, few-more (λ n. head n.spec) (bstr_bytes c.args.path) c.args.specs.now c.loop-from.from c.in-Some.place c.loop-from.tested is.behind n.0 n.1 i.few)
 
-pub returns-in-Some-2-clause-asks_set : goal.returns-in-Some-2-clause-asks_set
-returns-in-Some-2-clause-asks_set g c = record {
-  kept = kept-trans c.args.set.now c.loop-from.set c.next.new.set c.loop-from.invariant.kept c.next.ensures.kept;
-  looks = few-looks (asked_count c.args.candidates.now.members) c.next.new.rank (set_total c.args.set.now) (set_total c.next.new.set) (c.next.ensures.looks (set_total c.args.set.now) c.loop-from.invariant.looked);
-}
+pub returns-in-Some-2-clause-kept : goal.returns-in-Some-2-clause-kept
+returns-in-Some-2-clause-kept g c = kept-trans c.args.sets.now c.loop-from.sets c.next.new.sets c.loop-from.invariant.kept c.next.ensures.kept
 
 pub overflow_add-from : goal.overflow_add-from
 overflow_add-from g c =
@@ -130,7 +111,7 @@ loop-from-preserved g c =
     let further : c.loop-from.from ≤ c.in-Some.place + 1 = omega (arith, is.behind) in
     let unsettled = λ (e : is_some c.args.candidates.now.members ≡ true).
     let hit = c.next.ensures.hit c.args.specs.now (bstr_bytes c.args.path) (g.L.LookUp.table c.args.look_up.now) c.args.is_dir c.requires.bytes i.asked i.none i.next e in
-    unsettled-there (g.L.LookUp.table c.args.look_up.now) c.args.specs.now (bstr_bytes c.args.path) c.args.is_dir c.requires.bytes c.in-Some.place is.headed.0 is.headed.1 is.headed.2
+    unsettled-there (g.L.LookUp.table c.args.look_up.now) c.args.specs.now (bstr_bytes c.args.path) c.args.is_dir c.in-Some.place is.headed.0 is.headed.1 is.headed.2
     (subst (λ found. IfSome found (IsHit c.args.specs.now (bstr_bytes c.args.path))) c.in-Some.is hit) away in
     record {
       room = c.matches.ensures.room ∙ i.room;
@@ -140,18 +121,13 @@ loop-from-preserved g c =
       same_count = c.in_ok-kind.ensures.look_up.1 ∙ i.same_count;
       counted = counts-more c.args.scratch.now.tested c.loop-from.tested c.loop-from.scratch.tested c.matches.new.scratch.tested i.counted c.matches.ensures.counted;
       few = few-more (λ n. head n.spec) (bstr_bytes c.args.path) c.args.specs.now c.loop-from.from c.in-Some.place c.loop-from.tested is.behind n.0 n.1 i.few;
-      once = λ e. few-test (is_unsettled_candidate (bstr_bytes c.args.path)) c.args.specs.now c.loop-from.from c.in-Some.place c.loop-from.tested is.headed.0 is.behind is.headed.1 (unsettled e) (i.once e);
+      once = λ e. few-test (is_unsettled_candidate (all_sources c.args.specs.now) (bstr_bytes c.args.path)) c.args.specs.now c.loop-from.from c.in-Some.place c.loop-from.tested is.headed.0 is.behind is.headed.1 (unsettled e) (i.once e);
       steps = omega (arith, is.behind, i.steps);
-      asked = kept-candidates c.args.specs.now (bstr_bytes c.args.path) c.args.candidates.now c.loop-from.set c.next.new.set c.next.ensures.kept i.asked;
-      kept = kept-trans c.args.set.now c.loop-from.set c.next.new.set i.kept c.next.ensures.kept;
-      looked = c.next.ensures.looks (set_total c.args.set.now) i.looked;
+      asked = kept-candidates c.args.specs.now (bstr_bytes c.args.path) c.args.candidates.now c.loop-from.sets c.next.new.sets c.next.ensures.kept i.asked;
+      kept = kept-trans c.args.sets.now c.loop-from.sets c.next.new.sets i.kept c.next.ensures.kept;
       none = none-after (g.L.LookUp.table c.args.look_up.now) c.args.specs.now (bstr_bytes c.args.path) c.args.is_dir c.loop-from.from c.in-Some.place is i.none away;
-      rank = c.next.ensures.rank;
-      next = next-on c.args.specs.now (bstr_bytes c.args.path) c.args.candidates.now c.loop-from.from (c.in-Some.place + 1) c.next.new.rank further said.1;
+      next = next-on c.args.specs.now (bstr_bytes c.args.path) c.args.candidates.now c.next.new.sets c.loop-from.from (c.in-Some.place + 1) further said.1;
     }
 
-pub returns-clause-asks_set : goal.returns-clause-asks_set
-returns-clause-asks_set g c = record {
-  kept = c.loop-from.invariant.kept;
-  looks = few-looks (asked_count c.args.candidates.now.members) c.loop-from.rank (set_total c.args.set.now) (set_total c.loop-from.set) c.loop-from.invariant.looked;
-}
+pub returns-clause-kept : goal.returns-clause-kept
+returns-clause-kept g c = c.loop-from.invariant.kept

@@ -1,12 +1,12 @@
 -- No spec so far matches, so the first that does is among the rest; and what was asked is counted.
-use Rattle.std.proofs.Common.{◌≡◌, ◌+◌, ◌-◌, ◌≤◌, drop, length, true, is_some}
+use Rattle.std.proofs.Common.{◌≡◌, ◌+◌, ◌-◌, ◌≤◌, drop, filter, length, true, is_some}
 use Rattle.bstr.specs.BStr.{bstr_bytes}
 use Rattle.pathspec_glob.specs.Counts.{Counts}
 use Rattle.gix_pathspec.specs.Found.{first_match}
-use Rattle.gix_pathspec.specs.Effort.{candidate_count, unsettled_count}
+use Rattle.gix_pathspec.specs.Effort.{candidate_count, is_unsettled_candidate, unsettled_count}
 use Rattle.gix_pathspec.specs.Sets.{NoneBefore}
-use Rattle.gix_pathspec.specs.Candidates.{AreCandidates, AreKept, AreNext, IsRank}
-use Rattle.gix_pathspec.specs.SetCounts.{asked_count, set_total, HasLooked}
+use Rattle.gix_pathspec.specs.Candidates.{AreCandidates, AreNext, KeepsSets}
+use Rattle.gix_pathspec.specs.SetSources.{all_sources}
 use Rattle.gix_pathspec.proofs.by_head.first_candidate.Given as goal
 
 abbrev pub invariant-loop-from : goal.invariant-loop-from
@@ -19,14 +19,12 @@ invariant-loop-from g l =
       same_count : g.L.LookUp.failures l.look_up ≡ g.L.LookUp.failures l.fn.look_up;
       counted : Counts l.fn.scratch.tested l.tested l.scratch.tested;
       few : l.tested + candidate_count (drop l.from l.specs) (bstr_bytes l.path) ≤ candidate_count l.specs (bstr_bytes l.path);
-      once : is_some l.candidates.members ≡ true → l.tested + unsettled_count (drop l.from l.specs) (bstr_bytes l.path) ≤ unsettled_count l.specs (bstr_bytes l.path);
+      once : is_some l.candidates.members ≡ true → l.tested + length (filter (is_unsettled_candidate (all_sources l.specs) (bstr_bytes l.path)) (drop l.from l.specs)) ≤ unsettled_count l.specs (bstr_bytes l.path);
       steps : l.tested ≤ l.from;
-      asked : AreCandidates l.specs (bstr_bytes l.path) l.candidates l.set;
-      kept : AreKept l.fn.set l.set;
-      looked : HasLooked (asked_count l.candidates.members) l.rank (set_total l.fn.set) (set_total l.set);
+      asked : AreCandidates l.specs (bstr_bytes l.path) l.candidates l.sets;
+      kept : KeepsSets l.fn.sets l.sets;
       none : NoneBefore (g.L.LookUp.table l.fn.look_up) l.specs (bstr_bytes l.path) l.is_dir l.from;
-      rank : IsRank l.candidates l.rank;
-      next : AreNext l.specs (bstr_bytes l.path) l.candidates l.from l.rank;
+      next : AreNext l.specs (bstr_bytes l.path) l.candidates l.sets l.from;
     }
 
 abbrev pub decreases-loop-from : goal.decreases-loop-from

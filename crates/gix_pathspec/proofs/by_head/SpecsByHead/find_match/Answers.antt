@@ -1,12 +1,11 @@
 -- A path that needs no look at the specs, and the first spec that matches.
-use Rattle.std.proofs.Common.{◌≡◌, ℕ, Bool, false, List, length, subst, sym}
+use Rattle.std.proofs.Common.{◌≡◌, ℕ, Bool, false, List, length, ap, subst, sym, ◌∙◌}
 use Rattle.std.proofs.lemmas.Bool.{both_ways}
 use Rattle.std.proofs.lemmas.Result.{IfOk-weaker}
 use Rattle.bstr.specs.BStr.{bstr_bytes}
 use Rattle.gix_pathspec.specs.Search.{Numbered}
 use Rattle.gix_pathspec.specs.Members.{AreMembersOf}
-use Rattle.gix_pathspec.specs.Room.{set_sources}
-use Rattle.gix_pathspec.specs.Sets.{IsSetMade}
+use Rattle.gix_pathspec.specs.SetSources.{all_sources, has_any_set}
 use Rattle.gix_pathspec.specs.Effort.{AreFewCompared, is_settled_early}
 use Rattle.gix_pathspec.proofs.FoundProofs.{answer-unasked, asked-parts, answer-found, found-within}
 use Rattle.gix_pathspec.proofs.EffortProofs.{little-from}
@@ -24,7 +23,7 @@ pub first_match-requires-clause-members : goal.first_match-requires-clause-membe
 first_match-requires-clause-members g c = λ m e. subst (λ (ns : List Numbered). AreMembersOf ns m.now) (sym c.self.view_is) (c.members.ensures.members m e)
 
 pub first_match-requires-clause-made : goal.first_match-requires-clause-made
-first_match-requires-clause-made g c = λ made. c.members.ensures.made (subst (λ (ns : List Numbered). IsSetMade (set_sources ns)) c.self.view_is made)
+first_match-requires-clause-made g c = c.members.ensures.made ∙ ap (λ (ns : List Numbered). has_any_set (all_sources ns)) (sym c.self.view_is)
 
 pub first_match-requires-clause-late : goal.first_match-requires-clause-late
 first_match-requires-clause-late g c =

@@ -22,12 +22,12 @@ returns-clause-counted c =
     let old = c.scratch.inside.exclude_set in
     let new = c.told_by_set-told.new.set in
     let own = subst (λ (xs : List MemberSource). ForSome old (IsScratchOf xs)) seen c.scratch.invariant.of_excludes.own in
-    let begun : sets_total c.scratch.inside.set old ≡ c.args.scratch.now.counts.stepped = ap (λ (s : ScratchContents). s.counts.stepped) c.scratch.view_is in
+    let begun : sets_total c.scratch.inside.stepped old ≡ c.args.scratch.now.counts.stepped = ap (λ (s : ScratchContents). s.counts.stepped) c.scratch.view_is in
     let counted = subst (λ k. Counts k c.growth-scratch-inside.result (set_total new)) c.set_total-before.ensures (subst (Counts c.set_total-before.result c.growth-scratch-inside.result) c.set_total.ensures c.growth-scratch-inside.ensures.counted) in
     let most = (length c.args.directory.now + 1) * (places_of sources + 2) + length sources in
     record {
-      stepped = subst (λ k. Counts k c.growth-scratch-inside.result (sets_total c.scratch.inside.set new)) begun
-          (counts-behind (set_total old) c.growth-scratch-inside.result (set_total new) (set_total c.scratch.inside.set) counted);
+      stepped = subst (λ k. Counts k c.growth-scratch-inside.result (sets_total c.scratch.inside.stepped new)) begun
+          (counts-behind (set_total old) c.growth-scratch-inside.result (set_total new) c.scratch.inside.stepped counted);
       few_stepped = c.growth-scratch-inside.ensures.few most (subst (λ k. GrowsBy most k c.set_total.result) (sym c.set_total-before.ensures) (subst (GrowsBy most (set_total old)) (sym c.set_total.ensures) (c.told_by_set-told.ensures.few sources own)));
     }
 

@@ -52,7 +52,7 @@ returns-then-is_empty-clause-counted c =
 pub covers-requires-clause-set : goal.covers-requires-clause-set
 covers-requires-clause-set c =
     let same : c.self.inside.specs ≡ c.args.self.now.specs = ap (λ (s : SearchContents). s.specs) c.self.view_is in
-    ap (λ (r : Room). r.excludes) c.begin.ensures.room ∙ c.requires.fits.excludes ∙ ap (made_sources true) (sym same) ∙ sym (excludes-made c.self.inside.specs)
+    ap (λ (r : Room). r.excludes) c.begin.ensures.room ∙ c.requires.fits.excludes ∙ ap made_sources (sym same) ∙ sym (excludes-made c.self.inside.specs)
     ∙ ap exclude_set_sources (sym c.self.invariant.are_excludes)
 
 pub returns-clause-counted : goal.returns-clause-counted

@@ -13,7 +13,7 @@ returns-in_default c = (
   λ all.
       let low : c.loop-spec.rank < length c.args.sources.now = ltb-true _ _ (sym c.in-Some.ensures.lookup.0) in
       let there = slice_get_read c.args.sources.now (length c.args.sources.now) c.loop-spec.rank c.in-Some.source.now refl low c.in-Some.ensures.lookup.1 in
-      let next = source-next c.args.of_excludes c.args.specs.now c.args.sources.now c.loop-spec.spec-index c.loop-spec.rank c.spec-item.result c.loop-spec-test.true c.spec-item.is c.loop-spec.invariant.rank c.loop-spec.invariant.so_far c.if-is_member.ensures all in
+      let next = source-next c.args.specs.now c.args.sources.now c.loop-spec.spec-index c.loop-spec.rank c.spec-item.result c.loop-spec-test.true c.spec-item.is c.loop-spec.invariant.rank c.loop-spec.invariant.so_far c.if-is_member.ensures all in
       sym c.if-has_source.false ∙ c.has_source.ensures.1 (sym next ∙ there),
 )
 
@@ -21,8 +21,8 @@ pub returns-in_default-2 : goal.returns-in_default-2
 returns-in_default-2 c = (
   λ t. let no : false ≡ true = t in cc,
   λ all.
-      let next = source-next c.args.of_excludes c.args.specs.now c.args.sources.now c.loop-spec.spec-index c.loop-spec.rank c.spec-item.result c.loop-spec-test.true c.spec-item.is c.loop-spec.invariant.rank c.loop-spec.invariant.so_far c.if-is_member.ensures all in
-      let own = has-source c.args.of_excludes c.spec-item.result.spec c.if-is_member.ensures in
+      let next = source-next c.args.specs.now c.args.sources.now c.loop-spec.spec-index c.loop-spec.rank c.spec-item.result c.loop-spec-test.true c.spec-item.is c.loop-spec.invariant.rank c.loop-spec.invariant.so_far c.if-is_member.ensures all in
+      let own = has-source c.spec-item.result.spec c.if-is_member.ensures in
       let low : c.loop-spec.rank < length c.args.sources.now = slice_get_within c.args.sources.now c.loop-spec.rank own.0 (next ∙ own.1) in
       let high = ltb-false c.loop-spec.rank (length c.args.sources.now) (sym c.get.ensures.lookup.0 ∙ ap is_some c.in_default.is) in
       absurd (let no : ⊥ = omega (arith, low, high) in no),
@@ -34,10 +34,10 @@ loop-spec-preserved c = elim c.if-is_member.branch [
       let low : c.loop-spec.rank < length c.args.sources.now = ltb-true _ _ (sym w.in-Some.ensures.lookup.0) in
       record {
         rank = omega (arith, low, w.rank-is);
-        so_far = rw w.rank-is (taken-step c.args.of_excludes c.args.specs.now c.args.sources.now c.loop-spec.spec-index c.loop-spec.rank c.spec-item.result w.in-Some.source.now c.loop-spec-test.true c.spec-item.is low w.in-Some.ensures.lookup.1 c.loop-spec.invariant.so_far (w.has_source.ensures.0 w.if-has_source.true));
+        so_far = rw w.rank-is (taken-step c.args.specs.now c.args.sources.now c.loop-spec.spec-index c.loop-spec.rank c.spec-item.result w.in-Some.source.now c.loop-spec-test.true c.spec-item.is low w.in-Some.ensures.lookup.1 c.loop-spec.invariant.so_far (w.has_source.ensures.0 w.if-has_source.true));
       }
   | else-is_member w ↦ record {
     rank = omega (arith, w.rank-is, c.loop-spec.invariant.rank);
-    so_far = rw w.rank-is (taken-past c.args.of_excludes c.args.specs.now c.args.sources.now c.loop-spec.spec-index c.loop-spec.rank c.spec-item.result c.loop-spec-test.true c.spec-item.is c.loop-spec.invariant.so_far w.if-is_member.ensures);
+    so_far = rw w.rank-is (taken-past c.args.specs.now c.args.sources.now c.loop-spec.spec-index c.loop-spec.rank c.spec-item.result c.loop-spec-test.true c.spec-item.is c.loop-spec.invariant.so_far w.if-is_member.ensures);
   }
 ]

@@ -5,5 +5,5 @@ use Rattle.gix_pathspec.proofs.search.counted.are_sources.Given as goal
 abbrev pub invariant-loop-spec : goal.invariant-loop-spec
 invariant-loop-spec l = record {
   rank : l.rank ≤ length l.sources;
-  so_far : take l.rank l.sources ≡ member_sources l.of_excludes (take l.spec-index l.specs);
+  so_far : take l.rank l.sources ≡ member_sources (take l.spec-index l.specs);
 }

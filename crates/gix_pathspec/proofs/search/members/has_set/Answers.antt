@@ -6,11 +6,11 @@ use Rattle.gix_pathspec.proofs.search.members.has_set.Goals.{then-is_member, els
 
 pub loop-spec-preserved : goal.loop-spec-preserved
 loop-spec-preserved c = elim c.if-is_member.branch [
-  | then-is_member w ↦ omega (arith, counts-step c.args.of_excludes c.args.specs.now c.loop-spec.spec-index c.spec-item.result c.loop-spec-test.true c.spec-item.is true w.if-is_member.ensures, w.count-is, c.loop-spec.invariant)
-  | else-is_member w ↦ omega (arith, counts-step c.args.of_excludes c.args.specs.now c.loop-spec.spec-index c.spec-item.result c.loop-spec-test.true c.spec-item.is false w.if-is_member.ensures, w.count-is, c.loop-spec.invariant)
+  | then-is_member w ↦ omega (arith, counts-step c.args.specs.now c.loop-spec.spec-index c.spec-item.result c.loop-spec-test.true c.spec-item.is true w.if-is_member.ensures, w.count-is, c.loop-spec.invariant)
+  | else-is_member w ↦ omega (arith, counts-step c.args.specs.now c.loop-spec.spec-index c.spec-item.result c.loop-spec-test.true c.spec-item.is false w.if-is_member.ensures, w.count-is, c.loop-spec.invariant)
 ]
 
 pub overflow_add-count : goal.overflow_add-count
 overflow_add-count c =
     let specs = c.args.specs.now in
-    omega (arith, few-sources c.args.of_excludes (take c.loop-spec.spec-index specs), length-take c.loop-spec.spec-index specs, c.loop-spec.invariant, c.loop-spec-test.true)
+    omega (arith, few-sources (take c.loop-spec.spec-index specs), length-take c.loop-spec.spec-index specs, c.loop-spec.invariant, c.loop-spec-test.true)

@@ -3,4 +3,4 @@ use Rattle.gix_pathspec.specs.Room.{member_sources}
 use Rattle.gix_pathspec.proofs.search.members.has_set.Given as goal
 
 abbrev pub invariant-loop-spec : goal.invariant-loop-spec
-invariant-loop-spec l = l.count ≡ length (member_sources l.of_excludes (take l.spec-index l.specs))
+invariant-loop-spec l = l.count ≡ length (member_sources (take l.spec-index l.specs))

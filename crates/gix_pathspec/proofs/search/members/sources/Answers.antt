@@ -6,7 +6,7 @@ use Rattle.gix_pathspec.proofs.search.members.sources.Goals.{in-Some+in_ok-push,
 
 pub loop-spec-preserved : goal.loop-spec-preserved
 loop-spec-preserved c =
-    let more = sources-step c.args.of_excludes c.args.specs.now c.loop-spec.spec-index c.spec-item.result c.loop-spec-test.true c.spec-item.is c.in_ok-source.field-0 c.in_ok-source.ensures in
+    let more = sources-step c.args.specs.now c.loop-spec.spec-index c.spec-item.result c.loop-spec-test.true c.spec-item.is c.in_ok-source.field-0 c.in_ok-source.ensures in
     elim c.match-branch-2.branch [
       | in-Some+in_ok-push w ↦ rw w.sources-is (w.in_ok-push.ensures.items ∙ rw (more, w.in-Some.is, c.loop-spec.invariant) refl)
       | in_default w ↦ rw w.sources-is (rw (more, w.in_default.is, append-nil, c.loop-spec.invariant) refl)

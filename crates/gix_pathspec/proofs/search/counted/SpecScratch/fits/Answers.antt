@@ -1,8 +1,9 @@
 -- There is room where there is one for globs and attributes, and the sets are the specs'.
-use Rattle.std.proofs.Common.{◌≡◌, true, false, sym, ◌∙◌, ap, subst, map}
+use Rattle.std.proofs.Common.{◌≡◌, sym, ◌∙◌, ap, subst, map}
 use Rattle.std.proofs.lemmas.Bool.{both_ways, ne_eqb}
 use Rattle.pathspec_parts.specs.Outcomes.{names_of}
 use Rattle.gix_pathspec.specs.Room.{made_sources, HasGlobRoom, SpecRoom}
+use Rattle.gix_pathspec.specs.SetSources.{head_set_sources}
 use Rattle.gix_pathspec.proofs.search.counted.SpecScratch.fits.Goals as goal
 use Rattle.gix_pathspec.proofs.search.counted.SpecScratch.fits.Goals.{then-len, else-len}
 
@@ -26,8 +27,8 @@ returns-then-have_room c =
           record {
             globs = has.globs;
             outcomes = has.outcomes;
-            members = sources.0 ∙ ap (made_sources false) same;
-            excludes = sources.1 ∙ ap (made_sources true) same;
+            members = sources.0 ∙ ap head_set_sources same;
+            excludes = sources.1 ∙ ap made_sources same;
           },
-      λ fits. c.has_sources.ensures.1 (fits.members ∙ ap (made_sources false) (sym same), fits.excludes ∙ ap (made_sources true) (sym same)),
+      λ fits. c.has_sources.ensures.1 (fits.members ∙ ap head_set_sources (sym same), fits.excludes ∙ ap made_sources (sym same)),
     )
