@@ -1,5 +1,5 @@
 -- Places in groups: those that have one head.
-use Rattle.std.specs.Prelude.{◌≡◌, ℕ, ◌+◌, ◌<◌, ◌≤◌, true, false, List, [], ◌∷◌, ◌++◌, length, get_or, min, Option, Some, None, IfSome, IsSomeAnd}
+use Rattle.std.specs.Prelude.{◌≡◌, ℕ, ◌+◌, ◌-◌, ◌<◌, ◌≤◌, true, false, List, [], ◌∷◌, ◌++◌, length, get_or, min, Option, Some, None, IfSome, IsSomeAnd}
 use Rattle.pathspec_glob.specs.Bytes.{begins_with}
 use Rattle.pathspec_glob.specs.GlobCells.{has}
 use Rattle.std.specs.Ordering.{nat_cmp, ordering_then, is_lt}
@@ -38,6 +38,10 @@ start_of starts k = get_or starts k 0
 abbrev pub end_of : List ℕ → List ℕ → ℕ → ℕ
 end_of starts order k = get_or starts (k + 1) (length order)
 
+-- how many places a group has
+abbrev pub group_size : List ℕ → List ℕ → ℕ → ℕ
+group_size starts order k = end_of starts order k - start_of starts k
+
 -- the place stands in the group of the head with this number
 pub record IsInGroup (starts order : List ℕ) (k place : ℕ) : Type 0 where
   pub at : ℕ
@@ -68,6 +72,11 @@ pub record GroupedPlaces : Type 0 where
   pub heads : List (List ℕ)
   pub starts : List ℕ
   pub order : List ℕ
+
+-- no group has more places than this, and unless there are none some has as many
+pub record IsLargestGroup (places : GroupedPlaces) (largest : ℕ) : Type 0 where
+  pub all : (k : ℕ) → k < length places.heads → group_size places.starts places.order k ≤ largest
+  pub some : 0 < largest → (k : ℕ) × (k < length places.heads) × (group_size places.starts places.order k ≡ largest)
 
 -- the bits of the word are just the numbers with this property
 pub record HasBitsOf (word : ℕ) (is_in : ℕ → Type 0) : Type 0 where

@@ -4,7 +4,7 @@ ghost use Rattle.std.specs.List.Sorted.{IsNonDecreasing};
 ghost use Rattle.pathspec_glob.specs.Counts.{Counts};
 ghost use Rattle.pathspec_glob.specs.GlobCells.{has};
 ghost use Rattle.pathspec_heads.specs.Heads.{IsLastFront, IsChainOf};
-ghost use Rattle.pathspec_heads.specs.Groups.{IsGrouped, IsInGroup, IsInChain, IsLeastFrom, AreWords, HasBitsOf, earlier, end_of};
+ghost use Rattle.pathspec_heads.specs.Groups.{IsGrouped, IsInGroup, IsInChain, IsLargestGroup, IsLeastFrom, IsOrder, AreWords, HasBitsOf, earlier, end_of};
 
 use crate::groups::{Groups, grouped};
 use crate::probe::Text;
@@ -147,6 +147,20 @@ impl PlacesByHead {
         ensures { result ≡ 0 }
     {
         CompareScratch::for_places(self)
+    }
+
+    /// How many places the largest group has: the most that share a head. The cost is linear in the heads.
+    pub fn largest_group(&self) -> usize
+        ensures largest { IsLargestGroup self.now result }
+        // As places ascend in a group, none stands in it twice.
+        ensures order { IsOrder self.now.heads self.now.starts self.now.order }
+    {
+        let mut largest = 0;
+        for head in 0..self.heads.len() {
+            let size = self.end_of(head) - self.starts[head];
+            largest = size.max(largest);
+        }
+        largest
     }
 
     // In line, and so the next place, since a match asks for them at each path.

@@ -30,6 +30,17 @@ fn the_next_place_is_found_below_64_and_behind(rt: HostRuntime) -> Result<(), Fa
     Ok(())
 }
 
+#[test]
+fn the_largest_group_is_that_of_most_places(rt: HostRuntime) -> Result<(), Fail> {
+    let none: &[&[u8]] = &[];
+    let mixed: &[&[u8]] = &[b"a/", b"", b"a/b", b"c", b"a/", b"c"];
+    for (heads, largest) in [(none, 0), (mixed, 2), (&[b"a".as_slice(); 65], 65)] {
+        let places = PlacesByHead::new(rt.alloc(), heads)?;
+        assert!(rt; places.largest_group() == largest, "{largest}");
+    }
+    Ok(())
+}
+
 /// The table of the stems `Src`, and without case `Doc`, which a wildcard follows, and `Lib`, which wants a directory.
 #[rattlefmt::skip]
 pub(super) fn stem_table(alloc: Global) -> Result<StemTable, AllocError> {
