@@ -1,5 +1,5 @@
 //! A set of globs is made: its places, the classes of bytes, and the row of the empty text.
-ghost use Rattle.std.specs.Prelude.{◌≡◌, ◌<◌, ◌≤◌, ℕ, length, get_or, IfOk, IsFalse};
+ghost use Rattle.std.specs.Prelude.{◌≡◌, ◌<◌, ◌≤◌, ℕ, length, get_or, IfOk, IsFalse, IsTrue};
 ghost use Rattle.pathspec_glob_set.specs.Questions.{AddsClass, AreClasses};
 ghost use Rattle.pathspec_glob_set.specs.Sets.{count_places, AreEnds, AreMovesOf};
 ghost use Rattle.pathspec_glob_set.specs.Sizes.{most_places};
@@ -58,9 +58,10 @@ pub fn moves_of(alloc: Global, globs: &[Member]) -> Result<Moves, AllocError>
     })
 }
 
-/// Whether globs have few enough places for a set.
+/// Whether globs have few enough places for a set: one for each token, and one more for each glob.
 pub fn are_few(globs: &[Member]) -> bool
-    ensures { IsFalse result → most_places < count_places globs.now }
+    ensures few { IsTrue result → count_places globs.now ≤ most_places }
+    ensures many { IsFalse result → most_places < count_places globs.now }
 {
     let mut places = 0;
     for glob in globs {

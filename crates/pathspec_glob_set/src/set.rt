@@ -1,5 +1,5 @@
 //! Many globs at once: which of them match a text, in one pass over the text from its end.
-ghost use Rattle.std.specs.Prelude.{◌≡◌, ◌+◌, ◌%◌, ◌<◌, ◌≤◌, ◌^◌, ◌↔◌, ◌++◌, ℕ, List, [], ◌∷◌, length, None, IfOk, IfSome, IsTrue};
+ghost use Rattle.std.specs.Prelude.{◌≡◌, ◌+◌, ◌%◌, ◌<◌, ◌≤◌, ◌^◌, ◌↔◌, ◌++◌, ℕ, List, [], ◌∷◌, length, None, IfOk, IfSome, IsSome, IsTrue};
 ghost use Rattle.pathspec_glob.specs.Bytes.{slash};
 ghost use Rattle.pathspec_glob.specs.Counts.{Counts};
 ghost use Rattle.pathspec_glob_set.specs.Moves.{AreAlike};
@@ -54,6 +54,7 @@ impl GlobSet {
     /// Memory runs out.
     pub fn new(alloc: Global, globs: &[Member]) -> Result<Option<GlobSet>, AllocError>
         ensures set { IfOk result (λ made. IfSome made (IsSetOf globs.now)) }
+        ensures few { IfOk result (λ made. IsSome made → count_places globs.now ≤ most_places) }
         ensures none { IfOk result (λ made. made ≡ None → most_places < count_places globs.now) }
     {
         if !are_few(globs) {
