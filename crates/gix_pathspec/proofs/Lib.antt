@@ -43,13 +43,13 @@ pub mod HeadSetProofs
 pub mod HeadSumProofs
 pub mod HeadCountsProofs
 pub mod HeadGroupProofs
-pub mod SetSourceSteps
+pub mod SourceSteps
 pub mod HeadSetsProofs
 pub mod SetBuildingProofs
 pub mod KeptSetsProofs
+pub mod LargestGroupProofs
 pub mod BeginProofs
 pub mod CandidateProofs
-pub mod MemberStepProofs
 pub mod SetCountsProofs
 pub mod ExcludeSetProofs
 pub mod ExcludeMemberProofs

@@ -194,13 +194,21 @@ impl CountedExcludes {
 impl CountedHeads {
     ghost use Rattle.std.specs.Prelude.{ℕ, ◌^◌, IfSome};
     ghost use Rattle.pathspec_heads.specs.Heads.{IsLastFront, IsChainOf};
-    ghost use Rattle.pathspec_heads.specs.Groups.{IsInChain, IsLeastFrom};
+    ghost use Rattle.pathspec_heads.specs.Groups.{IsInChain, IsLargestGroup, IsLeastFrom, IsOrder};
 
     /// Wraps heads and places, so that a scratch counts each comparison.
     pub(super) fn new(all: PlacesByHead) -> CountedHeads
         ensures { result ≡ all }
     {
         CountedHeads { all }
+    }
+
+    /// The most specs that share a head, as [`PlacesByHead::largest_group`] says. A match can't call this.
+    pub(super) fn largest_group(&self) -> usize
+        ensures largest { IsLargestGroup self.now result }
+        ensures order { IsOrder self.now.heads self.now.starts self.now.order }
+    {
+        self.all.largest_group()
     }
 
     /// Makes a scratch for searches for the heads, as [`PlacesByHead::new_scratch`] does. A match can't call this.

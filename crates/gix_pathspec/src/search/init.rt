@@ -248,8 +248,10 @@ fn with_room(
     ensures fits { IfOk result (λ pair. Fits pair.0 (box_value pair.1)) }
     ensures fresh { IfOk result (λ pair. IsFresh (box_value pair.1).counts) }
 {
-    let specs = by_head(alloc, specs)?;
-    let scratch = boxed_scratch(alloc, &specs, excludes)?;
+    let heads = places_by_head(alloc, specs.as_slice())?;
+    let sets = sets_of_heads(alloc, specs.as_slice(), &heads)?;
+    let specs = by_head(alloc, specs, heads, &sets)?;
+    let scratch = boxed_scratch(alloc, &specs, sets, excludes)?;
     Ok((specs, scratch))
 }
 
@@ -297,13 +299,19 @@ fn in_search_order(alloc: Global, specs: Vec<CompiledSpec>) -> Result<Vec<Compil
     Ok(ordered)
 }
 
-/// Groups specs by their heads.
-fn by_head(alloc: Global, specs: Vec<CompiledSpec>) -> Result<SpecsByHead, AllocError>
+/// Puts specs together with their places by heads, and with the members of their sets.
+fn by_head(
+    alloc: Global,
+    specs: Vec<CompiledSpec>,
+    heads: Box<CountedHeads>,
+    sets: &[HeadSet],
+) -> Result<SpecsByHead, AllocError>
+    requires heads { ArePlacesOf specs.items (box_value heads) }
+    requires sets { AreHeadSetsOf (all_sources specs.items) sets.now }
     ensures { IfOk result (λ held. held ≡ specs.items) }
 {
     let common = common_prefix(alloc, specs.as_slice())?;
-    let heads = places_by_head(alloc, specs.as_slice())?;
-    let members = members_of(alloc, specs.as_slice())?;
+    let members = members_of(alloc, specs.as_slice(), sets)?;
     Ok(SpecsByHead::new(CountedSpecs::new(specs), heads, members, common))
 }
 
@@ -349,17 +357,21 @@ fn places_by_head(alloc: Global, specs: &[CompiledSpec]) -> Result<Box<CountedHe
 ///
 /// # Errors
 /// Memory runs out.
-fn members_of(alloc: Global, specs: &[CompiledSpec]) -> Result<Option<Box<Members>>, AllocError>
+fn members_of(
+    alloc: Global,
+    specs: &[CompiledSpec],
+    sets: &[HeadSet],
+) -> Result<Option<Box<Members>>, AllocError>
+    requires { AreHeadSetsOf (all_sources specs.now) sets.now }
     ensures members { IfOk result (λ made. IfSome made (λ members.
         AreMembersOf specs.now (box_value members))) }
     ensures made { IfOk result (λ made. is_some made ≡ has_any_set (all_sources specs.now)) }
 {
-    let sets = sets_of_heads(alloc, specs)?;
     // Most searches have no set, and then need no second list of heads.
     if sets.is_empty() {
         return Ok(None);
     }
-    let owned = heads_beside(alloc, specs, &sets)?;
+    let owned = heads_beside(alloc, specs, sets)?;
     let others = boxed_heads(alloc, &slices(alloc, &owned)?)?;
     let members = Members::new(source_places(alloc, specs)?, others);
     Ok(Some(Box::new(alloc, members)?))

@@ -1,5 +1,5 @@
 //! Matching: the spec that settles a path, and the room that a match works in.
-ghost use Rattle.std.specs.Prelude.{◌≡◌, ◌≢◌, ◌↔◌, ◌<◌, ◌≤◌, true, [], length, is_some, IsTrue, IfOk, OnOk, OnErr};
+ghost use Rattle.std.specs.Prelude.{◌≡◌, ◌≢◌, ◌↔◌, ◌<◌, ◌≤◌, true, All, [], length, is_some, IsTrue, IfOk, OnOk, OnErr};
 ghost use Rattle.std.specs.Option.{option_map, ForSome};
 ghost use Rattle.bstr.specs.BStr.{bstr_bytes};
 ghost use Rattle.pathspec_parts.specs.Attributes.{AsksLookUp};
@@ -10,6 +10,8 @@ ghost use Rattle.gix_pathspec.specs.Found.{is_directory, answer_found, match_vie
 ghost use Rattle.gix_pathspec.specs.Search.{specs_of, answer, selects, IsFresh};
 ghost use Rattle.gix_pathspec.specs.Reach.{subtree_excludes_of};
 ghost use Rattle.gix_pathspec.specs.Room.{exclude_set_sources, Fits};
+ghost use Rattle.gix_pathspec.specs.HeadSets.{AreHeadSetsOf, IsUnread};
+ghost use Rattle.gix_pathspec.specs.SetSources.{all_sources};
 ghost use Rattle.gix_pathspec.specs.Members.{IsScratchOf};
 ghost use Rattle.gix_pathspec.specs.SetCounts.{set_total};
 ghost use Rattle.gix_pathspec.specs.Sets.{IsSetMade};
@@ -21,6 +23,7 @@ use crate::Pattern;
 use crate::by_head::SpecsByHead;
 use crate::by_head::subtree_excludes::ExcludesByHead;
 use crate::search::counted::SpecScratch;
+use crate::search::head_set::HeadSet;
 use crate::search::set_building::sets_of_heads;
 use crate::search::{MatchKind, Scratch, Search};
 use bstr::BStr;
@@ -82,7 +85,8 @@ impl Search {
         ensures fits { IfOk result (Fits self.now.specs) }
         ensures fresh { IfOk result (λ scratch. IsFresh scratch.counts) }
     {
-        scratch_for(alloc, &self.specs, &self.excludes)
+        let sets = sets_of_heads(alloc, self.specs.as_slice(), self.specs.heads())?;
+        scratch_for(alloc, &self.specs, sets, &self.excludes)
     }
 
     /// Whether a scratch has room for matches of the search. One that [`Search::new_scratch`] made for it has. So has one of a
@@ -302,15 +306,17 @@ pub(super) fn selects(found: &Option<Match<'_>>) -> bool
 fn scratch_for(
     alloc: Global,
     specs: &SpecsByHead,
+    sets: Vec<HeadSet>,
     excludes: &ExcludesByHead,
 ) -> Result<Scratch, AllocError>
-    requires { excludes.now ≡ subtree_excludes_of (specs_of specs.now) }
+    requires sets { AreHeadSetsOf (all_sources specs.now) sets.items }
+    requires unread { All IsUnread sets.items }
+    requires excludes { excludes.now ≡ subtree_excludes_of (specs_of specs.now) }
     ensures fits { IfOk result (Fits specs.now) }
     ensures fresh { IfOk result (λ scratch. IsFresh scratch.counts) }
 {
     let has_sets = specs.members().is_some();
     let room = SpecScratch::for_specs(alloc, specs.counted(), has_sets)?;
-    let sets = sets_of_heads(alloc, specs.as_slice())?;
     let exclude_set = exclude_scratch(alloc, excludes)?;
     Ok(Scratch::new(room, sets, exclude_set, specs.heads().new_scratch()))
 }
@@ -336,11 +342,14 @@ fn exclude_scratch(
 pub(super) fn boxed_scratch(
     alloc: Global,
     specs: &SpecsByHead,
+    sets: Vec<HeadSet>,
     excludes: &ExcludesByHead,
 ) -> Result<Box<Scratch>, AllocError>
-    requires { excludes.now ≡ subtree_excludes_of (specs_of specs.now) }
+    requires sets { AreHeadSetsOf (all_sources specs.now) sets.items }
+    requires unread { All IsUnread sets.items }
+    requires excludes { excludes.now ≡ subtree_excludes_of (specs_of specs.now) }
     ensures fits { IfOk result (λ scratch. Fits specs.now (box_value scratch)) }
     ensures fresh { IfOk result (λ scratch. IsFresh (box_value scratch).counts) }
 {
-    Ok(Box::new(alloc, scratch_for(alloc, specs, excludes)?)?)
+    Ok(Box::new(alloc, scratch_for(alloc, specs, sets, excludes)?)?)
 }

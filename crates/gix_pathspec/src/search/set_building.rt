@@ -5,11 +5,13 @@ ghost use Rattle.std.specs.Prelude.{◌≡◌, ◌<◌, ◌≤◌, ◌*◌, ◌&
 ghost use Rattle.pathspec_heads.specs.Groups.{IsGrouped};
 ghost use Rattle.pathspec_heads.specs.Heads.{IsChainOf};
 ghost use Rattle.gix_pathspec.specs.Bytes.{begins_with, is_empty};
+ghost use Rattle.gix_pathspec.specs.Effort.{ArePlacesOf};
 ghost use Rattle.gix_pathspec.specs.HeadSets.{AreHeadSetsOf, IsHeadSetOf, IsUnread};
 ghost use Rattle.gix_pathspec.specs.SetSources.{all_sources, ArePlain, ended_heads, has_set_behind, IsFirstOf, IsGroupOf, members_behind, numbers_behind, positions_from};
 
+use crate::search::counted::CountedHeads;
 use crate::search::head_set::HeadSet;
-use crate::search::set_sources::{HeadedMember, are_few, ended_heads, headed_members};
+use crate::search::set_sources::{HeadedMember, ended_heads, headed_members};
 use crate::search::spec::CompiledSpec;
 use pathspec_glob_set::{GlobSet, Member};
 use pathspec_heads::places::{CompareScratch, PlacesByHead};
@@ -21,17 +23,23 @@ const FEWEST: usize = 4;
 /// Of how many sources one stands at least in each set, but for the set of the empty head.
 const SHARE: u128 = 64;
 
-/// Makes the sets of all heads of some specs that have one.
+/// Makes the sets of all heads of some specs that have one. `heads` has the places of the specs by their heads.
 ///
 /// # Errors
 /// Memory runs out.
 pub(super) fn sets_of_heads(
     alloc: Global,
     specs: &[CompiledSpec],
+    heads: &CountedHeads,
 ) -> Result<Vec<HeadSet>, AllocError>
+    requires { ArePlacesOf specs.now heads.now }
     ensures own { IfOk result (λ sets. AreHeadSetsOf (all_sources specs.now) sets.items) }
     ensures unread { IfOk result (λ sets. All IsUnread sets.items) }
 {
+    // In most searches no head has so many specs, and then no globs are copied.
+    if heads.largest_group() < FEWEST {
+        return Ok(Vec::new(alloc));
+    }
     let sources = headed_members(alloc, specs)?;
     head_sets(alloc, &sources)
 }
@@ -183,9 +191,6 @@ fn set_of(
         return Ok(None);
     }
     let globs = globs_of(alloc, sources, head, &numbers)?;
-    if !are_few(&globs) {
-        return Ok(None);
-    }
     let Some(set) = GlobSet::new(alloc, &globs)? else {
         return Ok(None);
     };

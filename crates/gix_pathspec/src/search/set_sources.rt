@@ -1,8 +1,6 @@
 //! What the sets of heads are made of: the globs that begin right behind the head of their spec.
-ghost use Rattle.std.specs.Prelude.{◌≡◌, ◌↔◌, ◌≤◌, ◌<◌, ℕ, true, false, List, Some, None, length, map, IfOk, IsTrue};
+ghost use Rattle.std.specs.Prelude.{◌≡◌, ◌↔◌, Some, map, IfOk, IsTrue};
 ghost use Rattle.std.specs.Option.{option_map};
-ghost use Rattle.pathspec_glob_set.specs.Sets.{count_places};
-ghost use Rattle.pathspec_glob_set.specs.Sizes.{most_places};
 ghost use Rattle.gix_pathspec.specs.Prefixes.{head};
 ghost use Rattle.gix_pathspec.specs.Room.{source_with};
 ghost use Rattle.gix_pathspec.specs.SetSources.{all_sources, ended_heads, has_source, member_behind, set_source_of, source_places};
@@ -164,23 +162,4 @@ pub(super) fn ended_heads(
         texts.push(text)?;
     }
     Ok(texts)
-}
-
-/// The most places that the globs of a set have.
-const MOST_PLACES: usize = 131_072;
-
-/// Whether globs have few enough places for a set: one for each token, and one more for each glob.
-pub(super) fn are_few(globs: &[Member]) -> bool
-    ensures few { IsTrue result → count_places globs.now ≤ most_places }
-    ensures many { result ≡ false → most_places < count_places globs.now }
-{
-    let mut places = 0;
-    for glob in globs {
-        let size = glob.tokens.len();
-        if size >= MOST_PLACES - places {
-            return false;
-        }
-        places += size + 1;
-    }
-    true
 }

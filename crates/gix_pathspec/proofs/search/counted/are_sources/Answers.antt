@@ -3,7 +3,8 @@ use Rattle.std.proofs.Common.{◌≡◌, ◌<◌, ◌∙◌, refl, sym, ap, arit
 use Rattle.std.proofs.lemmas.Bool.{ltb-true, ltb-false}
 use Rattle.std.proofs.lemmas.Option.{slice_get_read, slice_get_within}
 use Rattle.std.specs.Prelude.{is_some}
-use Rattle.gix_pathspec.proofs.MemberStepProofs.{has-source, source-next, taken-past, taken-step}
+use Rattle.gix_pathspec.specs.Sources.{exclude_source_of}
+use Rattle.gix_pathspec.proofs.SourceSteps.{given-next, some-given, taken-past, taken-step}
 use Rattle.gix_pathspec.proofs.search.counted.are_sources.Goals as goal
 use Rattle.gix_pathspec.proofs.search.counted.are_sources.Goals.{then-is_member+in-Some, else-is_member}
 
@@ -13,7 +14,7 @@ returns-in_default c = (
   λ all.
       let low : c.loop-spec.rank < length c.args.sources.now = ltb-true _ _ (sym c.in-Some.ensures.lookup.0) in
       let there = slice_get_read c.args.sources.now (length c.args.sources.now) c.loop-spec.rank c.in-Some.source.now refl low c.in-Some.ensures.lookup.1 in
-      let next = source-next c.args.specs.now c.args.sources.now c.loop-spec.spec-index c.loop-spec.rank c.spec-item.result c.loop-spec-test.true c.spec-item.is c.loop-spec.invariant.rank c.loop-spec.invariant.so_far c.if-is_member.ensures all in
+      let next = given-next exclude_source_of c.args.specs.now c.args.sources.now c.loop-spec.spec-index c.loop-spec.rank c.spec-item.result c.loop-spec-test.true c.spec-item.is c.loop-spec.invariant.rank c.loop-spec.invariant.so_far c.if-is_member.ensures all in
       sym c.if-has_source.false ∙ c.has_source.ensures.1 (sym next ∙ there),
 )
 
@@ -21,8 +22,8 @@ pub returns-in_default-2 : goal.returns-in_default-2
 returns-in_default-2 c = (
   λ t. let no : false ≡ true = t in cc,
   λ all.
-      let next = source-next c.args.specs.now c.args.sources.now c.loop-spec.spec-index c.loop-spec.rank c.spec-item.result c.loop-spec-test.true c.spec-item.is c.loop-spec.invariant.rank c.loop-spec.invariant.so_far c.if-is_member.ensures all in
-      let own = has-source c.spec-item.result.spec c.if-is_member.ensures in
+      let next = given-next exclude_source_of c.args.specs.now c.args.sources.now c.loop-spec.spec-index c.loop-spec.rank c.spec-item.result c.loop-spec-test.true c.spec-item.is c.loop-spec.invariant.rank c.loop-spec.invariant.so_far c.if-is_member.ensures all in
+      let own = some-given exclude_source_of c.spec-item.result.spec c.if-is_member.ensures in
       let low : c.loop-spec.rank < length c.args.sources.now = slice_get_within c.args.sources.now c.loop-spec.rank own.0 (next ∙ own.1) in
       let high = ltb-false c.loop-spec.rank (length c.args.sources.now) (sym c.get.ensures.lookup.0 ∙ ap is_some c.in_default.is) in
       absurd (let no : ⊥ = omega (arith, low, high) in no),
@@ -34,10 +35,10 @@ loop-spec-preserved c = elim c.if-is_member.branch [
       let low : c.loop-spec.rank < length c.args.sources.now = ltb-true _ _ (sym w.in-Some.ensures.lookup.0) in
       record {
         rank = omega (arith, low, w.rank-is);
-        so_far = rw w.rank-is (taken-step c.args.specs.now c.args.sources.now c.loop-spec.spec-index c.loop-spec.rank c.spec-item.result w.in-Some.source.now c.loop-spec-test.true c.spec-item.is low w.in-Some.ensures.lookup.1 c.loop-spec.invariant.so_far (w.has_source.ensures.0 w.if-has_source.true));
+        so_far = rw w.rank-is (taken-step exclude_source_of c.args.specs.now c.args.sources.now c.loop-spec.spec-index c.loop-spec.rank c.spec-item.result w.in-Some.source.now c.loop-spec-test.true c.spec-item.is low w.in-Some.ensures.lookup.1 c.loop-spec.invariant.so_far (w.has_source.ensures.0 w.if-has_source.true));
       }
   | else-is_member w ↦ record {
     rank = omega (arith, w.rank-is, c.loop-spec.invariant.rank);
-    so_far = rw w.rank-is (taken-past c.args.specs.now c.args.sources.now c.loop-spec.spec-index c.loop-spec.rank c.spec-item.result c.loop-spec-test.true c.spec-item.is c.loop-spec.invariant.so_far w.if-is_member.ensures);
+    so_far = rw w.rank-is (taken-past exclude_source_of c.args.specs.now c.args.sources.now c.loop-spec.spec-index c.loop-spec.rank c.spec-item.result c.loop-spec-test.true c.spec-item.is c.loop-spec.invariant.so_far w.if-is_member.ensures);
   }
 ]

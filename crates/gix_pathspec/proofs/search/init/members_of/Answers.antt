@@ -24,30 +24,27 @@ some-made sources (s ∷ ss) n told own size is off = sets-some sources (s ∷ s
 
 pub returns-then-is_empty-clause-made : goal.returns-then-is_empty-clause-made
 returns-then-is_empty-clause-made c =
-    let sets = c.in_ok-sets.sets in
-    let size : sets.len ≡ length sets.items = omega arith in
-    sym (none-made (all_sources c.args.specs.now) sets.items sets.len c.is_empty.result c.in_ok-sets.ensures.own size c.is_empty.ensures c.if-is_empty.true)
+    let sets = c.args.sets.now in
+    sym (none-made (all_sources c.args.specs.now) sets (length sets) c.is_empty.result c.requires refl c.is_empty.ensures c.if-is_empty.true)
 
 pub returns-clause-made : goal.returns-clause-made
 returns-clause-made c =
-    let sets = c.in_ok-sets.sets in
-    let size : sets.len ≡ length sets.items = omega arith in
-    sym (some-made (all_sources c.args.specs.now) sets.items sets.len c.is_empty.result c.in_ok-sets.ensures.own size c.is_empty.ensures c.if-is_empty.false)
+    let sets = c.args.sets.now in
+    sym (some-made (all_sources c.args.specs.now) sets (length sets) c.is_empty.result c.requires refl c.is_empty.ensures c.if-is_empty.false)
 
 pub returns-clause-members : goal.returns-clause-members
 returns-clause-members c =
     let specs = c.args.specs.now in
     let sources = all_sources specs in
-    let sets = c.in_ok-sets.sets in
-    let size : sets.len ≡ length sets.items = omega arith in
+    let sets = c.args.sets.now in
     let others = box_value c.in_ok-others.others in
-    let owned = c.in_ok-owned.ensures sources (subst (AreHeadSetsOf sources) (sym c.deref.ensures.value) c.in_ok-sets.ensures.own) in
-    let texts : map (λ text. text.now) c.deref-3.result.now ≡ map (λ (n : Numbered). head_beside true sources n.spec) specs =
-    ap (λ hs. map (λ head. head.now) hs) c.deref-3.ensures.value ∙ (rw c.deref-2.ensures.value at c.in_ok-slices.ensures) ∙ owned in
+    let owned = c.in_ok-owned.ensures sources c.requires in
+    let texts : map (λ text. text.now) c.deref-2.result.now ≡ map (λ (n : Numbered). head_beside true sources n.spec) specs =
+    ap (λ hs. map (λ head. head.now) hs) c.deref-2.ensures.value ∙ (rw c.deref.ensures.value at c.in_ok-slices.ensures) ∙ owned in
     let grouped : IsGrouped (map (λ (n : Numbered). head_beside true sources n.spec) specs) others.heads others.starts others.order = subst (λ hs. IsGrouped hs others.heads others.starts others.order) texts c.in_ok-others.ensures in
     let same : box_value c.new-members.result.others ≡ others = ap box_value c.new-members.ensures.others in
     subst (AreMembersOf specs) (sym c.in_ok-new.ensures.ok) (record {
-      enough = some-made sources sets.items sets.len c.is_empty.result c.in_ok-sets.ensures.own size c.is_empty.ensures c.if-is_empty.false;
+      enough = some-made sources sets (length sets) c.is_empty.result c.requires refl c.is_empty.ensures c.if-is_empty.false;
       places = ap (λ v. v.items) c.new-members.ensures.places ∙ c.in_ok-source_places.ensures;
       beside = subst (ArePlacesBeside true specs) (sym same) grouped;
     })

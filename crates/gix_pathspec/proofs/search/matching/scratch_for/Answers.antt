@@ -18,14 +18,13 @@ for_specs-requires c = c.is_some-has_sets.ensures ∙ c.members.ensures.made ∙
 pub new-requires-clause-sets : goal.new-requires-clause-sets
 new-requires-clause-sets c =
     let specs = c.args.specs.now in
-    let own : AreHeadSetsOf (all_sources specs) c.in_ok-sets.sets.items = subst (λ (ns : List Numbered). AreHeadSetsOf (all_sources ns) c.in_ok-sets.sets.items) c.as_slice.ensures c.in_ok-sets.ensures.own in
     let is : c.in_ok-room.room.room.members ≡ head_set_sources specs = c.in_ok-room.ensures.room.members ∙ ap head_set_sources c.counted.ensures in
-    subst (λ (sources : List SetSource). AreHeadSetsOf sources c.in_ok-sets.sets.items) (sym is) (own-room specs c.in_ok-sets.sets.items own)
+    subst (λ (sources : List SetSource). AreHeadSetsOf sources c.args.sets.items) (sym is) (own-room specs c.args.sets.items c.requires.sets)
 
 pub new-requires-clause-exclude_set : goal.new-requires-clause-exclude_set
 new-requires-clause-exclude_set c =
     let own : c.in_ok-room.room.room.excludes ≡ made_sources c.args.specs.now = c.in_ok-room.ensures.room.excludes ∙ ap made_sources c.counted.ensures in
-    let is : c.in_ok-room.room.room.excludes ≡ exclude_set_sources c.args.excludes.now = own ∙ sym (excludes-made c.args.specs.now) ∙ ap exclude_set_sources (sym c.requires) in
+    let is : c.in_ok-room.room.room.excludes ≡ exclude_set_sources c.args.excludes.now = own ∙ sym (excludes-made c.args.specs.now) ∙ ap exclude_set_sources (sym c.requires.excludes) in
     record {
       own = subst (λ (sources : List MemberSource). ForSome c.in_ok-exclude_set.exclude_set (IsScratchOf sources)) (sym is) c.in_ok-exclude_set.ensures.own;
       made = λ made. c.in_ok-exclude_set.ensures.made (subst (λ (sources : List MemberSource). IsSetMade sources) is made);
@@ -33,4 +32,4 @@ new-requires-clause-exclude_set c =
     }
 
 pub new-requires-clause-sets_unread : goal.new-requires-clause-sets_unread
-new-requires-clause-sets_unread c = c.in_ok-sets.ensures.unread
+new-requires-clause-sets_unread c = c.requires.unread

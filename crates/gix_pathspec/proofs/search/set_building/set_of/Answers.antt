@@ -1,6 +1,6 @@
 -- The set has the globs of the sources with the head.
 use Rattle.std.proofs.Common.{◌≡◌, ◌≤◌, ◌∙◌, sym, ap, subst, arith, length}
-use Rattle.std.specs.Prelude.{IfSome}
+use Rattle.std.specs.Prelude.{is_some, IfSome}
 use Rattle.pathspec_glob_set.specs.Answers.{IsSetOf}
 use Rattle.pathspec_glob_set.specs.Sets.{count_places, AreMovesOf}
 use Rattle.pathspec_glob_set.specs.Sizes.{most_places}
@@ -18,8 +18,8 @@ returns-then-not-are_many-clause-none c none =
 pub new-requires-2 : goal.new-requires-2
 new-requires-2 c =
     let globs = members_behind c.args.head.now c.args.sources.now in
-    let same = c.deref-3.ensures.value ∙ c.in_ok-globs.ensures in
-    let of = subst (λ gs. IsSetOf gs c.in-Some.set) same (subst (λ o. IfSome o (IsSetOf c.deref-3.result.now)) c.in-Some.is c.in_ok-set.ensures.set) in
+    let same = c.deref-2.ensures.value ∙ c.in_ok-globs.ensures in
+    let of = subst (λ gs. IsSetOf gs c.in-Some.set) same (subst (λ o. IfSome o (IsSetOf c.deref-2.result.now)) c.in-Some.is c.in_ok-set.ensures.set) in
     let own = alike-moves globs c.in_ok-scratch.scratch.table.moves c.in-Some.set.moves c.in_ok-scratch.ensures.alike of in
     own.ends.len ∙ globs-count c.args.head.now c.args.sources.now ∙ ap length (sym c.requires)
 
@@ -30,10 +30,10 @@ returns-clause-made c =
     let globs = members_behind h sources in
     let count : c.len.result ≡ length c.args.numbers.items = omega arith in
     let told = set-few h sources c.args.numbers.items c.len.result c.are_many.result c.requires count c.are_many.ensures in
-    let same = c.deref-3.ensures.value ∙ c.in_ok-globs.ensures in
-    let of = subst (λ gs. IsSetOf gs c.in-Some.set) same (subst (λ o. IfSome o (IsSetOf c.deref-3.result.now)) c.in-Some.is c.in_ok-set.ensures.set) in
+    let same = c.deref-2.ensures.value ∙ c.in_ok-globs.ensures in
+    let of = subst (λ gs. IsSetOf gs c.in-Some.set) same (subst (λ o. IfSome o (IsSetOf c.deref-2.result.now)) c.in-Some.is c.in_ok-set.ensures.set) in
     let own = alike-moves globs c.in_ok-scratch.scratch.table.moves c.in-Some.set.moves c.in_ok-scratch.ensures.alike of in
-    let few = subst (λ gs. count_places gs ≤ most_places) (c.deref-2.ensures.value ∙ c.in_ok-globs.ensures) (c.are_few.ensures.few c.if-not-are_few.false) in
+    let few = subst (λ gs. count_places gs ≤ most_places) same (c.in_ok-set.ensures.few (ap is_some c.in-Some.is)) in
     let head = ap (λ v. v.items) c.new-2.ensures.head ∙ c.in_ok-head.ensures.items in
     let numbers = ap (λ v. v.items) c.new-2.ensures.numbers ∙ c.requires in
     (set-made h sources c.new-2.result head numbers (sym told ∙ c.if-not-are_many.false) few (subst (λ s. AreMovesOf globs s.table.moves) (sym c.new-2.ensures.set) own), head)

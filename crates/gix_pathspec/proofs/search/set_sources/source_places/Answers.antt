@@ -1,6 +1,6 @@
 -- A spec with a source gives its place, and another spec gives none.
 use Rattle.std.proofs.Common.{◌∙◌, refl, true, false, append-nil}
-use Rattle.gix_pathspec.proofs.SetSourceSteps.{places-step}
+use Rattle.gix_pathspec.proofs.SourceSteps.{places-step}
 use Rattle.gix_pathspec.proofs.search.set_sources.source_places.Goals as goal
 use Rattle.gix_pathspec.proofs.search.set_sources.source_places.Goals.{then-has_headed_member+in_ok-push, else-has_headed_member}
 
