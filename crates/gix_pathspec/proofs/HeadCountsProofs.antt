@@ -1,5 +1,5 @@
 -- What the sets of heads count together is what each counts.
-use Rattle.std.proofs.Common.{◌≡◌, ℕ, suc, ◌+◌, ◌%◌, ◌^◌, ◌<◌, ◌≤◌, inl, inr, refl, sym, ◌∙◌, ap, subst, arith, All, List, [], ◌∷◌, length, take, get_or}
+use Rattle.std.proofs.Common.{◌≡◌, ℕ, zero, suc, ◌+◌, ◌%◌, ◌^◌, ◌<◌, ◌≤◌, inl, inr, refl, sym, ◌∙◌, ap, subst, arith, All, List, [], ◌∷◌, length, take, get_or}
 use Rattle.std.specs.List.{sum_by}
 use Rattle.std.proofs.Math.ListN.{set}
 use Rattle.std.proofs.Math.Nat.{mod-add-mod, mod-le, mod-mod}
@@ -38,7 +38,7 @@ counts-all n b k d p q = zero_in (2 ^ 128) n b k d p q
 -- sets that read nothing counted nothing
 pub unread-total : (sets : List HeadSet) → All IsUnread sets → sum_by total_of sets ≡ 0
 unread-total [] all = refl
-unread-total (s ∷ sets) all = omega (arith, sum_by-cons total_of s sets, All-head IsUnread s sets all, unread-total sets (All-tail IsUnread s sets all))
+unread-total (s ∷ sets) all = omega (arith, sum_by-cons total_of s sets, (All-head IsUnread s sets all).uncounted, unread-total sets (All-tail IsUnread s sets all))
 
 -- all of them together counted what each did for the last path
 pub sums-grow : (sets : List HeadSet) → Counts (sum_by (λ (s : HeadSet). s.begun) sets) (sum_by effort_of sets) (sum_by total_of sets)
@@ -113,6 +113,12 @@ module _ (given sets : List HeadSet) (at : ℕ) (old new : HeadSet) (low : at < 
   pub rest-step : ((k : ℕ) (d : HeadSet) → at ≤ k → get_or sets k d ≡ get_or given k d) → (k : ℕ) (d : HeadSet) → at + 1 ≤ k → get_or (set sets at new) k d ≡ get_or given k d
   rest-step rest k d l = get_or-set_other sets at k new d (λ e. let no : ⊥ = omega (arith, e, l) in no) ∙ rest k d (omega (arith, l))
 
+-- a set whose total stays is put in the place of another
+pub total-kept : (sets : List HeadSet) (i : ℕ) (old new : HeadSet) → old ≡ get_or sets i old → total_of new ≡ total_of old → sum_by total_of (set sets i new) ≡ sum_by total_of sets
+total-kept [] i old new is same = refl
+total-kept (s ∷ sets) zero old new is same = omega (arith, sum_by-cons total_of new sets, sum_by-cons total_of s sets, same, ap total_of is)
+total-kept (s ∷ sets) (suc i) old new is same = omega (arith, sum_by-cons total_of s (set sets i new), sum_by-cons total_of s sets, total-kept sets i old new is same)
+
 after : (m t b e u stepped effort now : ℕ) → stepped % m ≡ (0 + t) % m → b % m ≡ (0 + t) % m → u % m ≡ (b + e) % m → effort % m ≡ (0 + e) % m → now % m ≡ (stepped + effort) % m → now % m ≡ (0 + u) % m
 after m t b e u stepped effort now p q grown r s =
     s ∙ zero_in m t stepped e effort p r ∙ sym (ap (λ x. x % m) (none u) ∙ grown ∙ (sym (mod-add-mod b m e) ∙ ap (λ x. (x + e) % m) q ∙ mod-add-mod (0 + t) m e) ∙ ap (λ x. x % m) (more t e))
@@ -123,9 +129,23 @@ after m t b e u stepped effort now p q grown r s =
     more : (x y : ℕ) → 0 + x + y ≡ 0 + (x + y)
     more x y = omega arith
 
--- The total goes on with what the last path took: from the total before the sets were asked to that of the sets after the last question.
-pub total-after : (old asked last : List HeadSet) (stepped effort now : ℕ) → Counts 0 (sum_by total_of old) stepped → Counts 0 (sum_by total_of old) (sum_by (λ (s : HeadSet). s.begun) asked)
-    → begins_of last ≡ begins_of asked → Counts 0 (sum_by effort_of last) effort → Counts stepped effort now → Counts 0 (sum_by total_of last) now
-total-after old asked last stepped effort now was begins same took goes =
-    after (2 ^ 128) (sum_by total_of old) (sum_by (λ (s : HeadSet). s.begun) last) (sum_by effort_of last) (sum_by total_of last) stepped effort now was
-    (ap (λ k. k % 2 ^ 128) (same-begin asked last same) ∙ begins) (sums-grow last) took goes
+grew : (m t b e u : ℕ) → b % m ≡ (0 + t) % m → u % m ≡ (b + e) % m → u % m ≡ (t + e) % m
+grew m t b e u p q = q ∙ sym (mod-add-mod b m e) ∙ ap (λ x. (x + e) % m) p ∙ mod-add-mod (0 + t) m e ∙ ap (λ x. x % m) (none t e)
+  where
+    none : (x y : ℕ) → 0 + x + y ≡ x + y
+    none x y = omega arith
+
+-- The total goes on with what the last path took, and with the comparisons of heads: from the total before the sets were asked to that of the sets after the last question.
+pub total-after : (old asked last : List HeadSet) (compared more compares stepped effort now : ℕ) → Counts 0 (sum_by total_of old + compared) stepped
+    → Counts 0 (sum_by total_of old) (sum_by (λ (s : HeadSet). s.begun) asked) → begins_of last ≡ begins_of asked → Counts compared more compares → Counts 0 (sum_by effort_of last) effort
+    → Counts stepped ((effort + more) % 2 ^ 128) now → Counts 0 (sum_by total_of last + compares) now
+total-after old asked last compared more compares stepped effort now was begins same counts took goes =
+    let grown = grew (2 ^ 128) (sum_by total_of old) (sum_by (λ (s : HeadSet). s.begun) last) (sum_by effort_of last) (sum_by total_of last)
+    (ap (λ k. k % 2 ^ 128) (same-begin asked last same) ∙ begins) (sums-grow last) in
+    let both = counts-both (sum_by total_of old) (sum_by effort_of last) (sum_by total_of last) compared more compares grown counts in
+    let took_both : Counts 0 (sum_by effort_of last + more) ((effort + more) % 2 ^ 128) = mod-mod (effort + more) (2 ^ 128) ∙ counts-all (sum_by effort_of last) effort more more took (ap (λ k. k % 2 ^ 128) (plus_none more)) in
+    after (2 ^ 128) (sum_by total_of old + compared) (sum_by total_of old + compared) (sum_by effort_of last + more) (sum_by total_of last + compares) stepped ((effort + more) % 2 ^ 128) now was
+    (ap (λ k. k % 2 ^ 128) (plus_none (sum_by total_of old + compared))) both took_both goes
+  where
+    plus_none : (x : ℕ) → x ≡ 0 + x
+    plus_none x = omega arith

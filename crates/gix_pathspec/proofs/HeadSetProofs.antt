@@ -25,7 +25,7 @@ use Rattle.gix_pathspec.specs.Specs.{Spec}
 use Rattle.gix_pathspec.specs.Sets.{IsNext, IsNextAt, NoneBefore}
 use Rattle.gix_pathspec.specs.SetSources.{all_sources, behind, has_set_behind, has_source, is_behind, is_of_head, member_behind, members_behind, numbers_behind, places_behind, set_source_of, source_places, sources_behind, SetSource}
 use Rattle.gix_pathspec.specs.declared.search.head_set.HeadSet.{HeadSet}
-use Rattle.gix_pathspec.specs.HeadSets.{IsGlobHit, IsHeadSetOf, IsLittleStepped, IsNextOf, IsReadBehind, NoneAhead, StaysAsked, StaysSame}
+use Rattle.gix_pathspec.specs.HeadSets.{IsAtRest, IsGlobHit, IsHeadSetOf, IsLittleStepped, IsNextOf, IsReadBehind, NoneAhead, StaysAsked, StaysSame}
 use Rattle.gix_pathspec.proofs.EffortProofs.{unmatched-headless}
 use Rattle.gix_pathspec.proofs.HeadSearchProofs.{got-within}
 use Rattle.gix_pathspec.proofs.PositionProofs.{mapped-at, mapped-count, position-at, position-number, positions-count, positions-rise}
@@ -360,7 +360,7 @@ keeps-read path a b stays read = record {
 }
 
 pub stays-trans : (a b c : HeadSet) → StaysAsked a b → StaysAsked b c → StaysAsked a c
-stays-trans a b c p q = record { head = q.head ∙ p.head; numbers = q.numbers ∙ p.numbers; begun = q.begun ∙ p.begun; steps = q.steps ∙ p.steps; asked = q.asked ∙ p.asked; kept = keeps-trans a.set b.set c.set p.kept q.kept }
+stays-trans a b c p q = record { head = q.head ∙ p.head; numbers = q.numbers ∙ p.numbers; begun = q.begun ∙ p.begun; steps = q.steps ∙ p.steps; kept = keeps-trans a.set b.set c.set p.kept q.kept }
 
 pub little-stays : (path : List ℕ) (a b : HeadSet) → StaysAsked a b → IsLittleStepped path a → IsLittleStepped path b
 little-stays path a b stays few =
@@ -440,14 +440,11 @@ found-place specs path from set result next is behind =
         subst (IsGlobHit specs path) (get_or_from_slice_get (places_behind set.head.items specs) set.next place 0 (sym e))
         (next.hit (omega (arith, got-within (places_behind set.head.items specs) set.next place (sym e), own-length specs set next.are)))
 
--- where the head doesn't begin the path, the set tells of it without a question
-pub headless-known : (specs : List Numbered) (path : List ℕ) (old new : HeadSet) → StaysSame old new → begins_with path old.head.items ≡ false → length new.numbers.items ≤ new.next → new.next ≤ length new.numbers.items
-    → IsHeadSetOf (all_sources specs) old → IsNextOf specs path 0 new
-headless-known specs path old new same off past within own =
-    let are = same-own (all_sources specs) old new same own in
-    record {
-      are = are;
-      read = λ l. absurd (let no : ⊥ = omega (arith, l, past) in no);
-      ahead = headless-ahead new.head.items specs path (ap (begins_with path) same.head ∙ off) 0 new.next (omega (arith, within, own-length specs new are));
-      hit = λ l. absurd (let no : ⊥ = omega (arith, l, past) in no);
-    }
+-- where the head doesn't begin the path, a set that rests tells of it without a question
+pub headless-known : (specs : List Numbered) (path : List ℕ) (set : HeadSet) → IsAtRest set → begins_with path set.head.items ≡ false → IsHeadSetOf (all_sources specs) set → (from : ℕ) → IsNextOf specs path from set
+headless-known specs path set at_rest off own from = record {
+  are = own;
+  read = λ l. absurd (let no : ⊥ = omega (arith, l, at_rest.none) in no);
+  ahead = headless-ahead set.head.items specs path off from set.next (omega (arith, at_rest.none, own-length specs set own));
+  hit = λ l. absurd (let no : ⊥ = omega (arith, l, at_rest.none) in no);
+}

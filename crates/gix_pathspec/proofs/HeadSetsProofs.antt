@@ -54,7 +54,7 @@ hit-of-both P (Some a) (Some b) l m = elim (cases_lt a b) [
 
 -- ---- one head more
 
-of-more : (hs : List (List ℕ)) (h : List ℕ) (s : Spec) → is_of_heads (hs ++ h ∷ []) s ≡ true → (is_of_heads hs s ≡ true) ⊎ (is_of_head h s ≡ true)
+pub of-more : (hs : List (List ℕ)) (h : List ℕ) (s : Spec) → is_of_heads (hs ++ h ∷ []) s ≡ true → (is_of_heads hs s ≡ true) ⊎ (is_of_head h s ≡ true)
 of-more [] h s e = elim (or_cases (is_of_head h s) false e) [ inl m ↦ inr m | inr m ↦ inl m ]
 of-more (g ∷ hs) h s e = elim (or_cases (is_of_head g s) (is_of_heads (hs ++ h ∷ []) s) e) [
   | inl m ↦ inl (or-true-left (is_of_head g s) (is_of_heads hs s) m)

@@ -2,7 +2,7 @@
 use Rattle.std.proofs.Common.{◌≡◌, ℕ, zero, suc, ◌+◌, ◌*◌, ◌<◌, ◌≤◌, Bool, true, false, cond, inl, inr, refl, sym, ◌∙◌, ap, subst, arith, All, List, [], ◌∷◌, ◌++◌, append-nil, drop, length, map, take, get_or, ltb, Option, Some, None, slice_get}
 use Rattle.std.specs.List.{before_first, cons_option, list_any, sum_by}
 use Rattle.std.proofs.Math.Nat.{mul-le-mul_left}
-use Rattle.std.proofs.lemmas.Bool.{and_parts, both_ways, cases_Bool, ltb-false, not-true, or_left, or_right}
+use Rattle.std.proofs.lemmas.Bool.{and_parts, both_ways, cases_Bool, cases_lt, ltb-false, not-true, or_left, or_right}
 use Rattle.std.proofs.Math.ListN.{drop_of_length-le}
 use Rattle.std.proofs.lemmas.List.{length-map, take_all}
 use Rattle.std.proofs.lemmas.Option.{get_or_from_slice_get, slice_get_within}
@@ -39,21 +39,14 @@ kept-own sources old new heads each own = record {
 }
 
 pub kept-self : (sets : List HeadSet) → KeepsSets sets sets
-kept-self sets = record { own = λ sources own. own; few = λ path few. few; begun = refl }
+kept-self sets = record { own = λ sources own. own; few = λ path few. few; heads = refl; begun = refl }
 
 pub kept-trans : (a b c : List HeadSet) → KeepsSets a b → KeepsSets b c → KeepsSets a c
-kept-trans a b c p q = record { own = λ sources own. q.own sources (p.own sources own); few = λ path few. q.few path (p.few path few); begun = q.begun ∙ p.begun }
+kept-trans a b c p q = record { own = λ sources own. q.own sources (p.own sources own); few = λ path few. q.few path (p.few path few); heads = q.heads ∙ p.heads; begun = q.begun ∙ p.begun }
 
 -- a slice of all of a vector is the vector once it has been written
 pub written : (len : ℕ) (new old : List HeadSet) → len ≡ length old → length new ≡ length old → take len (new ++ drop (length new) old) ≡ new
 written len new old all same = rw (drop_of_length-le old {i = length new} (omega arith), append-nil new) (take_all len new (omega arith))
-
--- and so it is once it has been written again
-pub written-twice : (len : ℕ) (first second old : List HeadSet) → len ≡ length old → length first ≡ length old → length second ≡ length (take len (first ++ drop (length first) old))
-    → take len (second ++ drop (length second) (take len (first ++ drop (length first) old))) ≡ second
-written-twice len first second old all one two =
-    let size = ap (λ (ss : List HeadSet). length ss) (written len first old all one) in
-    written len second (take len (first ++ drop (length first) old)) (omega (arith, all, one, size)) two
 
 -- ---- the sets of a room are those of the specs
 
@@ -152,7 +145,7 @@ module _ (sources : List SetSource) (path : List ℕ) where
   members_at h = sum_by (λ x. 1) (sources_behind h sources)
 
   efforts : (sets : List HeadSet) → All (IsHeadSetOf sources) sets
-      → (sum_by (most_effort path) sets ≤ length path * (sum_by places_at (set_heads sets) + 2 * length sets) + sum_by members_at (set_heads sets) + length sets) × (4 * length sets ≤ sum_by members_at (set_heads sets))
+      → (sum_by (most_effort path) sets ≤ length path * (sum_by places_at (set_heads sets) + 2 * length sets) + sum_by members_at (set_heads sets)) × (4 * length sets ≤ sum_by members_at (set_heads sets))
   efforts [] each = (omega arith, omega arith)
   efforts (s ∷ sets) each =
       let own = All-head (IsHeadSetOf sources) s sets each in
@@ -160,21 +153,22 @@ module _ (sources : List SetSource) (path : List ℕ) where
       let more = efforts sets (All-tail (IsHeadSetOf sources) s sets each) in
       let wide : length s.set.table.moves.wide ≡ places_at h = own.own.places ∙ places-sum (sources_behind h sources) in
       let count : length s.numbers.items ≡ members_at h = ap (λ (ns : List ℕ). length ns) own.numbers ∙ sym (globs-count h sources) ∙ length-map (sources_behind h sources) member_behind ∙ length-sum (sources_behind h sources) in
-      let four = ltb-false (length (sources_behind h sources)) 4 (not-true (ltb (length (sources_behind h sources)) 4) (and_parts _ _ (and_parts _ _ own.enough).0).0) in
-      let effort : most_effort path s ≡ length path * (places_at h + 2) + members_at h + 1 = ap (λ k. length path * (k + 2) + length s.numbers.items + 1) wide ∙ ap (λ k. length path * (places_at h + 2) + k + 1) count in
+      let four = ltb-false (length (sources_behind h sources)) 4 (not-true (ltb (length (sources_behind h sources)) 4) (and_parts _ _ own.enough).0) in
+      let effort : most_effort path s ≡ length path * (places_at h + 2) + members_at h = ap (λ k. length path * (k + 2) + length s.numbers.items) wide ∙ ap (λ k. length path * (places_at h + 2) + k) count in
       let low = sum-more (length path) (places_at h) (sum_by places_at (set_heads sets)) (length sets) (members_at h) (sum_by members_at (set_heads sets)) (most_effort path s) (sum_by (most_effort path) sets) effort more.0 in
       let members = sum_by-cons members_at h (set_heads sets) in (
-        subst (λ k. sum_by (most_effort path) (s ∷ sets) ≤ length path * (k + 2 * suc (length sets)) + sum_by members_at (h ∷ set_heads sets) + suc (length sets)) (sym (sum_by-cons places_at h (set_heads sets)))
+        subst (λ k. sum_by (most_effort path) (s ∷ sets) ≤ length path * (k + 2 * suc (length sets)) + sum_by members_at (h ∷ set_heads sets)) (sym (sum_by-cons places_at h (set_heads sets)))
             (omega (arith, sum_by-cons (most_effort path) s sets, members, low)),
         omega (arith, more.1, four, length-sum (sources_behind h sources), members),
       )
     where
-      sum-more : (l p ps k m ms e es : ℕ) → e ≡ l * (p + 2) + m + 1 → es ≤ l * (ps + 2 * k) + ms + k → e + es ≤ l * (p + ps + 2 * suc k) + (m + ms) + suc k
+      sum-more : (l p ps k m ms e es : ℕ) → e ≡ l * (p + 2) + m → es ≤ l * (ps + 2 * k) + ms → e + es ≤ l * (p + ps + 2 * suc k) + (m + ms)
       sum-more l p ps k m ms e es is low = omega (arith, is, low)
 
--- sets take few steps and looks
-pub few-efforts : (specs : List Numbered) (path : List ℕ) (sets : List HeadSet) → AreHeadSetsOf (head_set_sources specs) sets → sum_by (most_effort path) sets ≤ most_steps specs path
-few-efforts specs path sets own =
+-- sets take few steps and looks, with few comparisons of their heads
+pub few-efforts : (specs : List Numbered) (path : List ℕ) (sets : List HeadSet) (effort compared : ℕ) → AreHeadSetsOf (head_set_sources specs) sets → effort ≤ sum_by (most_effort path) sets
+    → compared ≤ length sets + 2 → (length sets ≡ 0 → compared ≡ 0) → effort + compared ≤ most_steps specs path
+few-efforts specs path sets effort compared own few seldom none =
     let sources = head_set_sources specs in
     let hs = set_heads sets in
     let r = efforts sources path sets own.each in
@@ -182,8 +176,9 @@ few-efforts specs path sets own =
     let members = heads-sum (λ (x : SetSource). 1) sources hs own.apart in
     let all : places_behind_heads sources ≡ sum_by (λ (x : SetSource). size_of (member_behind x) + 1) sources = places-sum sources in
     let count = length-sum sources in
+    let little : compared ≤ 4 * length sets = elim (cases_lt 0 (length sets)) [ inl some ↦ omega (arith, some, seldom) | inr g ↦ omega (arith, none (omega (arith, g))) ] in
     let low : sum_by (places_at sources path) hs + 2 * length sets ≤ places_behind_heads sources + length sources = omega (arith, places, members, all, count, r.1) in
-    omega (arith, r.0, mul-le-mul_left (length path) low, members, count, r.1)
+    omega (arith, r.0, mul-le-mul_left (length path) low, members, count, r.1, few, little)
 
 -- ---- heads
 

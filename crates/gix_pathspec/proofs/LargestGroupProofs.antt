@@ -1,28 +1,26 @@
 -- Where no head is that of four specs, no head has a set.
-use Rattle.std.proofs.Common.{◌≡◌, ℕ, zero, suc, ◌+◌, ◌<◌, ◌≤◌, Bool, true, false, not, ◌&&◌, cond, inl, inr, refl, sym, ◌∙◌, ap, subst, arith, List, [], ◌∷◌, length, filter, get_or, ltb, Some, None, slice_get}
-use Rattle.std.specs.Prelude.{Option, filter_map, bytes_eq}
+use Rattle.std.proofs.Common.{◌≡◌, ℕ, zero, suc, ◌+◌, ◌<◌, ◌≤◌, Bool, true, false, cond, inl, inr, refl, sym, ◌∙◌, ap, subst, arith, List, [], ◌∷◌, length, filter, get_or, ltb, Some, None}
+use Rattle.std.specs.Prelude.{Option, bytes_eq}
 use Rattle.std.specs.List.{cons_option}
-use Rattle.std.proofs.lemmas.Bool.{and_parts, both_ways, cases_Bool, cases_lt, ltb-false, not-true}
-use Rattle.std.proofs.lemmas.List.{length-map}
+use Rattle.std.proofs.lemmas.Bool.{and_parts, both_ways, cases_lt, ltb-false, not-true}
+use Rattle.std.proofs.lemmas.List.{get_or-map, length-map}
 use Rattle.std.proofs.lemmas.List.Elements.{All-nil}
 use Rattle.std.proofs.lemmas.Map.Text.{is_eq-slice_cmp}
 use Rattle.std.proofs.lemmas.Slice.Eq.{bytes_eq-Decides}
 use Rattle.std.specs.Cmp.Lexicographic.{slice_cmp}
-use Rattle.std.specs.Option.{option_map}
 use Rattle.std.specs.Ordering.{is_eq, nat_cmp}
 use Rattle.std.specs.declared.cmp.Ordering.TheVariants.{Less}
 use Rattle.std.proofs.lemmas.Option.{get_or_from_slice_get}
 use Rattle.pathspec_heads.specs.Heads.{head_at, IsRising}
-use Rattle.pathspec_heads.specs.Groups.{end_of, group_size, start_of, IsGrouped, IsInGroup, IsLargestGroup, IsOrder, GroupedPlaces}
+use Rattle.pathspec_heads.specs.Groups.{group_size, start_of, IsInGroup, IsLargestGroup, IsOrder, GroupedPlaces}
 use Rattle.gix_pathspec.specs.Effort.{heads_in_order, ArePlacesOf}
 use Rattle.gix_pathspec.specs.HeadSets.{AreHeadSetsOf, IsHeadSetOf}
-use Rattle.gix_pathspec.specs.Prefixes.{head, stem}
+use Rattle.gix_pathspec.specs.Prefixes.{head}
 use Rattle.gix_pathspec.specs.Search.{Numbered}
-use Rattle.gix_pathspec.specs.Sources.{glob_of, source_with}
-use Rattle.gix_pathspec.specs.Specs.{Spec}
 use Rattle.gix_pathspec.specs.SetSources.{all_sources, has_set_behind, is_behind, positions_from, set_source_of, sources_behind, SetSource}
 use Rattle.gix_pathspec.proofs.HeadSearchProofs.{got-within}
 use Rattle.gix_pathspec.proofs.PositionProofs.{position-at, positions-count, positions-rise}
+use Rattle.gix_pathspec.proofs.SetSourceProofs.{set-source-parts}
 
 -- ---- a group of places
 
@@ -78,16 +76,8 @@ has_head h n = bytes_eq (head n.spec) h
 -- at least as many as its sources
 sources-few : (h : List ℕ) (specs : List Numbered) → length (sources_behind h (all_sources specs)) ≤ length (filter (has_head h) specs)
 sources-few h [] = omega arith
-sources-few h (n ∷ specs) = at (set_source_of n.spec) (head-of n.spec) (has_head h n) refl (sources-few h specs)
+sources-few h (n ∷ specs) = at (set_source_of n.spec) (λ source e. (set-source-parts n.spec source e).is_head) (has_head h n) refl (sources-few h specs)
   where
-    head-of : (s : Spec) → (source : SetSource) → set_source_of s ≡ Some source → source.head ≡ head s
-    head-of s source is = own (bytes_eq (stem s) (head s)) (glob_of s) is
-      where
-        own : (b : Bool) (g : Option _) → cond b (option_map (λ glob. record { head = head s; member = source_with s glob }) g) None ≡ Some source → source.head ≡ head s
-        own true (Some glob) e = let same : record { head = head s; member = source_with s glob } ≡ source = cc in sym (ap (λ (x : SetSource). x.head) same)
-        own true None e = cc
-        own false g e = cc
-
     at : (o : Option SetSource) → ((source : SetSource) → o ≡ Some source → source.head ≡ head n.spec) → (b : Bool) → has_head h n ≡ b
         → length (sources_behind h (all_sources specs)) ≤ length (filter (has_head h) specs)
         → length (sources_behind h (cons_option o (all_sources specs))) ≤ length (cond b (n ∷ filter (has_head h) specs) (filter (has_head h) specs))
@@ -108,14 +98,10 @@ module _ (specs : List Numbered) (places : GroupedPlaces) (are : ArePlacesOf spe
       → (k : ℕ) × (k < length places.heads) × (head_at places.heads k ≡ h) × IsInGroup places.starts places.order k (get_or (positions_from (has_head h) 0 specs) j 0)
   group-of h j l =
       let r = position-at (has_head h) 0 specs j l in
-      let own = heads-at specs r.at r.element r.there in
-      let f = are.listed r.at (omega (arith, got-within specs r.at r.element r.there, length-map specs (λ (n : Numbered). head n.spec))) in
+      let within = got-within specs r.at r.element r.there in
+      let own : head_at (heads_in_order specs) r.at ≡ head r.element.spec = get_or-map (λ (n : Numbered). head n.spec) specs r.at r.element [] within ∙ ap (λ (n : Numbered). head n.spec) (get_or_from_slice_get specs r.at r.element r.element r.there) in
+      let f = are.listed r.at (omega (arith, within, length-map specs (λ (n : Numbered). head n.spec))) in
       (f.0, f.1, f.2 ∙ own ∙ (bytes_eq-Decides (head r.element.spec) h).0 r.passes, subst (IsInGroup places.starts places.order f.0) (omega (arith, r.place)) f.3)
-    where
-      heads-at : (ns : List Numbered) (p : ℕ) (n : Numbered) → slice_get ns p ≡ Some n → head_at (heads_in_order ns) p ≡ head n.spec
-      heads-at [] p n e = cc
-      heads-at (m ∷ ns) zero n e = let same : m ≡ n = cc in ap (λ (x : Numbered). head x.spec) same
-      heads-at (m ∷ ns) (suc p) n e = heads-at ns p n e
 
   few-specs : (h : List ℕ) → length (positions_from (has_head h) 0 specs) ≤ largest
   few-specs h = at (positions_from (has_head h) 0 specs) refl
@@ -131,8 +117,7 @@ module _ (specs : List Numbered) (places : GroupedPlaces) (are : ArePlacesOf spe
 
   pub no-sets-behind : largest < 4 → (h : List ℕ) → has_set_behind (all_sources specs) h ≡ true → ⊥
   no-sets-behind few h has =
-      let many = (and_parts _ _ has).0 in
-      let four = ltb-false (length (sources_behind h (all_sources specs))) 4 (not-true (ltb (length (sources_behind h (all_sources specs))) 4) (and_parts _ _ many).0) in
+      let four = ltb-false (length (sources_behind h (all_sources specs))) 4 (not-true (ltb (length (sources_behind h (all_sources specs))) 4) (and_parts _ _ has).0) in
       let no : ⊥ = omega (arith, four, sources-few h specs, positions-count (has_head h) 0 specs, few-specs h, few) in
       no
 

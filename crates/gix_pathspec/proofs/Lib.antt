@@ -45,6 +45,7 @@ pub mod HeadCountsProofs
 pub mod HeadGroupProofs
 pub mod SourceSteps
 pub mod HeadSetsProofs
+pub mod BegunSetProofs
 pub mod SetBuildingProofs
 pub mod KeptSetsProofs
 pub mod LargestGroupProofs

@@ -1,7 +1,7 @@
 -- Sets are made group by group, each at the first source of its group.
-use Rattle.std.proofs.Common.{◌≡◌, ℕ, zero, suc, ◌+◌, ◌*◌, ◌<◌, ◌≤◌, Bool, true, false, not, ◌&&◌, ◌||◌, inl, inr, refl, sym, ◌∙◌, ap, subst, arith, All, List, [], ◌∷◌, ◌++◌, length, length-append, map, take, get_or, eqb, ltb, Vec, Global, Option, Some, None, slice_get}
+use Rattle.std.proofs.Common.{◌≡◌, ℕ, zero, suc, ◌+◌, ◌<◌, ◌≤◌, Bool, true, false, not, ◌&&◌, inl, inr, refl, sym, ◌∙◌, ap, subst, arith, All, List, [], ◌∷◌, ◌++◌, length, length-append, map, take, get_or, eqb, ltb, Vec, Global, Option, Some, None, slice_get}
 use Rattle.std.specs.Prelude.{is_some, IfSome}
-use Rattle.std.proofs.lemmas.Bool.{and_parts, both_ways, cases_Bool, cases_lt, eq-eqb, eqb-true, le-ltb, ltb-false, not-true}
+use Rattle.std.proofs.lemmas.Bool.{and_parts, both_ways, cases_Bool, cases_lt, eq-eqb, eqb-true, le-ltb, lt-ltb, ltb-false, not-true}
 use Rattle.std.specs.Option.{option_eq}
 use Rattle.std.specs.Borrow.{Bor}
 use Rattle.std.proofs.lemmas.List.{get_or_append_left, length-map, map-append, take_all, take_more}
@@ -17,9 +17,9 @@ use Rattle.pathspec_glob_set.specs.declared.member.Member.{Member}
 use Rattle.pathspec_glob_set.specs.Sets.{count_places, AreMovesOf}
 use Rattle.pathspec_glob_set.specs.Sizes.{most_places}
 use Rattle.gix_pathspec.specs.declared.search.head_set.HeadSet.{HeadSet}
-use Rattle.gix_pathspec.specs.Bytes.{begins_with, is_empty, is_wildcard}
+use Rattle.gix_pathspec.specs.Bytes.{begins_with, is_wildcard}
 use Rattle.gix_pathspec.specs.HeadSets.{set_heads, AreApart, AreHeadSetsOf, IsHeadSetOf, IsUnread}
-use Rattle.gix_pathspec.specs.SetSources.{are_many, ended, ended_heads, has_set_behind, is_behind, member_behind, members_behind, numbers_behind, sources_behind, positions_from, IsFirstOf, IsGroupOf, SetSource}
+use Rattle.gix_pathspec.specs.SetSources.{ended, ended_heads, has_set_behind, is_behind, member_behind, members_behind, numbers_behind, sources_behind, positions_from, IsFirstOf, IsGroupOf, SetSource}
 use Rattle.gix_pathspec.proofs.BeginsProofs.{begins_with-from_front, front-itself}
 use Rattle.gix_pathspec.proofs.HeadSearchProofs.{element-within, got-within}
 use Rattle.gix_pathspec.proofs.HeadGroupProofs.{ended-is, numbers-of-group}
@@ -115,8 +115,7 @@ module _ (sources : List SetSource) where
   -- a head that has a set has sources
   pub set-some : (h : List ℕ) → has_set_behind sources h ≡ true → 0 < length (numbers_behind h sources)
   set-some h has =
-      let many = (and_parts _ _ has).0 in
-      let four = ltb-false (length (sources_behind h sources)) 4 (not-true (ltb (length (sources_behind h sources)) 4) (and_parts _ _ many).0) in
+      let four = ltb-false (length (sources_behind h sources)) 4 (not-true (ltb (length (sources_behind h sources)) 4) (and_parts _ _ has).0) in
       omega (arith, four, positions-count (is_behind h) 0 sources)
 
   -- in the end these are all
@@ -317,22 +316,21 @@ module _ (sources : List SetSource) (number : ℕ) (source : SetSource) (texts :
 -- ---- one set
 
 -- too few sources make none
-pub set-few : (h : List ℕ) (sources : List SetSource) (numbers : List ℕ) (count : ℕ) (told : Bool) → numbers ≡ numbers_behind h sources → count ≡ length numbers
-    → told ≡ (not (ltb count 4) && (is_empty h || not (ltb (count * 64) (length sources)))) → told ≡ are_many h sources
-set-few h sources numbers count told own is told_is =
-    let same : count ≡ length (sources_behind h sources) = is ∙ ap (λ (rs : List ℕ). length rs) own ∙ positions-count (is_behind h) 0 sources in
-    told_is ∙ ap (λ k. not (ltb k 4) && (is_empty h || not (ltb (k * 64) (length sources)))) same
+pub few-none : (h : List ℕ) (sources : List SetSource) (numbers : List ℕ) → numbers ≡ numbers_behind h sources → length numbers < 4 → has_set_behind sources h ≡ false
+few-none h sources numbers own few =
+    let low : length (sources_behind h sources) < 4 = omega (arith, few, ap (λ (rs : List ℕ). length rs) own, positions-count (is_behind h) 0 sources) in
+    ap (λ b. not b && not (ltb most_places (count_places (members_behind h sources)))) (lt-ltb (length (sources_behind h sources)) 4 low)
 
-pub few-none : (h : List ℕ) (sources : List SetSource) → are_many h sources ≡ false → has_set_behind sources h ≡ false
-few-none h sources few = ap (λ b. b && not (ltb most_places (count_places (members_behind h sources)))) few
-
-pub set-made : (h : List ℕ) (sources : List SetSource) (set : HeadSet) → set.head.items ≡ h → set.numbers.items ≡ numbers_behind h sources → are_many h sources ≡ true
+pub set-made : (h : List ℕ) (sources : List SetSource) (set : HeadSet) → set.head.items ≡ h → set.numbers.items ≡ numbers_behind h sources → 4 ≤ length set.numbers.items
     → count_places (members_behind h sources) ≤ most_places → AreMovesOf (members_behind h sources) set.set.table.moves → IsHeadSetOf sources set
-set-made h sources set same numbers many few own = record {
-  enough = ap (has_set_behind sources) same ∙ both-true (are_many h sources) (not (ltb most_places (count_places (members_behind h sources)))) many (ap not (le-ltb most_places (count_places (members_behind h sources)) few));
-  numbers = numbers ∙ ap (λ g. numbers_behind g sources) (sym same);
-  own = subst (λ g. AreMovesOf (members_behind g sources) set.set.table.moves) (sym same) own;
-}
+set-made h sources set same numbers many few own =
+    let four : 4 ≤ length (sources_behind h sources) = omega (arith, many, ap (λ (rs : List ℕ). length rs) numbers, positions-count (is_behind h) 0 sources) in
+    record {
+      enough = ap (has_set_behind sources) same ∙ both-true (not (ltb (length (sources_behind h sources)) 4)) (not (ltb most_places (count_places (members_behind h sources))))
+          (ap not (le-ltb (length (sources_behind h sources)) 4 four)) (ap not (le-ltb most_places (count_places (members_behind h sources)) few));
+      numbers = numbers ∙ ap (λ g. numbers_behind g sources) (sym same);
+      own = subst (λ g. AreMovesOf (members_behind g sources) set.set.table.moves) (sym same) own;
+    }
   where
     both-true : (a b : Bool) → a ≡ true → b ≡ true → (a && b) ≡ true
     both-true true b p q = q

@@ -9,7 +9,7 @@ use Rattle.gix_pathspec.specs.declared.search.head_set.HeadSet.{HeadSet}
 use Rattle.gix_pathspec.specs.declared.search.members.Members.{Members}
 use Rattle.gix_pathspec.specs.Bytes.{begins_with}
 use Rattle.gix_pathspec.specs.Beside.{ArePlacesBeside, IsUnbarred}
-use Rattle.gix_pathspec.specs.HeadSets.{begins_of, AreHeadSetsOf, IsLittleStepped, IsNextOf}
+use Rattle.gix_pathspec.specs.HeadSets.{begins_of, set_heads, AreHeadSetsOf, IsLittleStepped, IsLongestOf, IsNextOf}
 use Rattle.gix_pathspec.specs.Members.{AreMembersOf}
 use Rattle.gix_pathspec.specs.Search.{Numbered}
 use Rattle.gix_pathspec.specs.SetSources.{all_sources, SetSource}
@@ -26,6 +26,7 @@ pub record AreCandidates (specs : List Numbered) (path : List ℕ) (candidates :
   pub beside : AreBeside specs path candidates.heads.now candidates.head (is_some candidates.members)
   pub are : (members : Bor Members) → candidates.members ≡ Some members → AreMembersOf specs members.now
   pub own : AreHeadSetsOf (all_sources specs) sets
+  pub begun : is_some candidates.members ≡ true → IsLongestOf (set_heads sets) path candidates.set_heads.now candidates.set_head
 
 -- where sets are asked, what is known of the member of each that is next, and of those before it
 abbrev pub AreNext : List Numbered → List ℕ → Candidates → List HeadSet → ℕ → Type 0
@@ -35,6 +36,7 @@ AreNext specs path candidates sets from = is_some candidates.members ≡ true �
 pub record KeepsSets (old new : List HeadSet) : Type 0 where
   pub own : (sources : List SetSource) → AreHeadSetsOf sources old → AreHeadSetsOf sources new
   pub few : (path : List ℕ) → All (IsLittleStepped path) old → All (IsLittleStepped path) new
+  pub heads : set_heads new ≡ set_heads old
   pub begun : begins_of new ≡ begins_of old
 
 -- a scratch stays one of the same set

@@ -1,6 +1,7 @@
 -- The sets of heads, and what a match knows once they read a path.
-use Rattle.std.specs.Prelude.{◌≡◌, ◌+◌, ◌*◌, ◌<◌, ◌≤◌, ◌⊎◌, ℕ, true, false, All, List, length, map, get_or, slice_get, Some}
-use Rattle.pathspec_heads.specs.Heads.{head_at}
+use Rattle.std.specs.Prelude.{◌≡◌, ◌+◌, ◌*◌, ◌<◌, ◌≤◌, ◌⊎◌, ℕ, true, false, All, List, length, map, get_or, slice_get, Option, None, Some}
+use Rattle.pathspec_heads.specs.Groups.{GroupedPlaces, IsGrouped}
+use Rattle.pathspec_heads.specs.Heads.{head_at, IsChainOf}
 use Rattle.pathspec_glob_set.specs.Answers.{HasRead, KeepsReading}
 use Rattle.pathspec_glob_set.specs.Sizes.{most_losses}
 use Rattle.pathspec_glob_set.specs.Tables.{most_misses}
@@ -10,27 +11,34 @@ use Rattle.gix_pathspec.specs.Bytes.{begins_with}
 use Rattle.gix_pathspec.specs.Matching.{glob_matches}
 use Rattle.gix_pathspec.specs.EndBytes.{has_wildcard_at, NeverMatches}
 use Rattle.gix_pathspec.specs.Search.{Numbered}
-use Rattle.gix_pathspec.specs.SetSources.{all_sources, behind, has_set_behind, head_looks, members_behind, numbers_behind, places_behind, SetSource}
+use Rattle.gix_pathspec.specs.SetSources.{all_sources, behind, has_set_behind, members_behind, numbers_behind, places_behind, SetSource}
 
 -- ---- what sets count
 
--- the steps and looks of a set for the last path, with the look at its head
+-- the steps and looks of a set for the last path
 abbrev pub effort_of : HeadSet → ℕ
-effort_of set = set.steps + set.looks + head_looks set.head.items
+effort_of set = set.steps + set.looks
 
 -- and those for all paths
 abbrev pub total_of : HeadSet → ℕ
-total_of set = set.set.total + set.asked
+total_of set = set.set.total
 
 -- how many there were before the last path, in each set
 abbrev pub begins_of : List HeadSet → List ℕ
 begins_of sets = map (λ set. set.begun) sets
 
--- the set read nothing yet
-abbrev pub IsUnread : HeadSet → Type 0
-IsUnread set = total_of set ≡ 0
-
 -- ---- one set
+
+-- no member is next, and nothing was counted since
+pub record IsAtRest (set : HeadSet) : Type 0 where
+  pub none : set.next ≡ length set.numbers.items
+  pub unstepped : set.steps ≡ 0
+  pub unlooked : set.looks ≡ 0
+
+-- the set read nothing yet
+pub record IsUnread (set : HeadSet) : Type 0 where
+  pub at_rest : IsAtRest set
+  pub uncounted : total_of set ≡ 0
 
 -- the set is that of its head
 pub record IsHeadSetOf (sources : List SetSource) (set : HeadSet) : Type 0 where
@@ -67,7 +75,6 @@ pub record StaysAsked (old new : HeadSet) : Type 0 where
   pub numbers : new.numbers.items ≡ old.numbers.items
   pub begun : new.begun ≡ old.begun
   pub steps : new.steps ≡ old.steps
-  pub asked : new.asked ≡ old.asked
   pub kept : KeepsReading old.set new.set
 
 -- A path was read, or wasn't: the set is the same.
@@ -87,7 +94,21 @@ pub record IsGivenUp (path : List ℕ) (set : HeadSet) : Type 0 where
   pub gave_up : set.set.gave_up ≡ true
   pub reason : (set.set.losses ≡ most_losses) ⊎ (most_misses * (length set.set.table.moves.wide + 1) ≤ set.steps)
 
+-- the set rests unless its head begins the path
+abbrev pub IsIdleBeside : List ℕ → HeadSet → Type 0
+IsIdleBeside path set = begins_with path set.head.items ≡ false → IsAtRest set
+
 -- ---- all sets
+
+-- the text with a number begins the path
+abbrev pub IsBegunAt : List (List ℕ) → List ℕ → ℕ → Type 0
+IsBegunAt texts path k = (k < length texts) × (begins_with path (head_at texts k) ≡ true)
+
+-- The texts stand in groups, and of these heads the longest that begins the path is this one, if one does.
+pub record IsLongestOf (texts : List (List ℕ)) (path : List ℕ) (places : GroupedPlaces) (head : Option ℕ) : Type 0 where
+  pub grouped : IsGrouped texts places.heads places.starts places.order
+  pub chain : (j : ℕ) → head ≡ Some j → (j < length places.heads) × IsChainOf places.heads path j
+  pub none : head ≡ None → (k : ℕ) → k < length places.heads → begins_with path (head_at places.heads k) ≡ false
 
 -- the heads of sets
 abbrev pub set_heads : List HeadSet → List (List ℕ)
@@ -105,9 +126,9 @@ NoneBarred path hs = All (λ h. begins_with path h ≡ true → has_wildcard_at 
 abbrev pub SomeGaveUp : List ℕ → List HeadSet → Type 0
 SomeGaveUp path sets = (k : ℕ) × (set : HeadSet) × (slice_get sets k ≡ Some set) × IsGivenUp path set
 
--- how many steps and looks a set takes at most for a path, with a look at its head
+-- how many steps and looks a set takes at most for a path
 abbrev pub most_effort : List ℕ → HeadSet → ℕ
-most_effort path set = length path * (length set.set.table.moves.wide + 2) + length set.numbers.items + 1
+most_effort path set = length path * (length set.set.table.moves.wide + 2) + length set.numbers.items
 
 -- There is a set for each head that has one, and for no other.
 pub record AreHeadSetsOf (sources : List SetSource) (sets : List HeadSet) : Type 0 where

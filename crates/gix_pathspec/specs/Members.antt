@@ -1,15 +1,16 @@
 -- The members of the sets of a search, and the sets in a scratch.
-use Rattle.std.specs.Prelude.{◌≡◌, ℕ, Bool, true, List, map, Option, Some, None, is_some}
+use Rattle.std.specs.Prelude.{◌≡◌, ◌+◌, All, ℕ, Bool, true, List, map, Option, Some, None, is_some}
 use Rattle.std.specs.List.{sum_by}
 use Rattle.std.specs.Option.{ForSome}
 use Rattle.std.specs.Box.{box_value}
 use Rattle.pathspec_glob.specs.Counts.{Counts}
+use Rattle.pathspec_heads.specs.Groups.{GroupedPlaces, IsGrouped}
 use Rattle.pathspec_glob_set.specs.declared.set.SetScratch.{SetScratch}
 use Rattle.pathspec_glob_set.specs.Sets.{AreMovesOf}
 use Rattle.gix_pathspec.specs.declared.search.head_set.HeadSet.{HeadSet}
 use Rattle.gix_pathspec.specs.declared.search.members.Members.{Members}
 use Rattle.gix_pathspec.specs.Beside.{ArePlacesBeside}
-use Rattle.gix_pathspec.specs.HeadSets.{total_of, AreHeadSetsOf}
+use Rattle.gix_pathspec.specs.HeadSets.{set_heads, total_of, AreHeadSetsOf, IsAtRest}
 use Rattle.gix_pathspec.specs.Search.{Numbered}
 use Rattle.gix_pathspec.specs.Room.{MemberSource, Room}
 use Rattle.gix_pathspec.specs.SetSources.{all_sources, has_any_set, source_places}
@@ -36,9 +37,11 @@ pub record IsSetIn (sources : List MemberSource) (set : Option SetScratch) (gave
   pub made : IsSetMade sources → is_some set ≡ true
   pub told : gave_up ≡ true → HasGivenUp set
 
--- The sets of the specs, with their steps and looks, and the set of the excludes in a scratch of this room. A flag tells of the last
--- whether it gave up.
-pub record AreSetsIn (room : Room) (sets : List HeadSet) (stepped : ℕ) (excludes : Option SetScratch) (excludes_gave_up : Bool) : Type 0 where
+-- The sets of the specs, which rest, by their heads, and the set of the excludes in a scratch of this room. The steps and looks of the sets
+-- and the comparisons of their heads are counted. A flag tells of the set of the excludes whether it gave up.
+pub record AreSetsIn (room : Room) (sets : List HeadSet) (heads : GroupedPlaces) (compared stepped : ℕ) (excludes : Option SetScratch) (excludes_gave_up : Bool) : Type 0 where
   pub of_specs : AreHeadSetsOf room.members sets
-  pub counted : Counts 0 (sum_by total_of sets) stepped
+  pub grouped : IsGrouped (set_heads sets) heads.heads heads.starts heads.order
+  pub at_rest : All IsAtRest sets
+  pub counted : Counts 0 (sum_by total_of sets + compared) stepped
   pub of_excludes : IsSetIn room.excludes excludes excludes_gave_up

@@ -1,12 +1,12 @@
 -- The globs that sets of a search are made of, one set for each head: globs that begin right behind the head of their spec.
-use Rattle.std.specs.Prelude.{◌≡◌, ◌+◌, ◌*◌, ℕ, Bool, true, false, not, ◌&&◌, ◌||◌, List, [], ◌∷◌, ◌++◌, ◌<◌, All, length, get_or, slice_get, ltb, map, drop, filter, filter_map, bytes_eq, if◌then◌else◌, Option, Some, None, is_some}
+use Rattle.std.specs.Prelude.{◌≡◌, ◌+◌, ℕ, Bool, true, false, not, ◌&&◌, List, [], ◌∷◌, ◌++◌, ◌<◌, All, length, get_or, slice_get, ltb, map, drop, filter, filter_map, bytes_eq, if◌then◌else◌, Option, Some, None, is_some}
 use Rattle.std.specs.List.{list_any}
 use Rattle.std.specs.Option.{option_map}
 use Rattle.pathspec_glob.specs.Bytes.{star}
 use Rattle.pathspec_glob_set.specs.declared.member.Member.{Member}
 use Rattle.pathspec_glob_set.specs.Sets.{count_places, member_matches}
 use Rattle.pathspec_glob_set.specs.Sizes.{most_places}
-use Rattle.gix_pathspec.specs.Bytes.{begins_with, is_empty, is_wildcard}
+use Rattle.gix_pathspec.specs.Bytes.{begins_with, is_wildcard}
 use Rattle.gix_pathspec.specs.Paths.{IsBytes}
 use Rattle.gix_pathspec.specs.Attributes.{Table}
 use Rattle.gix_pathspec.specs.Specs.{Spec}
@@ -124,15 +124,9 @@ ArePlain sources = All (λ source. list_any is_wildcard source.head ≡ false) s
 abbrev pub members_behind : List ℕ → List SetSource → List Member
 members_behind h sources = map member_behind (sources_behind h sources)
 
--- The sources that have a head are many enough for a set: they are four or more, and unless the head is empty one in 64 of all.
-abbrev pub are_many : List ℕ → List SetSource → Bool
-are_many h sources =
-    let count = length (sources_behind h sources) in
-    not (ltb count 4) && (is_empty h || not (ltb (count * 64) (length sources)))
-
--- A head has a set: the sources that have it are many enough, and their members have no more places than a set takes.
+-- A head has a set: four sources or more have it, and their members have no more places than a set takes.
 abbrev pub has_set_behind : List SetSource → List ℕ → Bool
-has_set_behind sources h = are_many h sources && not (ltb most_places (count_places (members_behind h sources)))
+has_set_behind sources h = not (ltb (length (sources_behind h sources)) 4) && not (ltb most_places (count_places (members_behind h sources)))
 
 -- the spec stands in a set
 abbrev pub stands_in_set : List SetSource → Spec → Bool
@@ -149,7 +143,3 @@ head_set_sources specs = if has_any_set (all_sources specs) then all_sources spe
 -- how many places the globs of sources have behind their heads: one for each token, and one more for each glob
 abbrev pub places_behind_heads : List SetSource → ℕ
 places_behind_heads sources = count_places (map member_behind sources)
-
--- a look at a head counts, unless the head is empty
-abbrev pub head_looks : List ℕ → ℕ
-head_looks h = if is_empty h then 0 else 1

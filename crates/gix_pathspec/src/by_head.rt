@@ -6,12 +6,13 @@
 ghost use Rattle.std.specs.Prelude.{◌≡◌, ◌+◌, ◌<◌, ◌≤◌, ◌&&◌, ℕ, Bool, true, false, All, List, Some, length, is_some, IfSome, IsSome, IsTrue, IfOk, OnOk, OnErr};
 ghost use Rattle.std.specs.Option.{ForSome};
 ghost use Rattle.gix_pathspec.specs.Beside.{ArePlacesBeside};
-ghost use Rattle.gix_pathspec.specs.HeadSets.{AreHeadSetsOf, IsUnread};
+ghost use Rattle.gix_pathspec.specs.HeadSets.{set_heads, AreHeadSetsOf, IsIdleBeside, IsUnread};
 ghost use Rattle.gix_pathspec.specs.SetSources.{all_sources, has_any_set};
 ghost use Rattle.std.specs.Box.{box_value};
 ghost use Rattle.bstr.specs.BStr.{bstr_bytes};
 ghost use Rattle.pathspec_parts.specs.Attributes.{AsksLookUp};
 ghost use Rattle.pathspec_glob.specs.Counts.{Counts};
+ghost use Rattle.pathspec_heads.specs.Groups.{IsGrouped};
 ghost use Rattle.gix_pathspec.specs.Found.{IsFirstFound};
 ghost use Rattle.gix_pathspec.specs.Prefixes.{common_prefix};
 ghost use Rattle.gix_pathspec.specs.Search.{specs_of, BeginsCounts, IsFresh};
@@ -29,7 +30,7 @@ pub(crate) mod subtree_excludes;
 use crate::search::MatchKind;
 use crate::search::counted::{CountedHeads, CountedSpecs, SpecScratch};
 use crate::search::head_set::HeadSet;
-use crate::search::head_sets::{ask_sets, earlier, effort_of, next_of_sets};
+use crate::search::head_sets::{ask_sets, earlier, next_of_sets, rest_sets};
 use crate::search::members::Members;
 use crate::search::spec_matching::begins_with;
 use bstr::BStr;
@@ -72,7 +73,10 @@ pub struct Scratch {
     specs: SpecScratch,
     /// The sets of heads, which read paths.
     sets: Vec<HeadSet>,
-    /// Their steps and looks in all matches, modulo 2^128.
+    /// Their numbers, by their heads.
+    set_heads: CountedHeads,
+    set_compares: CompareScratch,
+    /// The steps and looks of the sets and the comparisons of their heads in all matches, modulo 2^128.
     stepped: u128,
     /// Where the set of the subtree excludes reads directories, if there is one.
     exclude_set: Option<SetScratch>,
@@ -88,6 +92,8 @@ impl Drop for Scratch {
         let Scratch {
             specs: _specs,
             sets: _sets,
+            set_heads: _set_heads,
+            set_compares: _set_compares,
             stepped: _stepped,
             exclude_set: _exclude_set,
             heads: _heads,
@@ -116,7 +122,7 @@ impl Model for Scratch {
 
     ghost view = { λ s. record { room = s.specs.room; counts = record { last_tested = s.effort.tested; last_compared = s.effort.compared; last_stepped = s.effort.stepped; last_by_set = s.effort.by_set; last_gave_up = s.effort.excludes_gave_up || s.effort.gave_up; tested = s.specs.tested; compared = s.heads; stepped = sets_total s.stepped s.exclude_set } } };
 
-    ghost invariant = { λ s. AreSetsIn s.specs.room s.sets.items s.stepped s.exclude_set s.effort.excludes_gave_up };
+    ghost invariant = { λ s. AreSetsIn s.specs.room s.sets.items s.set_heads s.set_compares s.stepped s.exclude_set s.effort.excludes_gave_up };
 }
 
 impl Scratch {
@@ -126,14 +132,18 @@ impl Scratch {
     pub(crate) fn new(
         specs: SpecScratch,
         sets: Vec<HeadSet>,
+        by_head: CountedHeads,
+        set_compares: CompareScratch,
         exclude_set: Option<SetScratch>,
         heads: CompareScratch,
     ) -> Scratch
         requires sets { AreHeadSetsOf specs.room.members sets.items }
+        requires grouped { IsGrouped (set_heads sets.items)
+            by_head.heads by_head.starts by_head.order }
         requires sets_unread { All IsUnread sets.items }
         requires exclude_set { IsSetIn specs.room.excludes exclude_set false }
         requires specs_unasked { specs.tested ≡ 0 }
-        requires heads_unasked { heads ≡ 0 }
+        requires heads_unasked { (heads ≡ 0) × (set_compares ≡ 0) }
         requires set_unasked { set_total exclude_set ≡ 0 }
         ensures room { result.room ≡ specs.room }
         ensures fresh { IsFresh result.counts }
@@ -141,6 +151,8 @@ impl Scratch {
         Scratch {
             specs,
             sets,
+            set_heads: by_head,
+            set_compares,
             stepped: 0,
             exclude_set,
             heads,
@@ -185,7 +197,7 @@ impl Scratch {
     /// The count of steps and looks of sets in the last match or skip question: those of the specs, or that of the excludes. A
     /// set takes a step for each byte that it reads: of what stands in the path behind its head, or of the directory and a
     /// slash. For each cell of its table that it fills it takes one for each of its places, and one more. It looks at each of
-    /// its specs once at most, to find those that match; a look at each head that isn't empty is counted as well. The count is
+    /// its specs once at most, to find those that match. Each head of a set that is compared with the path is counted as well. The count is
     /// 0 where the path was empty or lacked the common prefix, or where the search has no such set.
     pub fn last_stepped(&self) -> u128
         ensures { result ≡ self.now.counts.last_stepped }
@@ -398,6 +410,9 @@ struct Candidates<'a> {
     head: Option<usize>,
     /// The members of the sets, where these told.
     members: Option<&'a Members>,
+    set_heads: &'a CountedHeads,
+    /// The number of the longest head of a set that begins the path, if one does.
+    set_head: Option<usize>,
 }
 
 impl Candidates<'_> {
@@ -409,6 +424,10 @@ impl Candidates<'_> {
     /// The next place from one on of a spec that may match.
     fn next(&self, from: usize, sets: &mut [HeadSet]) -> Option<usize>
         requires head { IfSome self.now.head (λ head. head < length self.now.heads.now.heads) }
+        requires set_head { IfSome self.now.set_head
+            (λ head. head < length self.now.set_heads.now.heads) }
+        requires grouped { IsTrue (is_some self.now.members) → IsGrouped (set_heads sets.old)
+            self.now.set_heads.now.heads self.now.set_heads.now.starts self.now.set_heads.now.order }
         ensures next { (specs : List Numbered) (path : List ℕ) (table : Table) (is_dir : Bool)
             → IsBytes path → AreCandidates specs path self.now sets.old
             → NoneBefore table specs path is_dir from → AreNext specs path self.now sets.old from
@@ -417,13 +436,20 @@ impl Candidates<'_> {
             → IsBytes path → AreCandidates specs path self.now sets.old
             → NoneBefore table specs path is_dir from → AreNext specs path self.now sets.old from
             → is_some self.now.members ≡ true → IfSome result (IsHit specs path) }
+        ensures idle { (specs : List Numbered) (path : List ℕ)
+            → AreCandidates specs path self.now sets.old → All (IsIdleBeside path) sets.old
+            → All (IsIdleBeside path) sets.new }
         ensures kept { KeepsSets sets.old sets.new }
     {
         let other = self.next_beside(from);
         let Some(members) = self.members else {
             return other;
         };
-        earlier(other, next_of_sets(sets, members.places(), from))
+        let (heads, head) = (self.set_heads, self.set_head);
+        earlier(
+            other,
+            next_of_sets(sets, heads, head, members.places(), from),
+        )
     }
 
     /// The next place from one on of a spec that is looked for by its head, and whose head begins the path.
@@ -493,7 +519,10 @@ fn first_match<L: LookUp>(
 {
     let bytes = path.as_bytes();
     let mut gave_up = false;
-    let tells = ask_sets(&mut scratch.sets, bytes, &mut gave_up);
+    let set_heads = &scratch.set_heads;
+    let begun = set_heads.longest_head_of(bytes, &mut scratch.set_compares);
+    let sets = scratch.sets.as_mut_slice();
+    let tells = ask_sets(sets, set_heads, begun.head, bytes, &mut gave_up);
     let members = told_members(members, tells);
     let heads = heads_beside(heads, members);
     let LongestHead { head, compared } = heads.longest_head_of(bytes, &mut scratch.heads);
@@ -502,18 +531,21 @@ fn first_match<L: LookUp>(
         heads,
         head,
         members,
+        set_heads,
+        set_head: begun.head,
     };
     let found = first_candidate(
         specs,
         &candidates,
-        &mut scratch.sets,
+        sets,
         &mut scratch.specs,
         &mut tested,
         path,
         is_dir,
         look_up,
     );
-    let stepped = effort_of(&scratch.sets);
+    let steps = rest_sets(sets, set_heads, begun.head, bytes);
+    let stepped = steps.wrapping_add(begun.compared as u128);
     scratch.stepped = scratch.stepped.wrapping_add(stepped);
     scratch.effort = Effort {
         tested,
@@ -556,12 +588,16 @@ fn first_candidate<L: LookUp>(
     look_up: &mut L,
 ) -> Result<Option<(usize, MatchKind)>, L::Fault>
     requires candidates { AreCandidates specs.now (bstr_bytes path) candidates.now sets.old }
+    requires set_head { IfSome candidates.now.set_head
+        (λ head. head < length candidates.now.set_heads.now.heads) }
     requires next { AreNext specs.now (bstr_bytes path) candidates.now sets.old 0 }
     requires bytes { IsBytes (bstr_bytes path) }
     requires room { HasRoom specs.now scratch.old.room }
     requires none { tested.old ≡ 0 }
     ensures room { scratch.new.room ≡ scratch.old.room }
     ensures kept { KeepsSets sets.old sets.new }
+    ensures idle { All (IsIdleBeside (bstr_bytes path.entry)) sets.old
+        → All (IsIdleBeside (bstr_bytes path.entry)) sets.new }
     ensures first { IfOk result (λ found.
         IsFirstFound (L.table look_up.old) specs.now (bstr_bytes path.entry) is_dir found) }
     ensures look_up { AsksLookUp (L.table look_up.old) (L.failures look_up.old)

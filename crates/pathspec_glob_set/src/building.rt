@@ -16,12 +16,6 @@ use std::alloc::{AllocError, Global};
 /// How many places the globs of a set have at most.
 const MOST_PLACES: usize = 131_072;
 
-/// How many bytes the rows of a scratch take at most.
-const MOST_BYTES: usize = 9 << 20;
-
-/// How many bytes the rows of a scratch take at most for each glob.
-const BYTES_PER_GLOB: usize = 64 << 10;
-
 /// Classes of bytes.
 #[derive(Drop)]
 pub struct Classes {
@@ -75,9 +69,9 @@ pub fn are_few(globs: &[Member]) -> bool
 }
 
 /// How many rows a scratch has: 1,024, or 4,096 from 64 globs on, but 60 for each star behind the front, up to 32,768. They are fewer
-/// where they would take more than 9 MiB, or more than 64 KiB for each glob, so that many small sets take little together. 676 globs
-/// such as `*aa*` led to 17,800 rows, one for each glob and letter.
-pub fn rows_for(moves: &Moves) -> usize
+/// where they would take more bytes than there is room for, but two at least. 676 globs such as `*aa*` led to 17,800 rows, one for
+/// each glob and letter, of some 500 bytes each.
+pub fn rows_for(moves: &Moves, room: usize) -> usize
     ensures many { 2 ≤ result }
     ensures few { result ≤ nowhere }
 {
@@ -87,11 +81,6 @@ pub fn rows_for(moves: &Moves) -> usize
     let bytes = (moves.places() / 8)
         .saturating_add(moves.width().saturating_mul(2))
         .saturating_add(64);
-    let room = moves
-        .ends
-        .len()
-        .saturating_mul(BYTES_PER_GLOB)
-        .min(MOST_BYTES);
     room.checked_div(bytes).unwrap_or(2).max(2).min(most)
 }
 

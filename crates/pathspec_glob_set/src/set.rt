@@ -72,16 +72,17 @@ impl GlobSet {
     }
 
     /// Makes room to search the set in, of 1,024 rows, or 4,096 where it has 64 globs or more, but 60 for each star behind the front
-    /// of a glob, up to 32,768. They take at most 9 MiB, and 64 KiB for each glob, so a set of many places has fewer.
+    /// of a glob, up to 32,768. They are fewer where they would take more than `room` bytes, but two at least. 64 KiB a glob, up to
+    /// 9 MiB, are enough for most.
     ///
     /// # Errors
     /// Memory runs out.
-    pub fn new_scratch(&self, alloc: Global) -> Result<SetScratch, AllocError>
+    pub fn new_scratch(&self, alloc: Global, room: usize) -> Result<SetScratch, AllocError>
         ensures alike { IfOk result (λ scratch. AreAlike scratch.table.moves self.now.moves) }
         ensures fresh { IfOk result IsFresh }
     {
         let moves = self.moves.copy(alloc)?;
-        let rows = rows_for(&moves);
+        let rows = rows_for(&moves, room);
         Ok(SetScratch {
             table: Table::new(alloc, moves, rows)?,
             lead: Lead::Row(0),

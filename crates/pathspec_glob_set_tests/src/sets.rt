@@ -67,7 +67,7 @@ pub fn made(alloc: Global, written: &[Written]) -> Result<Box<Searched>, AllocEr
     let Some(set) = GlobSet::new(alloc, &globs)? else {
         return Err(AllocError);
     };
-    let scratch = set.new_scratch(alloc)?;
+    let scratch = set.new_scratch(alloc, 9 << 20)?;
     Ok(Box::new(alloc, Searched { set, scratch })?)
 }
 

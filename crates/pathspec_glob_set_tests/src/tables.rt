@@ -197,7 +197,7 @@ fn a_set_of_too_many_places_is_not_made(rt: HostRuntime) -> Result<(), Fail> {
             assert!(rt; !is_made);
             continue;
         };
-        let mut scratch = set.new_scratch(alloc)?;
+        let mut scratch = set.new_scratch(alloc, 9 << 20)?;
         let count = set.len();
         assert!(rt; is_made && count == 1 && set.fits(&scratch));
         if set.fits(&scratch) {

@@ -152,7 +152,7 @@ impl PlacesByHead {
     /// How many places the largest group has: the most that share a head. The cost is linear in the heads.
     pub fn largest_group(&self) -> usize
         ensures largest { IsLargestGroup self.now result }
-        // As places ascend in a group, none stands in it twice.
+        // In each group places ascend.
         ensures order { IsOrder self.now.heads self.now.starts self.now.order }
     {
         let mut largest = 0;
@@ -176,6 +176,7 @@ impl PlacesByHead {
         ensures counted { Counts scratch.old result.compared scratch.new }
         ensures cost { (b : ℕ) → length self.now.heads < 2 ^ b → result.compared ≤ b + 2 }
         ensures asked { 0 < length self.now.heads → 1 ≤ result.compared }
+        ensures none { length self.now.heads ≡ 0 → result.compared ≡ 0 }
     {
         match self.heads.len() {
             0 => LongestHead {

@@ -226,6 +226,7 @@ impl CountedHeads {
         ensures counted { Counts scratch.old result.compared scratch.new }
         ensures cost { (b : ℕ) → length self.now.heads < 2 ^ b → result.compared ≤ b + 2 }
         ensures asked { 0 < length self.now.heads → 1 ≤ result.compared }
+        ensures none { length self.now.heads ≡ 0 → result.compared ≡ 0 }
     {
         self.all.longest_head_of(text, scratch)
     }

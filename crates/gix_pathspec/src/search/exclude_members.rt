@@ -21,7 +21,7 @@ ghost use Rattle.gix_pathspec.specs.Sets.{places_of};
 ghost use Rattle.gix_pathspec.specs.Specs.{Spec};
 
 use crate::search::counted::CountedHeads;
-use crate::search::members::{make_members, sources};
+use crate::search::members::{make_members, room_for, sources};
 use crate::search::spec::CompiledSpec;
 use crate::search::spec_matching::has_wildcard_at;
 use pathspec_glob_set::{GlobSet, SetScratch};
@@ -68,7 +68,8 @@ impl ExcludeMembers {
         ensures alike { IfOk result (λ scratch. AreAlike scratch.table.moves self.now.set.moves) }
         ensures unasked { IfOk result (λ scratch. scratch.total ≡ 0) }
     {
-        self.set.new_scratch(alloc)
+        let count = self.set.len();
+        self.set.new_scratch(alloc, room_for(count, count))
     }
 
     /// The heads that are looked for beside the set.

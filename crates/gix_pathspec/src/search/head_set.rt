@@ -11,10 +11,10 @@ ghost use Rattle.gix_pathspec.specs.Bytes.{begins_with};
 ghost use Rattle.gix_pathspec.specs.EndBytes.{has_wildcard_at};
 ghost use Rattle.gix_pathspec.specs.Paths.{IsBytes};
 ghost use Rattle.gix_pathspec.specs.Search.{Numbered};
-ghost use Rattle.gix_pathspec.specs.SetSources.{all_sources, head_looks, is_of_head, places_behind, source_places};
+ghost use Rattle.gix_pathspec.specs.SetSources.{all_sources, is_of_head, places_behind, source_places};
 ghost use Rattle.gix_pathspec.specs.Sets.{IsNext, NoneBefore};
 
-use crate::search::spec_matching::{begins_with, has_wildcard_at};
+use crate::search::spec_matching::has_wildcard_at;
 use pathspec_glob_set::SetScratch;
 
 /// The set of a head, and the room in which it reads paths.
@@ -26,8 +26,6 @@ pub(crate) struct HeadSet {
     set: SetScratch,
     /// The number of the member that is next among its own, or their count.
     next: usize,
-    /// The looks at the head for all paths, modulo 2^128.
-    asked: u128,
     /// The steps and looks for all paths before the last one, modulo 2^128.
     begun: u128,
     /// The steps that the last path took.
@@ -37,27 +35,28 @@ pub(crate) struct HeadSet {
     ghost alike: { length set.table.moves.ends.items ≡ length numbers.items },
     ghost within: { next ≤ length numbers.items },
     ghost few: { AreLooks (length numbers.items) 0 next looks },
-    ghost counted: { Counts begun (steps + looks + head_looks head.items) (set.total + asked) },
+    ghost counted: { Counts begun (steps + looks) set.total },
 }
 
 impl HeadSet {
-    ghost use Rattle.gix_pathspec.specs.HeadSets.{effort_of, total_of, IsGivenUp, IsGlobHit, IsHeadSetOf, IsLittleStepped, IsNextOf, IsReadBehind, StaysAsked, StaysSame, most_effort};
+    ghost use Rattle.gix_pathspec.specs.HeadSets.{effort_of, total_of, IsAtRest, IsGivenUp, IsGlobHit, IsHeadSetOf, IsLittleStepped, IsNextOf, IsReadBehind, StaysAsked, StaysSame, most_effort};
 
-    /// Puts a set together with its head and the numbers of its members. It read no path yet.
+    /// Puts a set together with its head and the numbers of its members. It is at rest.
     pub(super) fn new(head: Vec<u8>, numbers: Vec<usize>, set: SetScratch) -> HeadSet
         requires { length set.table.moves.ends.items ≡ length numbers.items }
         ensures head { result.head ≡ head }
         ensures numbers { result.numbers ≡ numbers }
         ensures set { result.set ≡ set }
         ensures total { total_of result ≡ set.total }
+        ensures at_rest { IsAtRest result }
     {
-        let begun = set.total_steps().wrapping_sub(head_look(&head));
+        let begun = set.total_steps();
+        let next = numbers.len();
         HeadSet {
             head,
             numbers,
             set,
-            next: 0,
-            asked: 0,
+            next,
             begun,
             steps: 0,
             looks: 0,
@@ -71,14 +70,15 @@ impl HeadSet {
         &self.head
     }
 
-    /// Reads what stands in a path behind the head, if that begins the path, and finds the first member that may match. Tells
-    /// whether the set told: it doesn't where a wildcard byte stands right behind the head, nor where it gives up, which
-    /// `gave_up` says then.
+    /// Reads what stands in a path behind the head, which begins it, and finds the first member that may match. Tells whether
+    /// the set told: it doesn't where a wildcard byte stands right behind the head, nor where it gives up, which `gave_up`
+    /// says then.
     pub(super) fn ask(&mut self, path: &[u8], gave_up: &mut bool) -> bool
-        ensures told { (begins_with path.now self.old.head.items ≡ true
-            → has_wildcard_at path.now (length self.old.head.items) ≡ false)
+        requires begins { begins_with path.now self.old.head.items ≡ true }
+        requires at_rest { IsAtRest self.old }
+        ensures told { has_wildcard_at path.now (length self.old.head.items) ≡ false
             → gave_up.new ≡ false → result ≡ true }
-        ensures unbarred { IsTrue result → begins_with path.now self.old.head.items ≡ true
+        ensures unbarred { IsTrue result
             → has_wildcard_at path.now (length self.old.head.items) ≡ false }
         ensures next { (specs : List Numbered) → IsHeadSetOf (all_sources specs) self.old
             → IsBytes path.now → IsTrue result → IsNextOf specs path.now 0 self.new }
@@ -89,14 +89,6 @@ impl HeadSet {
         ensures few { IsLittleStepped path.now self.new }
         ensures begun { Counts 0 (total_of self.old) self.new.begun }
     {
-        self.next = self.numbers.len();
-        self.begun = self.set.total_steps().wrapping_add(self.asked);
-        self.asked = self.asked.wrapping_add(head_look(&self.head));
-        self.steps = 0;
-        self.looks = 0;
-        if !begins_with(path, &self.head, false) {
-            return true;
-        }
         if has_wildcard_at(path, self.head.len()) {
             return false;
         }
@@ -182,20 +174,20 @@ impl HeadSet {
         self.place(places)
     }
 
-    /// The steps and looks for the last path, and a look at the head unless it is empty, modulo 2^128.
-    pub(super) fn effort(&self) -> u128
-        ensures counted { Counts 0 (effort_of self.now) result }
-        ensures few { (path : List ℕ) → IsLittleStepped path self.now
-            → result ≤ most_effort path self.now }
+    /// Ends the questions about a path: no member is next. Gives the steps and looks that they took, modulo 2^128.
+    pub(super) fn rest(&mut self) -> u128
+        ensures counted { Counts 0 (effort_of self.old) result }
+        ensures few { (path : List ℕ) → IsLittleStepped path self.old
+            → result ≤ most_effort path self.old }
+        ensures at_rest { IsAtRest self.new }
+        ensures same { StaysSame self.old self.new }
+        ensures total { total_of self.new ≡ total_of self.old }
     {
-        let looks = self.looks as u128 + head_look(&self.head);
-        self.steps.wrapping_add(looks)
+        let effort = self.steps.wrapping_add(self.looks as u128);
+        self.next = self.numbers.len();
+        self.begun = self.set.total_steps();
+        self.steps = 0;
+        self.looks = 0;
+        effort
     }
-}
-
-/// The looks that a look at a head counts: none where the head is empty.
-fn head_look(head: &[u8]) -> u128
-    ensures { result ≡ head_looks head.now }
-{
-    if head.is_empty() { 0 } else { 1 }
 }

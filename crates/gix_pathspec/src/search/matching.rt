@@ -24,7 +24,7 @@ use crate::by_head::SpecsByHead;
 use crate::by_head::subtree_excludes::ExcludesByHead;
 use crate::search::counted::SpecScratch;
 use crate::search::head_set::HeadSet;
-use crate::search::set_building::sets_of_heads;
+use crate::search::set_building::{sets_by_head, sets_of_heads};
 use crate::search::{MatchKind, Scratch, Search};
 use bstr::BStr;
 use pathspec_glob_set::SetScratch;
@@ -73,11 +73,10 @@ impl Search {
     /// Makes room for matches of the search, with all counts at 0. Each walker that shares a search has a scratch of its own.
     /// The cost is linear in the tokens of the largest glob and in the names of attributes that the specs list.
     ///
-    /// The scratch makes a set for each head right behind which enough globs begin: four or more, and one in 64 of all globs
-    /// that begin right behind their spec's head, unless the head is empty. So there are at most 64 sets. Each takes a table of
-    /// at most 9 MiB, and at most 64 KiB for each of its globs. It takes time in the order of its places: each token is asked of each
-    /// byte. A set of more than 131,072 places isn't made, and its specs are asked one by one. Four of the excludes that
-    /// [`Search::may_skip`] asks have a set as well.
+    /// The scratch makes a set for each head right behind which four globs or more begin. The tables of all sets take at most some
+    /// 9 MiB, and that of a set at most 64 KiB for each of its globs. A set takes time in the order of its places: each token is
+    /// asked of each byte. One of more than 131,072 places isn't made, and its specs are asked one by one. Four of the excludes
+    /// that [`Search::may_skip`] asks have a set as well.
     ///
     /// # Errors
     /// Memory runs out.
@@ -114,9 +113,9 @@ impl Search {
     /// a fixed number of times, and takes its glob's steps. Where it lists attributes and fits, it resets an outcome and asks
     /// the look-up.
     ///
-    /// If four globs or more begin right behind the same head, they may have a set, as [`Search::new_scratch`] says. Each set whose
-    /// head begins the path reads what stands behind that once, from its end, before any spec is asked
-    /// ([`Scratch::last_stepped`]). It tells which of its specs have a glob that matches, and the others aren't asked. Of the
+    /// If four globs or more begin right behind the same head, they have a set, as [`Search::new_scratch`] says. One search finds
+    /// the sets whose heads begin the path. Each reads what stands behind its head once, from the path's end, before any spec is
+    /// asked ([`Scratch::last_stepped`]). It tells which of its specs have a glob that matches, and the others aren't asked. Of the
     /// specs in all sets that list no attributes, aren't for directories alone and keep no prefix directory, at most one is
     /// asked. The sets tell nothing where a wildcard byte stands in the path right behind such a head, nor where one of them
     /// gave up ([`Scratch::last_by_set`], [`Scratch::last_gave_up`]): then heads alone tell.
@@ -317,8 +316,11 @@ fn scratch_for(
 {
     let has_sets = specs.members().is_some();
     let room = SpecScratch::for_specs(alloc, specs.counted(), has_sets)?;
+    let set_heads = sets_by_head(alloc, &sets)?;
     let exclude_set = exclude_scratch(alloc, excludes)?;
-    Ok(Scratch::new(room, sets, exclude_set, specs.heads().new_scratch()))
+    let set_compares = set_heads.new_scratch();
+    let compares = specs.heads().new_scratch();
+    Ok(Scratch::new(room, sets, set_heads, set_compares, exclude_set, compares))
 }
 
 /// Makes room for the set of the excludes to read directories in, if there is a set.

@@ -14,6 +14,18 @@ use std::marker::Model;
 /// How many specs a set has at least.
 pub(super) const FEWEST: usize = 4;
 
+/// How many bytes the rows of all sets of heads take at most.
+const ROOM: usize = 9 << 20;
+
+/// How many bytes the rows of a set take at most for each of its globs.
+const ROOM_PER_GLOB: usize = 64 << 10;
+
+/// How many bytes the rows of a set may take, which has so many of all globs in sets.
+pub(super) fn room_for(count: usize, all: usize) -> usize {
+    let each = ROOM.checked_div(all).unwrap_or(ROOM).min(ROOM_PER_GLOB);
+    each.saturating_mul(count)
+}
+
 /// What a member of a set is made of: the glob of a spec, whether case counts, and whether the spec matches where its glob does.
 #[derive(Drop)]
 pub(crate) struct SetMember {

@@ -6,11 +6,12 @@ ghost use Rattle.pathspec_heads.specs.Groups.{IsGrouped};
 ghost use Rattle.pathspec_heads.specs.Heads.{IsChainOf};
 ghost use Rattle.gix_pathspec.specs.Bytes.{begins_with, is_empty};
 ghost use Rattle.gix_pathspec.specs.Effort.{ArePlacesOf};
-ghost use Rattle.gix_pathspec.specs.HeadSets.{AreHeadSetsOf, IsHeadSetOf, IsUnread};
+ghost use Rattle.gix_pathspec.specs.HeadSets.{set_heads, AreHeadSetsOf, IsHeadSetOf, IsUnread};
 ghost use Rattle.gix_pathspec.specs.SetSources.{all_sources, ArePlain, ended_heads, has_set_behind, IsFirstOf, IsGroupOf, members_behind, numbers_behind, positions_from};
 
 use crate::search::counted::CountedHeads;
 use crate::search::head_set::HeadSet;
+use crate::search::members::room_for;
 use crate::search::set_sources::{HeadedMember, ended_heads, headed_members};
 use crate::search::spec::CompiledSpec;
 use pathspec_glob_set::{GlobSet, Member};
@@ -19,9 +20,6 @@ use std::alloc::{AllocError, Global};
 
 /// How many members a set has at least.
 const FEWEST: usize = 4;
-
-/// Of how many sources one stands at least in each set, but for the set of the empty head.
-const SHARE: u128 = 64;
 
 /// Makes the sets of all heads of some specs that have one. `heads` has the places of the specs by their heads.
 ///
@@ -42,6 +40,21 @@ pub(super) fn sets_of_heads(
     }
     let sources = headed_members(alloc, specs)?;
     head_sets(alloc, &sources)
+}
+
+/// The numbers of sets, by their heads.
+///
+/// # Errors
+/// Memory runs out.
+pub(super) fn sets_by_head(alloc: Global, sets: &[HeadSet]) -> Result<CountedHeads, AllocError>
+    ensures { IfOk result (λ places. IsGrouped (set_heads sets.now)
+        places.heads places.starts places.order) }
+{
+    let mut heads = Vec::with_capacity(alloc, sets.len())?;
+    for set in sets {
+        heads.push(set.head())?;
+    }
+    Ok(CountedHeads::new(PlacesByHead::new(alloc, &heads)?))
 }
 
 /// Makes the sets of all heads that have one.
@@ -187,7 +200,7 @@ fn set_of(
         → has_set_behind sources.now head.now ≡ false) }
     ensures unread { IfOk result (λ made. IfSome made IsUnread) }
 {
-    if !are_many(head, numbers.len(), sources.len()) {
+    if numbers.len() < FEWEST {
         return Ok(None);
     }
     let globs = globs_of(alloc, sources, head, &numbers)?;
@@ -195,15 +208,8 @@ fn set_of(
         return Ok(None);
     };
     let head = Vec::from_slice(alloc, head)?;
-    let scratch = set.new_scratch(alloc)?;
+    let scratch = set.new_scratch(alloc, room_for(numbers.len(), sources.len()))?;
     Ok(Some(HeadSet::new(head, numbers, scratch)))
-}
-
-/// Whether so many of all sources are enough for a set of a head.
-fn are_many(head: &[u8], count: usize, all: usize) -> bool
-    ensures { result ≡ (not (ltb count 4) && (is_empty head.now || not (ltb (count * 64) all))) }
-{
-    count >= FEWEST && (head.is_empty() || count as u128 * SHARE >= all as u128)
 }
 
 /// The globs of the sources with some numbers, behind their head.

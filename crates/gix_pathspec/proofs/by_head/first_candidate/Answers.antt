@@ -29,18 +29,26 @@ loop-from-init g c = record {
   steps = omega (arith, c.requires.none);
   asked = c.requires.candidates;
   kept = kept-self c.args.sets.now;
+  idle = λ all. all;
   none = λ p n l is. absurd (let no : ⊥ = omega (arith, l) in no);
   next = c.requires.next;
 }
 
 pub next-requires : goal.next-requires
-next-requires g c = record { head = head-within c.args.specs.now (bstr_bytes c.args.path) c.args.candidates.now.heads.now c.args.candidates.now.head _ c.loop-from.invariant.asked.beside }
+next-requires g c = record {
+  head = head-within c.args.specs.now (bstr_bytes c.args.path) c.args.candidates.now.heads.now c.args.candidates.now.head _ c.loop-from.invariant.asked.beside;
+  set_head = c.requires.set_head;
+  grouped = λ e. (c.loop-from.invariant.asked.begun e).grouped;
+}
 
 pub returns-in-None-clause-first : goal.returns-in-None-clause-first
 returns-in-None-clause-first g c =
     let i = c.loop-from.invariant in
     let said = c.next.ensures.next c.args.specs.now (bstr_bytes c.args.path) (g.L.LookUp.table c.args.look_up.now) c.args.is_dir c.requires.bytes i.asked i.none i.next in
     sym i.rest ∙ none-next (g.L.LookUp.table c.args.look_up.now) c.args.specs.now (bstr_bytes c.args.path) c.args.is_dir c.loop-from.from (subst (IsNext any_spec c.args.specs.now (bstr_bytes c.args.path) c.loop-from.from) c.in-None.is said.0) i.within
+
+pub returns-in-None-clause-idle : goal.returns-in-None-clause-idle
+returns-in-None-clause-idle g c all = c.next.ensures.idle c.args.specs.now (bstr_bytes c.args.path) c.loop-from.invariant.asked (c.loop-from.invariant.idle all)
 
 pub returns-in-None-clause-kept : goal.returns-in-None-clause-kept
 returns-in-None-clause-kept g c = kept-trans c.args.sets.now c.loop-from.sets c.next.new.sets c.loop-from.invariant.kept c.next.ensures.kept
@@ -63,6 +71,9 @@ returns-in_err-kind-clause-few g c =
     let n = from-next (g.L.LookUp.table c.args.look_up.now) c.args.specs.now (bstr_bytes c.args.path) c.args.is_dir c.loop-from.from c.in-Some.place is in
     omega (arith, few-more (λ n. head n.spec) (bstr_bytes c.args.path) c.args.specs.now c.loop-from.from c.in-Some.place c.loop-from.tested is.behind n.0 n.1 i.few)
 
+pub returns-in_err-kind-clause-idle : goal.returns-in_err-kind-clause-idle
+returns-in_err-kind-clause-idle g c all = c.next.ensures.idle c.args.specs.now (bstr_bytes c.args.path) c.loop-from.invariant.asked (c.loop-from.invariant.idle all)
+
 pub returns-in_err-kind-clause-kept : goal.returns-in_err-kind-clause-kept
 returns-in_err-kind-clause-kept g c = kept-trans c.args.sets.now c.loop-from.sets c.next.new.sets c.loop-from.invariant.kept c.next.ensures.kept
 
@@ -82,6 +93,9 @@ returns-in-Some-2-clause-few g c =
     let is : IsNextAt any_spec c.args.specs.now (bstr_bytes c.args.path) c.loop-from.from c.in-Some.place = subst (IsNext any_spec c.args.specs.now (bstr_bytes c.args.path) c.loop-from.from) c.in-Some.is said.0 in
     let n = from-next (g.L.LookUp.table c.args.look_up.now) c.args.specs.now (bstr_bytes c.args.path) c.args.is_dir c.loop-from.from c.in-Some.place is in
     omega (arith, few-more (λ n. head n.spec) (bstr_bytes c.args.path) c.args.specs.now c.loop-from.from c.in-Some.place c.loop-from.tested is.behind n.0 n.1 i.few)
+
+pub returns-in-Some-2-clause-idle : goal.returns-in-Some-2-clause-idle
+returns-in-Some-2-clause-idle g c all = c.next.ensures.idle c.args.specs.now (bstr_bytes c.args.path) c.loop-from.invariant.asked (c.loop-from.invariant.idle all)
 
 pub returns-in-Some-2-clause-kept : goal.returns-in-Some-2-clause-kept
 returns-in-Some-2-clause-kept g c = kept-trans c.args.sets.now c.loop-from.sets c.next.new.sets c.loop-from.invariant.kept c.next.ensures.kept
@@ -125,9 +139,13 @@ loop-from-preserved g c =
       steps = omega (arith, is.behind, i.steps);
       asked = kept-candidates c.args.specs.now (bstr_bytes c.args.path) c.args.candidates.now c.loop-from.sets c.next.new.sets c.next.ensures.kept i.asked;
       kept = kept-trans c.args.sets.now c.loop-from.sets c.next.new.sets i.kept c.next.ensures.kept;
+      idle = λ all. c.next.ensures.idle c.args.specs.now (bstr_bytes c.args.path) i.asked (i.idle all);
       none = none-after (g.L.LookUp.table c.args.look_up.now) c.args.specs.now (bstr_bytes c.args.path) c.args.is_dir c.loop-from.from c.in-Some.place is i.none away;
       next = next-on c.args.specs.now (bstr_bytes c.args.path) c.args.candidates.now c.next.new.sets c.loop-from.from (c.in-Some.place + 1) further said.1;
     }
 
 pub returns-clause-kept : goal.returns-clause-kept
 returns-clause-kept g c = c.loop-from.invariant.kept
+
+pub returns-clause-idle : goal.returns-clause-idle
+returns-clause-idle g c = c.loop-from.invariant.idle

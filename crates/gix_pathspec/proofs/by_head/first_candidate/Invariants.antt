@@ -1,11 +1,12 @@
 -- No spec so far matches, so the first that does is among the rest; and what was asked is counted.
-use Rattle.std.proofs.Common.{◌≡◌, ◌+◌, ◌-◌, ◌≤◌, drop, filter, length, true, is_some}
+use Rattle.std.proofs.Common.{◌≡◌, ◌+◌, ◌-◌, ◌≤◌, All, drop, filter, length, true, is_some}
 use Rattle.bstr.specs.BStr.{bstr_bytes}
 use Rattle.pathspec_glob.specs.Counts.{Counts}
 use Rattle.gix_pathspec.specs.Found.{first_match}
 use Rattle.gix_pathspec.specs.Effort.{candidate_count, is_unsettled_candidate, unsettled_count}
 use Rattle.gix_pathspec.specs.Sets.{NoneBefore}
 use Rattle.gix_pathspec.specs.Candidates.{AreCandidates, AreNext, KeepsSets}
+use Rattle.gix_pathspec.specs.HeadSets.{IsIdleBeside}
 use Rattle.gix_pathspec.specs.SetSources.{all_sources}
 use Rattle.gix_pathspec.proofs.by_head.first_candidate.Given as goal
 
@@ -23,6 +24,7 @@ invariant-loop-from g l =
       steps : l.tested ≤ l.from;
       asked : AreCandidates l.specs (bstr_bytes l.path) l.candidates l.sets;
       kept : KeepsSets l.fn.sets l.sets;
+      idle : All (IsIdleBeside (bstr_bytes l.path)) l.fn.sets → All (IsIdleBeside (bstr_bytes l.path)) l.sets;
       none : NoneBefore (g.L.LookUp.table l.fn.look_up) l.specs (bstr_bytes l.path) l.is_dir l.from;
       next : AreNext l.specs (bstr_bytes l.path) l.candidates l.sets l.from;
     }

@@ -1,27 +1,27 @@
 -- The heads by which specs are looked for, and the sets where they told, tell which specs may match.
-use Rattle.std.proofs.Common.{◌≡◌, ◌+◌, ◌%◌, ◌^◌, ◌≤◌, ◌∙◌, true, false, sym, ap, subst, arith, length, All, rules}
+use Rattle.std.proofs.Common.{◌≡◌, ◌+◌, ◌%◌, ◌^◌, ◌≤◌, ◌∙◌, ℕ, true, false, sym, ap, subst, arith, length, All, List, rules}
 use Rattle.std.specs.Prelude.{◌&&◌, is_some}
 use Rattle.std.specs.List.{sum_by}
-use Rattle.std.proofs.Math.Nat.{mod-mod}
+use Rattle.std.proofs.Math.Nat.{mod-le, mod-mod}
 use Rattle.std.proofs.lemmas.Bool.{and_from, and_parts}
 use Rattle.std.proofs.lemmas.List.{length-map}
 use Rattle.bstr.specs.BStr.{bstr_bytes}
 use Rattle.pathspec_glob.specs.Counts.{Counts}
-use Rattle.gix_pathspec.specs.declared.by_head.Candidates.{Candidates}
+use Rattle.pathspec_heads.specs.Groups.{IsGrouped}
+use Rattle.gix_pathspec.specs.declared.search.head_set.HeadSet.{HeadSet}
 use Rattle.gix_pathspec.specs.Beside.{head_beside}
 use Rattle.gix_pathspec.specs.Bytes.{begins_with}
-use Rattle.gix_pathspec.specs.Candidates.{AreCandidates}
 use Rattle.gix_pathspec.specs.EndBytes.{has_wildcard_at}
-use Rattle.gix_pathspec.specs.HeadSets.{begins_of, effort_of, most_effort, set_heads, total_of, AreHeadSetsOf, IsHeadSetOf, IsLittleStepped, IsNextOf, NoneBarred}
+use Rattle.gix_pathspec.specs.HeadSets.{most_effort, set_heads, total_of, AreHeadSetsOf, IsAtRest, IsHeadSetOf, IsIdleBeside, IsLongestOf, IsNextOf, NoneBarred}
 use Rattle.gix_pathspec.specs.Paths.{IsBytes}
 use Rattle.gix_pathspec.specs.Room.{Room, ScratchContents}
 use Rattle.gix_pathspec.specs.Members.{IsSetIn}
 use Rattle.gix_pathspec.specs.Search.{MatchCounts}
 use Rattle.gix_pathspec.specs.SetCounts.{set_total, sets_total}
 use Rattle.gix_pathspec.specs.SetSources.{all_sources, head_set_sources}
-use Rattle.gix_pathspec.proofs.BeginProofs.{beside-heads, found-looked}
+use Rattle.gix_pathspec.proofs.BeginProofs.{beside-heads, candidates-of, few-compared, found-looked, longest-of, longest-within}
 use Rattle.gix_pathspec.proofs.HeadCountsProofs.{total-after}
-use Rattle.gix_pathspec.proofs.KeptSetsProofs.{begin-own, few-efforts, kept-own, none-barred, set-at, unbarred, written, written-twice}
+use Rattle.gix_pathspec.proofs.KeptSetsProofs.{begin-own, few-efforts, kept-own, none-barred, set-at, unbarred, written}
 use Rattle.gix_pathspec.proofs.SetCountsProofs.{counts-beside}
 use Rattle.gix_pathspec.proofs.SetProofs.{all-bytes}
 use Rattle.gix_pathspec.proofs.by_head.first_match.Goals as goal
@@ -31,17 +31,15 @@ first_candidate-found-requires-clause-candidates g c =
     let specs = c.args.specs.now in
     let bytes = c.as_bytes-bytes.result.now in
     let asked = c.ask_sets-tells in
-    let candidates : Candidates = record { heads = c.heads_beside-heads.result; head = c.longest_head_of-head.result.head; members = c.told_members-members.result } in
-    let given = c.deref_mut.result.now in
-    let now = c.deref_mut-2.result.now in
-    let items = c.scratch.inside.sets.items in
-    let kept_len = asked.auto.sets ∙ ap length c.deref_mut.ensures.value in
-    let is : now ≡ asked.new.sets = c.deref_mut-2.ensures.value ∙ written c.scratch.inside.sets.len asked.new.sets items c.scratch.inside.sets.ok.0 kept_len in
-    let seen = ap (λ (s : ScratchContents). s.room.members) c.scratch.view_is in
-    let room : c.scratch.inside.specs.room.members ≡ head_set_sources specs = cc (seen, c.requires.fits.members) in
-    let own = begin-own specs c.scratch.inside.specs.room.members given now room (subst (AreHeadSetsOf c.scratch.inside.specs.room.members) (sym c.deref_mut.ensures.value) c.scratch.invariant.of_specs)
-    (ap set_heads is ∙ asked.ensures.heads) (λ sources all. subst (All (IsHeadSetOf sources)) (sym is) (asked.ensures.own sources all)) in
-    subst (λ t. AreCandidates specs t candidates now) c.as_bytes-bytes.ensures
+    let given = c.as_mut_slice-sets.result.now in
+    let now = asked.new.sets in
+    let members = c.scratch.inside.specs.room.members in
+    let room : members ≡ head_set_sources specs = cc (ap (λ (s : ScratchContents). s.room.members) c.scratch.view_is, c.requires.fits.members) in
+    let own = begin-own specs members given now room (subst (AreHeadSetsOf members) (sym c.as_mut_slice-sets.ensures.value) c.scratch.invariant.of_specs) asked.ensures.heads asked.ensures.own in
+    let places = c.scratch.inside.set_heads in
+    let grouped : IsGrouped (set_heads given) places.heads places.starts places.order = subst (λ ss. IsGrouped (set_heads ss) places.heads places.starts places.order) (sym c.as_mut_slice-sets.ensures.value) c.scratch.invariant.grouped in
+    let longest = longest-of (set_heads given) bytes places c.longest_head_of-begun.result.head grouped c.longest_head_of-begun.ensures.found c.longest_head_of-begun.ensures.chain in
+    candidates-of specs bytes (bstr_bytes c.args.path) _ now c.as_bytes-bytes.ensures
     (record {
       beside = beside-heads specs bytes c.heads_beside-heads.result.now c.longest_head_of-head.result.head (is_some c.told_members-members.result)
           (c.heads_beside-heads.ensures specs c.requires.grouped (λ m e. c.requires.members m (c.told_members-members.ensures.same m e)))
@@ -49,29 +47,48 @@ first_candidate-found-requires-clause-candidates g c =
           (λ e. unbarred specs bytes given own.0 (asked.ensures.unbarred (and_parts asked.result (is_some c.args.members) (sym c.told_members-members.ensures.told ∙ e)).0));
       are = λ m e. c.requires.members m (c.told_members-members.ensures.same m e);
       own = own.1;
+      begun = λ e. subst (λ hs. IsLongestOf hs bytes places c.longest_head_of-begun.result.head) (sym asked.ensures.heads) longest;
     })
+
+pub first_candidate-found-requires-clause-set_head : goal.first_candidate-found-requires-clause-set_head
+first_candidate-found-requires-clause-set_head g c =
+    let bytes = c.as_bytes-bytes.result.now in
+    let given = c.as_mut_slice-sets.result.now in
+    let places = c.scratch.inside.set_heads in
+    let grouped : IsGrouped (set_heads given) places.heads places.starts places.order = subst (λ ss. IsGrouped (set_heads ss) places.heads places.starts places.order) (sym c.as_mut_slice-sets.ensures.value) c.scratch.invariant.grouped in
+    let longest = longest-of (set_heads given) bytes places c.longest_head_of-begun.result.head grouped c.longest_head_of-begun.ensures.found c.longest_head_of-begun.ensures.chain in
+    longest-within (set_heads given) bytes places c.longest_head_of-begun.result.head longest
 
 pub first_candidate-found-requires-clause-next : goal.first_candidate-found-requires-clause-next
 first_candidate-found-requires-clause-next g c = λ e.
     let specs = c.args.specs.now in
     let bytes = c.as_bytes-bytes.result.now in
     let asked = c.ask_sets-tells in
-    let given = c.deref_mut.result.now in
-    let now = c.deref_mut-2.result.now in
-    let items = c.scratch.inside.sets.items in
-    let kept_len = asked.auto.sets ∙ ap length c.deref_mut.ensures.value in
-    let is : now ≡ asked.new.sets = c.deref_mut-2.ensures.value ∙ written c.scratch.inside.sets.len asked.new.sets items c.scratch.inside.sets.ok.0 kept_len in
-    let seen = ap (λ (s : ScratchContents). s.room.members) c.scratch.view_is in
-    let room : c.scratch.inside.specs.room.members ≡ head_set_sources specs = cc (seen, c.requires.fits.members) in
-    let own = begin-own specs c.scratch.inside.specs.room.members given now room (subst (AreHeadSetsOf c.scratch.inside.specs.room.members) (sym c.deref_mut.ensures.value) c.scratch.invariant.of_specs)
-    (ap set_heads is ∙ asked.ensures.heads) (λ sources all. subst (All (IsHeadSetOf sources)) (sym is) (asked.ensures.own sources all)) in
+    let given = c.as_mut_slice-sets.result.now in
+    let now = asked.new.sets in
+    let members = c.scratch.inside.specs.room.members in
+    let room : members ≡ head_set_sources specs = cc (ap (λ (s : ScratchContents). s.room.members) c.scratch.view_is, c.requires.fits.members) in
+    let own = begin-own specs members given now room (subst (AreHeadSetsOf members) (sym c.as_mut_slice-sets.ensures.value) c.scratch.invariant.of_specs) asked.ensures.heads asked.ensures.own in
     let tells = (and_parts asked.result (is_some c.args.members) (sym c.told_members-members.ensures.told ∙ e)).0 in
-    subst (λ t. All (IsNextOf specs t 0) now) c.as_bytes-bytes.ensures
-    (subst (All (IsNextOf specs bytes 0)) (sym is) (asked.ensures.next specs own.0.each (all-bytes bytes (λ k. search rules)) tells))
+    subst (λ t. All (IsNextOf specs t 0) now) c.as_bytes-bytes.ensures (asked.ensures.next specs own.0.each (all-bytes bytes (λ k. search rules)) tells)
 
 pub first_candidate-found-requires-clause-bytes : goal.first_candidate-found-requires-clause-bytes
 first_candidate-found-requires-clause-bytes g c =
     subst IsBytes c.as_bytes-bytes.ensures (all-bytes c.as_bytes-bytes.result.now (λ k. search rules))
+
+pub rest_sets-steps-requires-clause-longest : goal.rest_sets-steps-requires-clause-longest
+rest_sets-steps-requires-clause-longest g c =
+    let bytes = c.as_bytes-bytes.result.now in
+    let given = c.as_mut_slice-sets.result.now in
+    let places = c.scratch.inside.set_heads in
+    let grouped : IsGrouped (set_heads given) places.heads places.starts places.order = subst (λ ss. IsGrouped (set_heads ss) places.heads places.starts places.order) (sym c.as_mut_slice-sets.ensures.value) c.scratch.invariant.grouped in
+    let longest = longest-of (set_heads given) bytes places c.longest_head_of-begun.result.head grouped c.longest_head_of-begun.ensures.found c.longest_head_of-begun.ensures.chain in
+    subst (λ hs. IsLongestOf hs bytes places c.longest_head_of-begun.result.head) (sym (c.first_candidate-found.ensures.kept.heads ∙ c.ask_sets-tells.ensures.heads)) longest
+
+pub rest_sets-steps-requires-clause-idle : goal.rest_sets-steps-requires-clause-idle
+rest_sets-steps-requires-clause-idle g c =
+    let idle = subst (λ t. All (IsIdleBeside t) c.ask_sets-tells.new.sets) c.as_bytes-bytes.ensures c.ask_sets-tells.ensures.idle in
+    subst (λ t. All (IsIdleBeside t) c.first_candidate-found.new.sets) (sym c.as_bytes-bytes.ensures) (c.first_candidate-found.ensures.idle idle)
 
 pub returns-clause-counted : goal.returns-clause-counted
 returns-clause-counted g c =
@@ -95,33 +112,34 @@ returns-clause-looked g c =
 
 pub returns-clause-by_set : goal.returns-clause-by_set
 returns-clause-by_set g c =
-    let specs = c.args.specs.now in
     let path = bstr_bytes c.args.path in
-    let asked = c.ask_sets-tells in
     let excludes = c.scratch.inside.exclude_set in
-    let given = c.deref_mut.result.now in
-    let now = c.deref_mut-2.result.now in
-    let items = c.scratch.inside.sets.items in
-    let kept_len = asked.auto.sets ∙ ap length c.deref_mut.ensures.value in
-    let is : now ≡ asked.new.sets = c.deref_mut-2.ensures.value ∙ written c.scratch.inside.sets.len asked.new.sets items c.scratch.inside.sets.ok.0 kept_len in
-    let seen = ap (λ (s : ScratchContents). s.room.members) c.scratch.view_is in
-    let room : c.scratch.inside.specs.room.members ≡ head_set_sources specs = cc (seen, c.requires.fits.members) in
-    let own = begin-own specs c.scratch.inside.specs.room.members given now room (subst (AreHeadSetsOf c.scratch.inside.specs.room.members) (sym c.deref_mut.ensures.value) c.scratch.invariant.of_specs)
-    (ap set_heads is ∙ asked.ensures.heads) (λ sources all. subst (All (IsHeadSetOf sources)) (sym is) (asked.ensures.own sources all)) in
+    let specs = c.args.specs.now in
+    let bytes = c.as_bytes-bytes.result.now in
+    let asked = c.ask_sets-tells in
+    let given = c.as_mut_slice-sets.result.now in
+    let now = asked.new.sets in
+    let members = c.scratch.inside.specs.room.members in
+    let room : members ≡ head_set_sources specs = cc (ap (λ (s : ScratchContents). s.room.members) c.scratch.view_is, c.requires.fits.members) in
+    let own = begin-own specs members given now room (subst (AreHeadSetsOf members) (sym c.as_mut_slice-sets.ensures.value) c.scratch.invariant.of_specs) asked.ensures.heads asked.ensures.own in
+    let places = c.scratch.inside.set_heads in
+    let grouped : IsGrouped (set_heads given) places.heads places.starts places.order = subst (λ ss. IsGrouped (set_heads ss) places.heads places.starts places.order) (sym c.as_mut_slice-sets.ensures.value) c.scratch.invariant.grouped in
+    let longest = longest-of (set_heads given) bytes places c.longest_head_of-begun.result.head grouped c.longest_head_of-begun.ensures.found c.longest_head_of-begun.ensures.chain in
     let begun : sets_total c.scratch.inside.stepped excludes ≡ c.args.scratch.now.counts.stepped = ap (λ (s : ScratchContents). s.counts.stepped) c.scratch.view_is in
-    let effort = c.effort_of-stepped.result in
+    let last = c.first_candidate-found.new.sets in
+    let kept = c.first_candidate-found.ensures.kept in
+    let steps = c.rest_sets-steps.result in
+    let compared = c.longest_head_of-begun.result.compared in
+    let effort = (steps + compared) % 2 ^ 128 in
     let total = (c.scratch.inside.stepped + effort) % 2 ^ 128 in
     let counted : Counts c.scratch.inside.stepped effort total = mod-mod (c.scratch.inside.stepped + effort) (2 ^ 128) in
-    let little : All (IsLittleStepped path) now =
-    subst (All (IsLittleStepped path)) (sym is) (subst (λ t. All (IsLittleStepped t) asked.new.sets) c.as_bytes-bytes.ensures asked.ensures.few) in
-    let kept = c.first_candidate-found.ensures.kept in
-    let end : c.deref.result.now ≡ c.first_candidate-found.new.sets = c.deref.ensures.value ∙ written-twice c.scratch.inside.sets.len asked.new.sets c.first_candidate-found.new.sets items c.scratch.inside.sets.ok.0 kept_len
-    (c.first_candidate-found.auto.sets ∙ ap length c.deref_mut-2.ensures.value) in
-    let last = c.deref.result.now in
-    let few : effort ≤ sum_by (most_effort path) last = c.effort_of-stepped.ensures.few path (subst (All (IsLittleStepped path)) (sym end) (kept.few path little)) in
+    let few : steps ≤ sum_by (most_effort path) last = subst (λ t. steps ≤ sum_by (most_effort t) last) c.as_bytes-bytes.ensures (c.rest_sets-steps.ensures.few (kept.few bytes asked.ensures.few)) in
+    let size : length (set_heads given) ≡ length last = sym (ap (λ (hs : List (List ℕ)). length hs) (kept.heads ∙ asked.ensures.heads)) ∙ length-map last (λ (s : HeadSet). s.head.items) in
+    let seldom = few-compared (set_heads given) places.heads compared grouped.few c.longest_head_of-begun.ensures.cost c.longest_head_of-begun.ensures.none in
+    let all = few-efforts specs path last steps compared (kept.own (head_set_sources specs) own.2) few (omega (arith, seldom.0, size)) (λ e. seldom.1 (omega (arith, e, size))) in
     record {
       stepped = subst (λ k. Counts k effort (sets_total total excludes)) begun (counts-beside c.scratch.inside.stepped effort total (set_total excludes) counted);
-      few_stepped = omega (arith, few, few-efforts specs path last (subst (AreHeadSetsOf (head_set_sources specs)) (sym end) (kept.own (head_set_sources specs) own.2)));
+      few_stepped = omega (arith, all, mod-le (steps + compared) (2 ^ 128));
       once = λ e. c.first_candidate-found.ensures.once (sym c.is_some.ensures ∙ e);
       told = λ made late plain went_on.
           let barred : NoneBarred path (set_heads given) = none-barred specs path given own.0 plain in
@@ -130,7 +148,7 @@ returns-clause-by_set g c =
       gave_up = λ e.
           let given = asked.ensures.gave_up e in
           let which = given.1 in
-          let its : IsHeadSetOf (all_sources specs) which.1 = set-at (IsHeadSetOf (all_sources specs)) asked.new.sets which.0 which.1 (subst (All (IsHeadSetOf (all_sources specs))) is own.1.each) which.2 in
+          let its : IsHeadSetOf (all_sources specs) which.1 = set-at (IsHeadSetOf (all_sources specs)) asked.new.sets which.0 which.1 own.1.each which.2 in
           record {
             head = which.1.head.items;
             enough = its.enough;
@@ -145,25 +163,29 @@ pub invariant_of-scratch : goal.invariant_of-scratch
 invariant_of-scratch g c =
     let members = c.scratch.inside.specs.room.members in
     let stepped = c.scratch.inside.stepped in
-    let effort = c.effort_of-stepped.result in
+    let steps = c.rest_sets-steps.result in
+    let compared = c.longest_head_of-begun.result.compared in
+    let compares = c.longest_head_of-begun.new.scratch in
+    let total = (stepped + (steps + compared) % 2 ^ 128) % 2 ^ 128 in
     let asked = c.ask_sets-tells in
-    let given = c.deref_mut.result.now in
-    let now = c.deref_mut-2.result.now in
-    let items = c.scratch.inside.sets.items in
-    let kept_len = asked.auto.sets ∙ ap length c.deref_mut.ensures.value in
-    let is : now ≡ asked.new.sets = c.deref_mut-2.ensures.value ∙ written c.scratch.inside.sets.len asked.new.sets items c.scratch.inside.sets.ok.0 kept_len in
-    let last = c.first_candidate-found.new.sets in
     let kept = c.first_candidate-found.ensures.kept in
-    let len = c.first_candidate-found.auto.sets ∙ ap length c.deref_mut-2.ensures.value in
-    let back = written-twice c.scratch.inside.sets.len asked.new.sets last items c.scratch.inside.sets.ok.0 kept_len len in
-    let end : c.deref.result.now ≡ c.first_candidate-found.new.sets = c.deref.ensures.value ∙ back in
-    let was = subst (AreHeadSetsOf members) (sym c.deref_mut.ensures.value) c.scratch.invariant.of_specs in
-    let own = kept-own members given now (ap set_heads is ∙ asked.ensures.heads) (λ all. subst (All (IsHeadSetOf members)) (sym is) (asked.ensures.own members all)) was in
+    let rest = c.rest_sets-steps in
+    let value = c.as_mut_slice-sets.ensures.value in
+    let given = c.as_mut_slice-sets.result.now in
+    let places = c.scratch.inside.set_heads in
+    let items = c.scratch.inside.sets.items in
+    let back = written c.scratch.inside.sets.len rest.new.sets items c.scratch.inside.sets.ok.0 (rest.auto.sets ∙ c.first_candidate-found.auto.sets ∙ asked.auto.sets ∙ ap length value) in
+    let heads : set_heads rest.new.sets ≡ set_heads items = rest.ensures.heads ∙ kept.heads ∙ asked.ensures.heads ∙ ap set_heads value in
+    let all = rest.ensures.own members (kept.own members (kept-own members given asked.new.sets asked.ensures.heads (asked.ensures.own members) (subst (AreHeadSetsOf members) (sym value) c.scratch.invariant.of_specs))).each in
+    let after = total-after given asked.new.sets c.first_candidate-found.new.sets c.scratch.inside.set_compares compared compares stepped steps total
+    (subst (λ ss. Counts 0 (sum_by total_of ss + c.scratch.inside.set_compares) stepped) (sym value) c.scratch.invariant.counted)
+    asked.ensures.begun kept.begun c.longest_head_of-begun.ensures.counted rest.ensures.counted (mod-mod (stepped + (steps + compared) % 2 ^ 128) (2 ^ 128)) in
     record {
-      of_specs = subst (AreHeadSetsOf c.first_candidate-found.new.scratch.room.members) (sym back) (subst (λ (r : Room). AreHeadSetsOf r.members last) (sym c.first_candidate-found.ensures.room) (kept.own members own));
-      counted = subst (λ ss. Counts 0 (sum_by total_of ss) ((stepped + effort) % 2 ^ 128)) (sym back)
-          (total-after given asked.new.sets last stepped effort ((stepped + effort) % 2 ^ 128) (subst (λ ss. Counts 0 (sum_by total_of ss) stepped) (sym c.deref_mut.ensures.value) c.scratch.invariant.counted)
-          asked.ensures.begun (kept.begun ∙ ap begins_of is) (subst (λ ss. Counts 0 (sum_by effort_of ss) effort) end c.effort_of-stepped.ensures.counted) (mod-mod (stepped + effort) (2 ^ 128)));
+      of_specs = subst (AreHeadSetsOf c.first_candidate-found.new.scratch.room.members) (sym back) (subst (λ (r : Room). AreHeadSetsOf r.members rest.new.sets) (sym c.first_candidate-found.ensures.room)
+          (kept-own members items rest.new.sets heads (λ _. all) c.scratch.invariant.of_specs));
+      grouped = subst (λ ss. IsGrouped (set_heads ss) places.heads places.starts places.order) (sym back) (subst (λ hs. IsGrouped hs places.heads places.starts places.order) (sym heads) c.scratch.invariant.grouped);
+      at_rest = subst (All IsAtRest) (sym back) rest.ensures.at_rest;
+      counted = subst (λ ss. Counts 0 (sum_by total_of ss + compares) total) (sym back) (subst (λ k. Counts 0 (k + compares) total) (sym rest.ensures.total) after);
       of_excludes =
           let old = subst (λ (r : Room). IsSetIn r.excludes c.scratch.inside.exclude_set c.scratch.inside.effort.excludes_gave_up) (sym c.first_candidate-found.ensures.room) c.scratch.invariant.of_excludes in
           record { own = old.own; made = old.made; told = λ e. cc };

@@ -23,7 +23,7 @@ returns-clause-next c specs path table is_dir bytes are none next =
     let is_asked = ap is_some c.in-Some.is in
     let places = c.places.ensures ∙ (are.are c.in-Some.members c.in-Some.is).places in
     let beside = subst (λ b. IsNext (is_beside b (all_sources specs)) specs path c.args.from other) is_asked (c.next_beside-other.ensures.next specs path _ are.beside) in
-    let said = c.next_of_sets.ensures.next specs path table is_dir bytes places none (next is_asked) in
+    let said = c.next_of_sets.ensures.next specs path table is_dir (are.begun is_asked) bytes places none (next is_asked) in
     (subst (IsNext any_spec specs path c.args.from) (sym c.earlier.ensures) (both-next specs path c.args.from c.args.sets.now are.own other c.next_of_sets.result beside said.0), λ e. said.1)
 
 pub returns-clause-hit : goal.returns-clause-hit
@@ -31,12 +31,19 @@ returns-clause-hit c specs path table is_dir bytes are none next is_asked =
     let other = c.next_beside-other.result in
     let places = c.places.ensures ∙ (are.are c.in-Some.members c.in-Some.is).places in
     let beside = subst (λ b. IfSome other (IsKindAt (is_beside b (all_sources specs)) specs)) (ap is_some c.in-Some.is) (c.next_beside-other.ensures.beside specs path _ are.beside) in
-    let said = c.next_of_sets.ensures.next specs path table is_dir bytes places none (next is_asked) in
+    let said = c.next_of_sets.ensures.next specs path table is_dir (are.begun is_asked) bytes places none (next is_asked) in
     subst (λ found. IfSome found (IsHit specs path)) (sym c.earlier.ensures) (both-hit specs path other c.next_of_sets.result beside said.2)
 
 pub returns-clause-kept : goal.returns-clause-kept
 returns-clause-kept c = record {
   own = λ sources own. kept-own sources c.args.sets.now c.next_of_sets.new.sets c.next_of_sets.ensures.heads (c.next_of_sets.ensures.own sources) own;
   few = c.next_of_sets.ensures.few;
+  heads = c.next_of_sets.ensures.heads;
   begun = c.next_of_sets.ensures.begun;
 }
+
+pub returns-clause-idle : goal.returns-clause-idle
+returns-clause-idle c specs path are idle = c.next_of_sets.ensures.idle path (are.begun (ap is_some c.in-Some.is)) idle
+
+pub next_of_sets-requires-clause-grouped : goal.next_of_sets-requires-clause-grouped
+next_of_sets-requires-clause-grouped c = c.requires.grouped (ap is_some c.in-Some.is)

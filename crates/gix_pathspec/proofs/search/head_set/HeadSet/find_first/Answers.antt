@@ -13,5 +13,5 @@ returns-clause-next c specs path own bytes read =
     let count : c.len.result ≡ length old.numbers.items = omega arith in
     let is : c.unwrap_or-self.result ≡ unwrap_or found (length old.numbers.items) = c.unwrap_or-self.ensures ∙ ap (unwrap_or found) count in
     let within : c.unwrap_or-self.result ≤ length old.numbers.items = omega (arith, is, within-found old.set 0 (length old.numbers.items) found old.alike c.next_of-found.ensures.number) in
-    first-known specs path bytes old _ (record { head = refl; numbers = refl; begun = refl; steps = refl; asked = refl; kept = c.next_of-found.ensures.kept }) found within is own read
+    first-known specs path bytes old _ (record { head = refl; numbers = refl; begun = refl; steps = refl; kept = c.next_of-found.ensures.kept }) found within is own read
     (c.next_of-found.ensures.no_other text read.read) (c.next_of-found.ensures.matches text read.read)
