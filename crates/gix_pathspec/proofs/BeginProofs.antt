@@ -9,7 +9,7 @@ use Rattle.pathspec_heads.specs.Heads.{IsChainOf, IsLastFront}
 use Rattle.gix_pathspec.specs.Attributes.{Table}
 use Rattle.gix_pathspec.specs.declared.by_head.Candidates.{Candidates}
 use Rattle.gix_pathspec.specs.declared.search.MatchKind.{MatchKind}
-use Rattle.gix_pathspec.specs.declared.search.head_set.HeadSet.{HeadSet}
+use Rattle.gix_pathspec.specs.declared.by_head.head_set.HeadSet.{HeadSet}
 use Rattle.gix_pathspec.specs.Beside.{head_beside, ArePlacesBeside, IsUnbarred}
 use Rattle.gix_pathspec.specs.Candidates.{AreBeside, AreCandidates, AreNext, KeepsSets}
 use Rattle.gix_pathspec.specs.Found.{IsFirstFound}

@@ -10,7 +10,7 @@ use Rattle.pathspec_glob.specs.Counts.{Counts}
 use Rattle.pathspec_heads.specs.Groups.{earlier, GroupedPlaces, IsGrouped, IsInChain, IsLeastFrom}
 use Rattle.pathspec_heads.specs.Heads.{head_at}
 use Rattle.pathspec_heads.proofs.CandidateProofs.{candidates-next}
-use Rattle.gix_pathspec.specs.declared.search.head_set.HeadSet.{HeadSet}
+use Rattle.gix_pathspec.specs.declared.by_head.head_set.HeadSet.{HeadSet}
 use Rattle.gix_pathspec.specs.Bytes.{begins_with}
 use Rattle.gix_pathspec.specs.EndBytes.{has_wildcard_at}
 use Rattle.gix_pathspec.specs.HeadSets.{effort_of, most_effort, set_heads, total_of, IsAtRest, IsBegunAt, IsGivenUp, IsHeadSetOf, IsIdleBeside, IsLittleStepped, IsLongestOf, IsNextOf, NoneBarred}
@@ -80,12 +80,12 @@ pub rest-effort : (set : HeadSet) → IsAtRest set → effort_of set ≡ 0
 rest-effort set at_rest = omega (arith, at_rest.unstepped, at_rest.unlooked)
 
 -- the head of a set
-pub head-there : (sets : List HeadSet) (k : ℕ) (d : HeadSet) → k < length sets → head_at (set_heads sets) k ≡ (get_or sets k d).head.items
-head-there sets k d l = get_or-map (λ (s : HeadSet). s.head.items) sets k d [] l
+pub head-there : (sets : List HeadSet) (k : ℕ) (d : HeadSet) → k < length sets → head_at (set_heads sets) k ≡ (get_or sets k d).head
+head-there sets k d l = get_or-map (λ (s : HeadSet). s.head) sets k d [] l
 
 module _ (path : List ℕ) (sets : List HeadSet) (from to : ℕ) (within : to ≤ length sets) (none : NoneBegun (set_heads sets) path from to) where
   -- the heads of those between don't begin the path
-  pub off-between : (k : ℕ) (d : HeadSet) → from ≤ k → k < to → begins_with path (get_or sets k d).head.items ≡ false
+  pub off-between : (k : ℕ) (d : HeadSet) → from ≤ k → k < to → begins_with path (get_or sets k d).head ≡ false
   off-between k d a l = subst (λ h. begins_with path h ≡ false) (head-there sets k d (omega (arith, l, within))) (none k a l)
 
 -- ---- sets asked so far
@@ -108,11 +108,11 @@ pub record AskedSoFar (path : List ℕ) (given sets : List HeadSet) (from : ℕ)
 -- as many as before
 pub same-length : (given sets : List HeadSet) → set_heads sets ≡ set_heads given → length sets ≡ length given
 same-length given sets same =
-    omega (arith, length-map sets (λ (s : HeadSet). s.head.items), length-map given (λ (s : HeadSet). s.head.items), ap (λ (hs : List (List ℕ)). length hs) same)
+    omega (arith, length-map sets (λ (s : HeadSet). s.head), length-map given (λ (s : HeadSet). s.head), ap (λ (hs : List (List ℕ)). length hs) same)
 
 -- the number of a head is that of a set
 pub number-within : (given sets : List HeadSet) (number : ℕ) → set_heads sets ≡ set_heads given → number < length (set_heads given) → number < length sets
-number-within given sets number same l = omega (arith, l, same-length given sets same, length-map given (λ (s : HeadSet). s.head.items))
+number-within given sets number same l = omega (arith, l, same-length given sets same, length-map given (λ (s : HeadSet). s.head))
 
 -- further on, where no head between begins the path
 pub asked-skip : (path : List ℕ) (given sets : List HeadSet) (from to : ℕ) (tells gave_up : Bool) → AskedSoFar path given sets from tells gave_up → from ≤ to → to ≤ length sets → NoneBegun (set_heads given) path from to
@@ -137,7 +137,7 @@ asked-skip path given sets from to tells gave_up are further within none = recor
   next = λ specs own bytes tells k d a l. elim (cases_lt k from) [
     | inl less ↦ are.next specs own bytes tells k d a less
     | inr g ↦
-        let off : begins_with path (get_or given k d).head.items ≡ false = off-between path given from to (omega (arith, within, size)) none k d g l in
+        let off : begins_with path (get_or given k d).head ≡ false = off-between path given from to (omega (arith, within, size)) none k d g l in
         let its = own k d (omega (arith, l, within, size)) in
         subst (IsNextOf specs path 0) (sym (are.rest k d g)) (headless-known specs path (get_or given k d) (are.at_rest k d (omega (arith, l, within, size))) off its 0)
   ];
@@ -148,7 +148,7 @@ asked-skip path given sets from to tells gave_up are further within none = recor
     size = same-length given sets are.heads
 
     count : length (set_heads given) ≡ length given
-    count = length-map given (λ (s : HeadSet). s.head.items)
+    count = length-map given (λ (s : HeadSet). s.head)
 
 -- ---- efforts of those that rest
 

@@ -14,7 +14,7 @@ use Rattle.gix_pathspec.specs.Attributes.{Table}
 use Rattle.gix_pathspec.specs.Bytes.{begins_with, is_wildcard}
 use Rattle.gix_pathspec.specs.Specs.{Spec}
 use Rattle.gix_pathspec.specs.declared.search.MatchKind.{MatchKind}
-use Rattle.gix_pathspec.specs.declared.search.head_set.HeadSet.{HeadSet}
+use Rattle.gix_pathspec.specs.declared.by_head.head_set.HeadSet.{HeadSet}
 use Rattle.gix_pathspec.specs.Matching.{fit, glob_matches, has_attributes, spec_matches}
 use Rattle.gix_pathspec.specs.Found.{matched_kind}
 use Rattle.gix_pathspec.specs.Effort.{is_unsettled, is_unsettled_candidate, kind_at}
@@ -133,7 +133,7 @@ which specs sets own s so = elim (cases_Bool (stands_in_set (all_sources specs) 
   | inl on ↦
       let p = and_parts (has_set_behind (all_sources specs) (head s)) (has_source s) on in
       let k = own.all (head s) p.0 in
-      inr (in-heads (set_heads sets) k.0 s (omega (arith, k.1, length-map sets (λ (x : HeadSet). x.head.items))) p.1 k.2)
+      inr (in-heads (set_heads sets) k.0 s (omega (arith, k.1, length-map sets (λ (x : HeadSet). x.head))) p.1 k.2)
 ]
   where
     in-heads : (hs : List (List ℕ)) (k : ℕ) (s : Spec) → k < length hs → has_source s ≡ true → head_at hs k ≡ head s → is_of_heads hs s ≡ true

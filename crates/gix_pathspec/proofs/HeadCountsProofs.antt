@@ -8,7 +8,7 @@ use Rattle.std.proofs.lemmas.List.{get_or-set_other, get_or-set_same, get_or_def
 use Rattle.std.proofs.lemmas.List.Elements.{All-head, All-tail}
 use Rattle.std.proofs.lemmas.List.Sums.{sum_by-cons, sum_by_more}
 use Rattle.pathspec_glob.specs.Counts.{Counts}
-use Rattle.gix_pathspec.specs.declared.search.head_set.HeadSet.{HeadSet}
+use Rattle.gix_pathspec.specs.declared.by_head.head_set.HeadSet.{HeadSet}
 use Rattle.gix_pathspec.specs.HeadSets.{begins_of, effort_of, most_effort, total_of, IsUnread}
 
 add_in : (m a n b c k d : ℕ) → b % m ≡ (a + n) % m → d % m ≡ (c + k) % m → (b + d) % m ≡ (a + c + (n + k)) % m

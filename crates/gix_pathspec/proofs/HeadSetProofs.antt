@@ -24,7 +24,7 @@ use Rattle.gix_pathspec.specs.Prefixes.{head}
 use Rattle.gix_pathspec.specs.Specs.{Spec}
 use Rattle.gix_pathspec.specs.Sets.{IsNext, IsNextAt, NoneBefore}
 use Rattle.gix_pathspec.specs.SetSources.{all_sources, behind, has_set_behind, has_source, is_behind, is_of_head, member_behind, members_behind, numbers_behind, places_behind, set_source_of, source_places, sources_behind, SetSource}
-use Rattle.gix_pathspec.specs.declared.search.head_set.HeadSet.{HeadSet}
+use Rattle.gix_pathspec.specs.declared.by_head.head_set.HeadSet.{HeadSet}
 use Rattle.gix_pathspec.specs.HeadSets.{IsAtRest, IsGlobHit, IsHeadSetOf, IsLittleStepped, IsNextOf, IsReadBehind, NoneAhead, StaysAsked, StaysSame}
 use Rattle.gix_pathspec.proofs.EffortProofs.{unmatched-headless}
 use Rattle.gix_pathspec.proofs.HeadSearchProofs.{got-within}
@@ -338,14 +338,14 @@ pub keeps-own : (sources : List SetSource) (a b : HeadSet) → StaysAsked a b �
 keeps-own sources a b stays own = record {
   enough = subst (λ h. has_set_behind sources h ≡ true) (sym stays.head) own.enough;
   numbers = stays.numbers ∙ own.numbers ∙ ap (λ h. numbers_behind h sources) (sym stays.head);
-  own = subst (λ h. AreMovesOf (members_behind h sources) b.set.table.moves) (sym stays.head) (subst (λ (t : set_table.Table). AreMovesOf (members_behind a.head.items sources) t.moves) (sym stays.kept.table) own.own);
+  own = subst (λ h. AreMovesOf (members_behind h sources) b.set.table.moves) (sym stays.head) (subst (λ (t : set_table.Table). AreMovesOf (members_behind a.head sources) t.moves) (sym stays.kept.table) own.own);
 }
 
 pub same-own : (sources : List SetSource) (a b : HeadSet) → StaysSame a b → IsHeadSetOf sources a → IsHeadSetOf sources b
 same-own sources a b same own = record {
   enough = subst (λ h. has_set_behind sources h ≡ true) (sym same.head) own.enough;
   numbers = same.numbers ∙ own.numbers ∙ ap (λ h. numbers_behind h sources) (sym same.head);
-  own = subst (λ h. AreMovesOf (members_behind h sources) b.set.table.moves) (sym same.head) (subst (AreMovesOf (members_behind a.head.items sources)) (sym same.moves) own.own);
+  own = subst (λ h. AreMovesOf (members_behind h sources) b.set.table.moves) (sym same.head) (subst (AreMovesOf (members_behind a.head sources)) (sym same.moves) own.own);
 }
 
 has-read-on : (text : List ℕ) (a b : SetScratch) → KeepsReading a b → HasRead a text → HasRead b text
@@ -355,7 +355,7 @@ pub keeps-read : (path : List ℕ) (a b : HeadSet) → StaysAsked a b → IsRead
 keeps-read path a b stays read = record {
   begins = ap (begins_with path) stays.head ∙ read.begins;
   plain = ap (λ (h : List ℕ). has_wildcard_at path (length h)) stays.head ∙ read.plain;
-  read = subst (λ h. HasRead b.set (behind h path)) (sym stays.head) (has-read-on (behind a.head.items path) a.set b.set stays.kept read.read);
+  read = subst (λ h. HasRead b.set (behind h path)) (sym stays.head) (has-read-on (behind a.head path) a.set b.set stays.kept read.read);
   went_on = stays.kept.gave_up ∙ read.went_on;
 }
 
@@ -368,15 +368,15 @@ little-stays path a b stays few =
     subst (λ k. b.steps ≤ length path * (k + 2)) (sym wide) (subst (λ k. k ≤ length path * (length a.set.table.moves.wide + 2)) (sym stays.steps) few)
 
 -- as many places as numbers
-pub own-length : (specs : List Numbered) (set : HeadSet) → IsHeadSetOf (all_sources specs) set → length (places_behind set.head.items specs) ≡ length set.numbers.items
-own-length specs set own = numbers-length set.head.items specs ∙ ap (λ (rs : List ℕ). length rs) (sym own.numbers)
+pub own-length : (specs : List Numbered) (set : HeadSet) → IsHeadSetOf (all_sources specs) set → length (places_behind set.head specs) ≡ length set.numbers.items
+own-length specs set own = numbers-length set.head specs ∙ ap (λ (rs : List ℕ). length rs) (sym own.numbers)
 
 -- the place of the next member
 pub place-known : (specs : List Numbered) (places : List ℕ) (set : HeadSet) (result : Option ℕ) → IsHeadSetOf (all_sources specs) set → places ≡ source_places specs
-    → result ≡ option_and_then (slice_get places) (slice_get set.numbers.items set.next) → result ≡ slice_get (places_behind set.head.items specs) set.next
+    → result ≡ option_and_then (slice_get places) (slice_get set.numbers.items set.next) → result ≡ slice_get (places_behind set.head specs) set.next
 place-known specs places set result own same is =
     is ∙ ap (λ ps. option_and_then (slice_get ps) (slice_get set.numbers.items set.next)) same
-    ∙ ap (λ (rs : List ℕ). option_and_then (slice_get (source_places specs)) (slice_get rs set.next)) own.numbers ∙ place-is set.head.items specs set.next
+    ∙ ap (λ (rs : List ℕ). option_and_then (slice_get (source_places specs)) (slice_get rs set.next)) own.numbers ∙ place-is set.head specs set.next
 
 -- a number that was found, or the count
 pub within-found : (set : SetScratch) (from count : ℕ) (found : Option ℕ) → length set.table.moves.ends.items ≡ count → IfSome found (IsNumber (set_in set) from) → unwrap_or found count ≤ count
@@ -386,7 +386,7 @@ within-found set from count (Some k) same is = omega (arith, is.within, same)
 module _ (specs : List Numbered) (path : List ℕ) (bytes : IsBytes path) (old new : HeadSet) (stays : StaysAsked old new) (found : Option ℕ) (within : new.next ≤ length old.numbers.items)
     (is : new.next ≡ unwrap_or found (length old.numbers.items)) (own : IsHeadSetOf (all_sources specs) old) (read : IsReadBehind path old) where
   abbrev h : List ℕ
-  h = old.head.items
+  h = old.head
 
   count : length (places_behind h specs) ≡ length old.numbers.items
   count = own-length specs old own
@@ -425,26 +425,26 @@ module _ (specs : List Numbered) (path : List ℕ) (bytes : IsBytes path) (old n
       (next-hit h specs path bytes read.begins read.plain old.set own.own table is_dir from old.next last passed none ahead found new.next next-is read.went_on matched)
 
 -- the place found is that of the next spec that may match
-pub found-place : (specs : List Numbered) (path : List ℕ) (from : ℕ) (set : HeadSet) (result : Option ℕ) → IsNextOf specs path from set → result ≡ slice_get (places_behind set.head.items specs) set.next
-    → (set.next < length set.numbers.items → from ≤ get_or (places_behind set.head.items specs) set.next 0) → IsNext (is_of_head set.head.items) specs path from result × IfSome result (IsGlobHit specs path)
+pub found-place : (specs : List Numbered) (path : List ℕ) (from : ℕ) (set : HeadSet) (result : Option ℕ) → IsNextOf specs path from set → result ≡ slice_get (places_behind set.head specs) set.next
+    → (set.next < length set.numbers.items → from ≤ get_or (places_behind set.head specs) set.next 0) → IsNext (is_of_head set.head) specs path from result × IfSome result (IsGlobHit specs path)
 found-place specs path from set result next is behind =
     let count = own-length specs set next.are in (
-      subst (IsNext (is_of_head set.head.items) specs path from) (sym is)
-          (next-behind set.head.items specs path from set.next next.ahead (λ l. (next.read (omega (arith, l, count))).begins) (λ l. behind (omega (arith, l, count)))),
+      subst (IsNext (is_of_head set.head) specs path from) (sym is)
+          (next-behind set.head specs path from set.next next.ahead (λ l. (next.read (omega (arith, l, count))).begins) (λ l. behind (omega (arith, l, count)))),
       hit-there result is,
     )
   where
-    hit-there : (o : Option ℕ) → o ≡ slice_get (places_behind set.head.items specs) set.next → IfSome o (IsGlobHit specs path)
+    hit-there : (o : Option ℕ) → o ≡ slice_get (places_behind set.head specs) set.next → IfSome o (IsGlobHit specs path)
     hit-there None e = tt
     hit-there (Some place) e =
-        subst (IsGlobHit specs path) (get_or_from_slice_get (places_behind set.head.items specs) set.next place 0 (sym e))
-        (next.hit (omega (arith, got-within (places_behind set.head.items specs) set.next place (sym e), own-length specs set next.are)))
+        subst (IsGlobHit specs path) (get_or_from_slice_get (places_behind set.head specs) set.next place 0 (sym e))
+        (next.hit (omega (arith, got-within (places_behind set.head specs) set.next place (sym e), own-length specs set next.are)))
 
 -- where the head doesn't begin the path, a set that rests tells of it without a question
-pub headless-known : (specs : List Numbered) (path : List ℕ) (set : HeadSet) → IsAtRest set → begins_with path set.head.items ≡ false → IsHeadSetOf (all_sources specs) set → (from : ℕ) → IsNextOf specs path from set
+pub headless-known : (specs : List Numbered) (path : List ℕ) (set : HeadSet) → IsAtRest set → begins_with path set.head ≡ false → IsHeadSetOf (all_sources specs) set → (from : ℕ) → IsNextOf specs path from set
 headless-known specs path set at_rest off own from = record {
   are = own;
   read = λ l. absurd (let no : ⊥ = omega (arith, l, at_rest.none) in no);
-  ahead = headless-ahead set.head.items specs path off from set.next (omega (arith, at_rest.none, own-length specs set own));
+  ahead = headless-ahead set.head specs path off from set.next (omega (arith, at_rest.none, own-length specs set own));
   hit = λ l. absurd (let no : ⊥ = omega (arith, l, at_rest.none) in no);
 }

@@ -7,7 +7,7 @@ use Rattle.std.proofs.lemmas.List.Elements.{All-set}
 use Rattle.std.proofs.lemmas.Bool.{cases_lt, or_cases}
 use Rattle.std.proofs.lemmas.List.{get_or-map, length-map, take_all, take_more}
 use Rattle.pathspec_heads.specs.Groups.{earlier}
-use Rattle.gix_pathspec.specs.declared.search.head_set.HeadSet.{HeadSet}
+use Rattle.gix_pathspec.specs.declared.by_head.head_set.HeadSet.{HeadSet}
 use Rattle.gix_pathspec.specs.Specs.{Spec}
 use Rattle.gix_pathspec.specs.Search.{Numbered}
 use Rattle.gix_pathspec.specs.Sets.{IsNext, IsNextAt, NoneBetween}
@@ -73,31 +73,31 @@ of-more (g ∷ hs) h s e = elim (or_cases (is_of_head g s) (is_of_heads (hs ++ h
     or-true-right false b m = m
 
 -- the heads of the first so many sets, and of one more
-heads-more : (sets : List HeadSet) (i : ℕ) (set : HeadSet) → i < length sets → set ≡ get_or sets i set → take (i + 1) (set_heads sets) ≡ take i (set_heads sets) ++ set.head.items ∷ []
+heads-more : (sets : List HeadSet) (i : ℕ) (set : HeadSet) → i < length sets → set ≡ get_or sets i set → take (i + 1) (set_heads sets) ≡ take i (set_heads sets) ++ set.head ∷ []
 heads-more sets i set l is =
-    let low : i < length (set_heads sets) = omega (arith, l, length-map sets (λ (s : HeadSet). s.head.items)) in
-    let there = get_or-map (λ (s : HeadSet). s.head.items) sets i set [] l in
-    take_more (set_heads sets) i [] low ∙ ap (λ h. take i (set_heads sets) ++ h ∷ []) (there ∙ ap (λ (s : HeadSet). s.head.items) (sym is))
+    let low : i < length (set_heads sets) = omega (arith, l, length-map sets (λ (s : HeadSet). s.head)) in
+    let there = get_or-map (λ (s : HeadSet). s.head) sets i set [] l in
+    take_more (set_heads sets) i [] low ∙ ap (λ h. take i (set_heads sets) ++ h ∷ []) (there ∙ ap (λ (s : HeadSet). s.head) (sym is))
 
 -- the next spec of one set more
 pub next-more : (specs : List Numbered) (path : List ℕ) (from : ℕ) (sets : List HeadSet) (i : ℕ) (set : HeadSet) → i < length sets → set ≡ get_or sets i set
-    → (next place : Option ℕ) → IsNext (is_of_heads (take i (set_heads sets))) specs path from next → IsNext (is_of_head set.head.items) specs path from place
+    → (next place : Option ℕ) → IsNext (is_of_heads (take i (set_heads sets))) specs path from next → IsNext (is_of_head set.head) specs path from place
     → IsNext (is_of_heads (take (i + 1) (set_heads sets))) specs path from (earlier next place)
 next-more specs path from sets i set l is next place so_far one =
     let hs = take i (set_heads sets) in
     subst (λ gs. IsNext (is_of_heads gs) specs path from (earlier next place)) (sym (heads-more sets i set l is))
-    (next-of-both (is_of_heads hs) (is_of_head set.head.items) (is_of_heads (hs ++ set.head.items ∷ [])) (of-more hs set.head.items) specs path from next place so_far one)
+    (next-of-both (is_of_heads hs) (is_of_head set.head) (is_of_heads (hs ++ set.head ∷ [])) (of-more hs set.head) specs path from next place so_far one)
 
 -- ---- a loop over sets
 
 -- a set whose head stays is put in the place of another
-pub heads-kept : (sets : List HeadSet) (i : ℕ) (old new : HeadSet) → old ≡ get_or sets i old → new.head.items ≡ old.head.items → set_heads (set sets i new) ≡ set_heads sets
-heads-kept sets i old new is same = map-set_same (λ (s : HeadSet). s.head.items) sets i new old (same ∙ ap (λ (s : HeadSet). s.head.items) is)
+pub heads-kept : (sets : List HeadSet) (i : ℕ) (old new : HeadSet) → old ≡ get_or sets i old → new.head ≡ old.head → set_heads (set sets i new) ≡ set_heads sets
+heads-kept sets i old new is same = map-set_same (λ (s : HeadSet). s.head) sets i new old (same ∙ ap (λ (s : HeadSet). s.head) is)
 
 -- one set more is asked for the next spec
 pub next-step : (specs : List Numbered) (path : List ℕ) (from : ℕ) (begun sets : List HeadSet) (i : ℕ) (old new : HeadSet) (next place : Option ℕ) → i < length sets → old ≡ get_or sets i old
     → set_heads sets ≡ set_heads begun → IsNext (is_of_heads (take i (set_heads begun))) specs path from next → All (IsNextOf specs path from) sets → IfSome next (IsGlobHit specs path)
-    → IsNext (is_of_head old.head.items) specs path from place → IsNextOf specs path from new → IfSome place (IsGlobHit specs path)
+    → IsNext (is_of_head old.head) specs path from place → IsNextOf specs path from new → IfSome place (IsGlobHit specs path)
     → IsNext (is_of_heads (take (i + 1) (set_heads begun))) specs path from (earlier next place) × All (IsNextOf specs path from) (set sets i new) × IfSome (earlier next place) (IsGlobHit specs path)
 next-step specs path from begun sets i old new next place l is heads first all hit one its own = (
   subst (λ hs. IsNext (is_of_heads (take (i + 1) hs)) specs path from (earlier next place)) heads
@@ -125,22 +125,22 @@ slice-set_other (y ∷ xs) (suc i) v (suc k) x l e = slice-set_other xs i v k x 
 
 -- no wildcard byte stands in a path right behind the head of one of the sets, if it begins the path
 pub barred-at : (path : List ℕ) (begun sets : List HeadSet) (i : ℕ) (old : HeadSet) → NoneBarred path (set_heads begun) → set_heads sets ≡ set_heads begun → i < length sets → old ≡ get_or sets i old
-    → begins_with path old.head.items ≡ true → has_wildcard_at path (length old.head.items) ≡ false
+    → begins_with path old.head ≡ true → has_wildcard_at path (length old.head) ≡ false
 barred-at path begun sets i old none heads l is =
-    let low : i < length (set_heads begun) = omega (arith, l, length-map sets (λ (s : HeadSet). s.head.items), ap (λ (hs : List (List ℕ)). length hs) heads) in
-    let there : get_or (set_heads begun) i [] ≡ old.head.items = ap (λ hs. get_or hs i []) (sym heads) ∙ get_or-map (λ (s : HeadSet). s.head.items) sets i old [] l ∙ ap (λ (s : HeadSet). s.head.items) (sym is) in
+    let low : i < length (set_heads begun) = omega (arith, l, length-map sets (λ (s : HeadSet). s.head), ap (λ (hs : List (List ℕ)). length hs) heads) in
+    let there : get_or (set_heads begun) i [] ≡ old.head = ap (λ hs. get_or hs i []) (sym heads) ∙ get_or-map (λ (s : HeadSet). s.head) sets i old [] l ∙ ap (λ (s : HeadSet). s.head) (sym is) in
     subst (λ h. begins_with path h ≡ true → has_wildcard_at path (length h) ≡ false) there (none i [] low)
 
 -- what no wildcard byte bars so far, and behind one head more
 pub unbarred-more : (path : List ℕ) (begun sets : List HeadSet) (i : ℕ) (old : HeadSet) → set_heads sets ≡ set_heads begun → i < length sets → old ≡ get_or sets i old
     → ((k : ℕ) (d : List ℕ) → k < i → begins_with path (get_or (set_heads begun) k d) ≡ true → has_wildcard_at path (length (get_or (set_heads begun) k d)) ≡ false)
-    → (begins_with path old.head.items ≡ true → has_wildcard_at path (length old.head.items) ≡ false)
+    → (begins_with path old.head ≡ true → has_wildcard_at path (length old.head) ≡ false)
     → (k : ℕ) (d : List ℕ) → k < i + 1 → begins_with path (get_or (set_heads begun) k d) ≡ true → has_wildcard_at path (length (get_or (set_heads begun) k d)) ≡ false
 unbarred-more path begun sets i old heads l is so_far one k d low = elim (cases_lt k i) [
   | inl less ↦ so_far k d less
   | inr g ↦
       let here : k ≡ i = omega (arith, low, g) in
-      let there : get_or (set_heads begun) k d ≡ old.head.items =
-      ap (λ j. get_or (set_heads begun) j d) here ∙ ap (λ hs. get_or hs i d) (sym heads) ∙ get_or-map (λ (s : HeadSet). s.head.items) sets i old d l ∙ ap (λ (s : HeadSet). s.head.items) (sym is) in
+      let there : get_or (set_heads begun) k d ≡ old.head =
+      ap (λ j. get_or (set_heads begun) j d) here ∙ ap (λ hs. get_or hs i d) (sym heads) ∙ get_or-map (λ (s : HeadSet). s.head) sets i old d l ∙ ap (λ (s : HeadSet). s.head) (sym is) in
       subst (λ h. begins_with path h ≡ true → has_wildcard_at path (length h) ≡ false) (sym there) one
 ]

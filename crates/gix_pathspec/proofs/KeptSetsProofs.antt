@@ -11,7 +11,7 @@ use Rattle.std.proofs.lemmas.List.Elements.{All-cons, All-head, All-nil, All-tai
 use Rattle.pathspec_heads.specs.Heads.{head_at}
 use Rattle.pathspec_glob_set.specs.declared.member.Member.{Member}
 use Rattle.pathspec_glob_set.specs.Sets.{count_places, size_of}
-use Rattle.gix_pathspec.specs.declared.search.head_set.HeadSet.{HeadSet}
+use Rattle.gix_pathspec.specs.declared.by_head.head_set.HeadSet.{HeadSet}
 use Rattle.gix_pathspec.specs.Bytes.{begins_with, is_wildcard}
 use Rattle.gix_pathspec.specs.EndBytes.{has_wildcard_at}
 use Rattle.gix_pathspec.specs.Search.{Numbered}
@@ -34,7 +34,7 @@ kept-own sources old new heads each own = record {
   each = each own.each;
   all = λ h has.
       let r = own.all h has in
-      (r.0, omega (arith, r.1, length-map old (λ (s : HeadSet). s.head.items), length-map new (λ (s : HeadSet). s.head.items), ap (λ (hs : List (List ℕ)). length hs) heads), ap (λ hs. head_at hs r.0) heads ∙ r.2);
+      (r.0, omega (arith, r.1, length-map old (λ (s : HeadSet). s.head), length-map new (λ (s : HeadSet). s.head), ap (λ (hs : List (List ℕ)). length hs) heads), ap (λ hs. head_at hs r.0) heads ∙ r.2);
   apart = subst AreApart (sym heads) own.apart;
 }
 
@@ -84,7 +84,7 @@ own-room specs sets own = at (has_any_set (all_sources specs)) refl
     at false e =
         let none = λ (s : HeadSet) (ss : List HeadSet) (is : sets ≡ s ∷ ss).
         let has = (All-head (IsHeadSetOf (all_sources specs)) s ss (subst (All (IsHeadSetOf (all_sources specs))) is own.each)).enough in
-        both_ways (has_any_set (all_sources specs)) e (any-set (all_sources specs) s.head.items has) in
+        both_ways (has_any_set (all_sources specs)) e (any-set (all_sources specs) s.head has) in
         empty sets refl none
       where
         empty : (ss : List HeadSet) → sets ≡ ss → ((s : HeadSet) (rest : List HeadSet) → sets ≡ s ∷ rest → ⊥) → AreHeadSetsOf [] sets
@@ -109,21 +109,21 @@ sets-there sources sets own none = elim (cases_Bool (has_any_set sources)) [
     ]
 
 pub sets-some : (sources : List SetSource) (sets : List HeadSet) → AreHeadSetsOf sources sets → (set : HeadSet) (rest : List HeadSet) → sets ≡ set ∷ rest → has_any_set sources ≡ true
-sets-some sources sets own set rest is = any-set sources set.head.items (All-head (IsHeadSetOf sources) set rest (subst (All (IsHeadSetOf sources)) is own.each)).enough
+sets-some sources sets own set rest is = any-set sources set.head (All-head (IsHeadSetOf sources) set rest (subst (All (IsHeadSetOf sources)) is own.each)).enough
 
 -- ---- what bars the sets
 
 pub unbarred : (specs : List Numbered) (path : List ℕ) (sets : List HeadSet) → AreHeadSetsOf (all_sources specs) sets → NoneBarred path (set_heads sets) → IsUnbarred specs path
 unbarred specs path sets own none h has =
     let r = own.all h has in
-    subst (λ g. begins_with path g ≡ true → has_wildcard_at path (length g) ≡ false) r.2 (none r.0 [] (omega (arith, r.1, length-map sets (λ (s : HeadSet). s.head.items))))
+    subst (λ g. begins_with path g ≡ true → has_wildcard_at path (length g) ≡ false) r.2 (none r.0 [] (omega (arith, r.1, length-map sets (λ (s : HeadSet). s.head))))
 
 pub none-barred : (specs : List Numbered) (path : List ℕ) (sets : List HeadSet) → AreHeadSetsOf (all_sources specs) sets → IsUnbarred specs path → NoneBarred path (set_heads sets)
 none-barred specs path sets own plain k d l = at sets own.each k l
   where
     at : (ss : List HeadSet) → All (IsHeadSetOf (all_sources specs)) ss → (k : ℕ) → k < length (set_heads ss) → begins_with path (get_or (set_heads ss) k d) ≡ true → has_wildcard_at path (length (get_or (set_heads ss) k d)) ≡ false
     at [] each k l = absurd (let no : ⊥ = omega (arith, l) in no)
-    at (s ∷ ss) each zero l = plain s.head.items (All-head (IsHeadSetOf (all_sources specs)) s ss each).enough
+    at (s ∷ ss) each zero l = plain s.head (All-head (IsHeadSetOf (all_sources specs)) s ss each).enough
     at (s ∷ ss) each (suc k) l = at ss (All-tail (IsHeadSetOf (all_sources specs)) s ss each) k (omega (arith, l))
 
 -- ---- efforts
@@ -149,7 +149,7 @@ module _ (sources : List SetSource) (path : List ℕ) where
   efforts [] each = (omega arith, omega arith)
   efforts (s ∷ sets) each =
       let own = All-head (IsHeadSetOf sources) s sets each in
-      let h = s.head.items in
+      let h = s.head in
       let more = efforts sets (All-tail (IsHeadSetOf sources) s sets each) in
       let wide : length s.set.table.moves.wide ≡ places_at h = own.own.places ∙ places-sum (sources_behind h sources) in
       let count : length s.numbers.items ≡ members_at h = ap (λ (ns : List ℕ). length ns) own.numbers ∙ sym (globs-count h sources) ∙ length-map (sources_behind h sources) member_behind ∙ length-sum (sources_behind h sources) in
@@ -195,7 +195,7 @@ all-plain (n ∷ specs) = at (set_source_of n.spec) refl (all-plain specs)
         All-cons (λ (x : SetSource). list_any is_wildcard x.head ≡ false) source (all_sources specs) (ap (list_any is_wildcard) own ∙ before_first-none is_wildcard n.spec.path) more
 
 -- a head that a set has
-pub head-there : (sources : List SetSource) (sets : List HeadSet) (k : ℕ) (set : HeadSet) (h : List ℕ) → AreHeadSetsOf sources sets → k < length sets → set ≡ get_or sets k set → set.head.items ≡ h → has_set_behind sources h ≡ true
+pub head-there : (sources : List SetSource) (sets : List HeadSet) (k : ℕ) (set : HeadSet) (h : List ℕ) → AreHeadSetsOf sources sets → k < length sets → set ≡ get_or sets k set → set.head ≡ h → has_set_behind sources h ≡ true
 head-there sources sets k set h own l is same =
     let its : IsHeadSetOf sources set = subst (IsHeadSetOf sources) (sym is) (own.each k set l) in
     ap (has_set_behind sources) (sym same) ∙ its.enough

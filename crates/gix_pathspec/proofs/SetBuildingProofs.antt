@@ -16,7 +16,7 @@ use Rattle.pathspec_heads.proofs.CandidateProofs.{IsCandidate}
 use Rattle.pathspec_glob_set.specs.declared.member.Member.{Member}
 use Rattle.pathspec_glob_set.specs.Sets.{count_places, AreMovesOf}
 use Rattle.pathspec_glob_set.specs.Sizes.{most_places}
-use Rattle.gix_pathspec.specs.declared.search.head_set.HeadSet.{HeadSet}
+use Rattle.gix_pathspec.specs.declared.by_head.head_set.HeadSet.{HeadSet}
 use Rattle.gix_pathspec.specs.Bytes.{begins_with, is_wildcard}
 use Rattle.gix_pathspec.specs.HeadSets.{set_heads, AreApart, AreHeadSetsOf, IsHeadSetOf, IsUnread}
 use Rattle.gix_pathspec.specs.SetSources.{ended, ended_heads, has_set_behind, is_behind, member_behind, members_behind, numbers_behind, sources_behind, positions_from, IsFirstOf, IsGroupOf, SetSource}
@@ -125,7 +125,7 @@ module _ (sources : List SetSource) where
     all = λ h has.
         let r = first-source h (set-some h has) in
         let k = are.all h has (omega (arith, got-within sources (first_number sources h) r.0 r.1, end)) in
-        (k.0, omega (arith, k.1, length-map sets (λ (s : HeadSet). s.head.items)), k.2);
+        (k.0, omega (arith, k.1, length-map sets (λ (s : HeadSet). s.head)), k.2);
     apart = are.apart;
   }
 
@@ -154,7 +154,7 @@ module _ (sources : List SetSource) where
     }
 
     -- a set is added
-    pub sets-more : (set : HeadSet) → IsHeadSetOf sources set → set.head.items ≡ source.head → first_number sources source.head ≡ number → AreSetsSoFar sources (sets ++ set ∷ []) (number + 1)
+    pub sets-more : (set : HeadSet) → IsHeadSetOf sources set → set.head ≡ source.head → first_number sources source.head ≡ number → AreSetsSoFar sources (sets ++ set ∷ []) (number + 1)
     sets-more set own is first = record {
       each = All-push (IsHeadSetOf sources) sets set are.each own;
       low = λ k l. subst (λ h. first_number sources h < number + 1) (sym (ap (λ hs. head_at hs k) heads)) (low k (omega (arith, l, ap (λ (hs : List (List ℕ)). length hs) heads)));
@@ -163,7 +163,7 @@ module _ (sources : List SetSource) where
     }
       where
         heads : set_heads (sets ++ set ∷ []) ≡ set_heads sets ++ source.head ∷ []
-        heads = map-append (λ (s : HeadSet). s.head.items) sets (set ∷ []) ∙ ap (λ h. set_heads sets ++ h ∷ []) is
+        heads = map-append (λ (s : HeadSet). s.head) sets (set ∷ []) ∙ ap (λ h. set_heads sets ++ h ∷ []) is
 
         count : length (set_heads sets ++ source.head ∷ []) ≡ length (set_heads sets) + 1
         count = length-append (set_heads sets) (source.head ∷ [])
@@ -303,7 +303,7 @@ module _ (sources : List SetSource) (number : ℕ) (source : SetSource) (texts :
 
   pub sets-step : (head : List ℕ) (group : Option (Vec ℕ Global)) (made : Option HeadSet) (sets : List HeadSet) → head ≡ source.head
       → IfSome group (λ numbers. IsGroupOf texts number numbers.items) → (group ≡ None → IsFirstOf texts number → ⊥)
-      → IfSome made (λ set. (is_some group ≡ true) × IsHeadSetOf sources set × (set.head.items ≡ head))
+      → IfSome made (λ set. (is_some group ≡ true) × IsHeadSetOf sources set × (set.head ≡ head))
       → (made ≡ None → is_some group ≡ true → has_set_behind sources head ≡ false)
       → AreSetsSoFar sources sets number → AreSetsSoFar sources (with_made sets made) (number + 1)
   sets-step head (Some numbers) (Some set) sets own found none is out are = sets-more sources sets number are source at set is.1 (is.2 ∙ own) (first-there found.first)
@@ -321,7 +321,7 @@ few-none h sources numbers own few =
     let low : length (sources_behind h sources) < 4 = omega (arith, few, ap (λ (rs : List ℕ). length rs) own, positions-count (is_behind h) 0 sources) in
     ap (λ b. not b && not (ltb most_places (count_places (members_behind h sources)))) (lt-ltb (length (sources_behind h sources)) 4 low)
 
-pub set-made : (h : List ℕ) (sources : List SetSource) (set : HeadSet) → set.head.items ≡ h → set.numbers.items ≡ numbers_behind h sources → 4 ≤ length set.numbers.items
+pub set-made : (h : List ℕ) (sources : List SetSource) (set : HeadSet) → set.head ≡ h → set.numbers.items ≡ numbers_behind h sources → 4 ≤ length set.numbers.items
     → count_places (members_behind h sources) ≤ most_places → AreMovesOf (members_behind h sources) set.set.table.moves → IsHeadSetOf sources set
 set-made h sources set same numbers many few own =
     let four : 4 ≤ length (sources_behind h sources) = omega (arith, many, ap (λ (rs : List ℕ). length rs) numbers, positions-count (is_behind h) 0 sources) in

@@ -5,7 +5,7 @@ use Rattle.pathspec_heads.specs.Groups.{GroupedPlaces}
 use Rattle.pathspec_heads.specs.Heads.{head_at, IsChainOf}
 use Rattle.pathspec_glob_set.specs.declared.set.SetScratch.{SetScratch}
 use Rattle.gix_pathspec.specs.declared.by_head.Candidates.{Candidates}
-use Rattle.gix_pathspec.specs.declared.search.head_set.HeadSet.{HeadSet}
+use Rattle.gix_pathspec.specs.declared.by_head.head_set.HeadSet.{HeadSet}
 use Rattle.gix_pathspec.specs.declared.search.members.Members.{Members}
 use Rattle.gix_pathspec.specs.Bytes.{begins_with}
 use Rattle.gix_pathspec.specs.Beside.{ArePlacesBeside, IsUnbarred}

@@ -6,7 +6,7 @@ use Rattle.pathspec_glob_set.specs.Answers.{HasRead, KeepsReading}
 use Rattle.pathspec_glob_set.specs.Sizes.{most_losses}
 use Rattle.pathspec_glob_set.specs.Tables.{most_misses}
 use Rattle.pathspec_glob_set.specs.Sets.{AreMovesOf}
-use Rattle.gix_pathspec.specs.declared.search.head_set.HeadSet.{HeadSet}
+use Rattle.gix_pathspec.specs.declared.by_head.head_set.HeadSet.{HeadSet}
 use Rattle.gix_pathspec.specs.Bytes.{begins_with}
 use Rattle.gix_pathspec.specs.Matching.{glob_matches}
 use Rattle.gix_pathspec.specs.EndBytes.{has_wildcard_at, NeverMatches}
@@ -42,15 +42,15 @@ pub record IsUnread (set : HeadSet) : Type 0 where
 
 -- the set is that of its head
 pub record IsHeadSetOf (sources : List SetSource) (set : HeadSet) : Type 0 where
-  pub enough : has_set_behind sources set.head.items ≡ true
-  pub numbers : set.numbers.items ≡ numbers_behind set.head.items sources
-  pub own : AreMovesOf (members_behind set.head.items sources) set.set.table.moves
+  pub enough : has_set_behind sources set.head ≡ true
+  pub numbers : set.numbers.items ≡ numbers_behind set.head sources
+  pub own : AreMovesOf (members_behind set.head sources) set.set.table.moves
 
 -- The set read what stands in a path behind its head: the head begins the path, no wildcard byte stands right behind it, and the set didn't give up.
 pub record IsReadBehind (path : List ℕ) (set : HeadSet) : Type 0 where
-  pub begins : begins_with path set.head.items ≡ true
-  pub plain : has_wildcard_at path (length set.head.items) ≡ false
-  pub read : HasRead set.set (behind set.head.items path)
+  pub begins : begins_with path set.head ≡ true
+  pub plain : has_wildcard_at path (length set.head) ≡ false
+  pub read : HasRead set.set (behind set.head path)
   pub went_on : set.set.gave_up ≡ false
 
 -- Of the specs at the first so many places, none that stands at or behind a place matches.
@@ -66,12 +66,12 @@ IsGlobHit specs path place = (n : Numbered) → slice_get specs place ≡ Some n
 pub record IsNextOf (specs : List Numbered) (path : List ℕ) (from : ℕ) (set : HeadSet) : Type 0 where
   pub are : IsHeadSetOf (all_sources specs) set
   pub read : set.next < length set.numbers.items → IsReadBehind path set
-  pub ahead : NoneAhead (places_behind set.head.items specs) specs path from set.next
-  pub hit : set.next < length set.numbers.items → IsGlobHit specs path (get_or (places_behind set.head.items specs) set.next 0)
+  pub ahead : NoneAhead (places_behind set.head specs) specs path from set.next
+  pub hit : set.next < length set.numbers.items → IsGlobHit specs path (get_or (places_behind set.head specs) set.next 0)
 
 -- A question changed the member that is next, and the looks, alone.
 pub record StaysAsked (old new : HeadSet) : Type 0 where
-  pub head : new.head.items ≡ old.head.items
+  pub head : new.head ≡ old.head
   pub numbers : new.numbers.items ≡ old.numbers.items
   pub begun : new.begun ≡ old.begun
   pub steps : new.steps ≡ old.steps
@@ -79,7 +79,7 @@ pub record StaysAsked (old new : HeadSet) : Type 0 where
 
 -- A path was read, or wasn't: the set is the same.
 pub record StaysSame (old new : HeadSet) : Type 0 where
-  pub head : new.head.items ≡ old.head.items
+  pub head : new.head ≡ old.head
   pub numbers : new.numbers.items ≡ old.numbers.items
   pub moves : new.set.table.moves ≡ old.set.table.moves
 
@@ -89,14 +89,14 @@ IsLittleStepped path set = set.steps ≤ length path * (length set.set.table.mov
 
 -- The set gave up on the path: its head begins the path, no wildcard byte stands right behind it, and the scratch was spent, or eight cells of its table were filled.
 pub record IsGivenUp (path : List ℕ) (set : HeadSet) : Type 0 where
-  pub begins : begins_with path set.head.items ≡ true
-  pub plain : has_wildcard_at path (length set.head.items) ≡ false
+  pub begins : begins_with path set.head ≡ true
+  pub plain : has_wildcard_at path (length set.head) ≡ false
   pub gave_up : set.set.gave_up ≡ true
   pub reason : (set.set.losses ≡ most_losses) ⊎ (most_misses * (length set.set.table.moves.wide + 1) ≤ set.steps)
 
 -- the set rests unless its head begins the path
 abbrev pub IsIdleBeside : List ℕ → HeadSet → Type 0
-IsIdleBeside path set = begins_with path set.head.items ≡ false → IsAtRest set
+IsIdleBeside path set = begins_with path set.head ≡ false → IsAtRest set
 
 -- ---- all sets
 
@@ -112,7 +112,7 @@ pub record IsLongestOf (texts : List (List ℕ)) (path : List ℕ) (places : Gro
 
 -- the heads of sets
 abbrev pub set_heads : List HeadSet → List (List ℕ)
-set_heads sets = map (λ set. set.head.items) sets
+set_heads sets = map (λ set. set.head) sets
 
 -- no head stands twice
 abbrev pub AreApart : List (List ℕ) → Type 0

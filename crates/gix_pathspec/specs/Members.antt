@@ -7,7 +7,7 @@ use Rattle.pathspec_glob.specs.Counts.{Counts}
 use Rattle.pathspec_heads.specs.Groups.{GroupedPlaces, IsGrouped}
 use Rattle.pathspec_glob_set.specs.declared.set.SetScratch.{SetScratch}
 use Rattle.pathspec_glob_set.specs.Sets.{AreMovesOf}
-use Rattle.gix_pathspec.specs.declared.search.head_set.HeadSet.{HeadSet}
+use Rattle.gix_pathspec.specs.declared.by_head.head_set.HeadSet.{HeadSet}
 use Rattle.gix_pathspec.specs.declared.search.members.Members.{Members}
 use Rattle.gix_pathspec.specs.Beside.{ArePlacesBeside}
 use Rattle.gix_pathspec.specs.HeadSets.{set_heads, total_of, AreHeadSetsOf, IsAtRest}

@@ -25,12 +25,14 @@ ghost use Rattle.gix_pathspec.specs.Candidates.{AreCandidates, AreNext, KeepsSet
 ghost use Rattle.gix_pathspec.specs.SetCounts.{set_total, GrowsBy};
 ghost use Rattle.gix_pathspec.specs.Effort.{ArePlacesOf, candidate_count, unsettled_count, IsCounted, IsLittleCompared, IsSetCounted, is_settled_early};
 
+pub(crate) mod head_set;
+mod head_sets;
 pub(crate) mod subtree_excludes;
 
+use crate::by_head::head_set::HeadSet;
+use crate::by_head::head_sets::{ask_sets, earlier, next_of_sets, rest_sets};
 use crate::search::MatchKind;
 use crate::search::counted::{CountedHeads, CountedSpecs, SpecScratch};
-use crate::search::head_set::HeadSet;
-use crate::search::head_sets::{ask_sets, earlier, next_of_sets, rest_sets};
 use crate::search::members::Members;
 use crate::search::spec_matching::begins_with;
 use bstr::BStr;

@@ -3,8 +3,6 @@ mod compiling;
 pub(crate) mod counted;
 mod directories;
 pub(crate) mod exclude_members;
-pub(crate) mod head_set;
-pub(crate) mod head_sets;
 mod init;
 pub mod laws;
 mod matching;

@@ -1,7 +1,7 @@
 -- What a set of globs says of a text.
 use Rattle.std.proofs.Common.{◌≡◌, ℕ, ◌<◌, ◌≤◌, Bool, true, false, refl, sym, ◌∙◌, ap, subst, arith, inl, inr, List, [], length, get_or, Option, Some, None, IfSome}
 use Rattle.std.proofs.lemmas.Bool.{true≢false, cases_lt}
-use Rattle.pathspec_glob_set.specs.declared.moves.Moves.{Moves}
+use Rattle.pathspec_glob_set.specs.declared.table.moves.Moves.{Moves}
 use Rattle.pathspec_glob_set.specs.declared.member.Member.{Member}
 use Rattle.pathspec_glob_set.specs.declared.set.GlobSet.{GlobSet}
 use Rattle.pathspec_glob_set.specs.declared.table.Lead.{Lead}

@@ -10,7 +10,7 @@ use Rattle.pathspec_glob.specs.StateSets.{matches_within}
 use Rattle.pathspec_glob.specs.Bytes.{slash}
 use Rattle.pathspec_glob.specs.BitVecs.{holds}
 use Rattle.pathspec_glob.proofs.AcceptProofs.{comes, matches_within-byte}
-use Rattle.pathspec_glob_set.specs.declared.moves.Moves.{Moves}
+use Rattle.pathspec_glob_set.specs.declared.table.moves.Moves.{Moves}
 use Rattle.pathspec_glob_set.specs.declared.member.Member.{Member}
 use Rattle.pathspec_glob_set.specs.Meanings.{is_settled_by, is_wide_before, may_cut, stands, takes_before}
 use Rattle.pathspec_glob_set.specs.Rows.{is_settled}

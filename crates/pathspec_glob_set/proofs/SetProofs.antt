@@ -10,7 +10,7 @@ use Rattle.pathspec_glob.proofs.Words.{matches, may_pass_over_at}
 use Rattle.pathspec_glob.proofs.AcceptProofs.{over-next}
 use Rattle.pathspec_glob.specs.GlobCells.{further}
 use Rattle.pathspec_glob.specs.BitVecs.{holds}
-use Rattle.pathspec_glob_set.specs.declared.moves.Moves.{Moves}
+use Rattle.pathspec_glob_set.specs.declared.table.moves.Moves.{Moves}
 use Rattle.pathspec_glob_set.specs.declared.member.Member.{Member}
 use Rattle.pathspec_glob_set.specs.Meanings.{is_over_before, is_wide_before, stands, takes_before}
 use Rattle.pathspec_glob_set.specs.Rows.{taken_of, IsUncut}

@@ -6,7 +6,7 @@ use Rattle.std.proofs.Math.Nat.{mul-le-mul_right}
 use Rattle.std.proofs.lemmas.Nat.{same_from_place, mul-add-lt}
 use Rattle.pathspec_glob.specs.GlobCells.{further}
 use Rattle.pathspec_glob.specs.BitVecs.{holds}
-use Rattle.pathspec_glob_set.specs.declared.moves.Moves.{Moves}
+use Rattle.pathspec_glob_set.specs.declared.table.moves.Moves.{Moves}
 use Rattle.pathspec_glob_set.specs.Moves.{class_of, entered_by, HoldsNone, IsLost, IsSink, IsStep, LeadsNowhere, LeadsTo, takes_of}
 use Rattle.pathspec_glob_set.specs.Moves.LeadsTo.{byte, empty}
 use Rattle.pathspec_glob_set.specs.Rows.{leads_on, taken_of}

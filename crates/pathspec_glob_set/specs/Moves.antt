@@ -2,7 +2,7 @@
 use Rattle.std.specs.Prelude.{◌≡◌, ◌<◌, ℕ, Bool, false, ◌||◌, ◌&&◌, List, [], ◌∷◌, length, get_or}
 use Rattle.pathspec_glob.specs.GlobCells.{further}
 use Rattle.pathspec_glob.specs.BitVecs.{holds}
-use Rattle.pathspec_glob_set.specs.declared.moves.Moves.{Moves}
+use Rattle.pathspec_glob_set.specs.declared.table.moves.Moves.{Moves}
 use Rattle.pathspec_glob_set.specs.Rows.{leads_on, taken_of, IsUncut}
 use Rattle.pathspec_glob_set.specs.Sizes.{row_at}
 

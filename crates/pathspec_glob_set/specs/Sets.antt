@@ -3,7 +3,7 @@ use Rattle.std.specs.Prelude.{◌≡◌, ◌+◌, ◌<◌, ◌≤◌, ℕ, suc, 
 use Rattle.std.specs.List.{sum_by}
 use Rattle.pathspec_glob.specs.GlobRelation.{matches}
 use Rattle.pathspec_glob.specs.BitVecs.{holds}
-use Rattle.pathspec_glob_set.specs.declared.moves.Moves.{Moves}
+use Rattle.pathspec_glob_set.specs.declared.table.moves.Moves.{Moves}
 use Rattle.pathspec_glob_set.specs.declared.member.Member.{Member}
 use Rattle.pathspec_glob_set.specs.Meanings.{is_over_before, is_settled_by, is_wide_before, may_cut, stands, takes_before}
 use Rattle.pathspec_glob_set.specs.Moves.{takes_of}

@@ -1,6 +1,6 @@
 -- Tables of rows that texts led to, and what a question to one tells.
 use Rattle.std.specs.Prelude.{◌≡◌, ◌≢◌, ◌+◌, ◌*◌, ◌<◌, ◌≤◌, ◌++◌, ℕ, Bool, true, false, List, [], ◌∷◌, length, get_or, set, Option, Some, None}
-use Rattle.pathspec_glob_set.specs.declared.moves.Moves.{Moves}
+use Rattle.pathspec_glob_set.specs.declared.table.moves.Moves.{Moves}
 use Rattle.pathspec_glob_set.specs.declared.table.Table.{Table}
 use Rattle.pathspec_glob_set.specs.declared.table.Lead.{Lead}
 use Rattle.pathspec_glob_set.specs.declared.table.Lead.TheVariants.{Row, Nowhere, Unknown}

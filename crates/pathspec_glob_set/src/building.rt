@@ -8,8 +8,8 @@ ghost use Rattle.pathspec_glob_set.specs.Tables.{nowhere};
 use crate::borders::borders_of;
 use crate::columns::{Question, column, ends_of, place_of, places_of};
 use crate::member::Member;
-use crate::moves::Moves;
-use crate::row;
+use crate::table::moves::Moves;
+use crate::table::row;
 use pathspec_glob::BitVec;
 use std::alloc::{AllocError, Global};
 

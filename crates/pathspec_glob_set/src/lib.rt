@@ -5,8 +5,6 @@ mod borders;
 mod building;
 mod columns;
 mod member;
-mod moves;
-mod row;
 mod set;
 mod table;
 mod walk;

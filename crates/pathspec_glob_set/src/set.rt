@@ -9,7 +9,7 @@ ghost use Rattle.pathspec_glob_set.specs.Sets.{count_places};
 
 use crate::building::{are_few, moves_of, rows_for};
 use crate::member::Member;
-use crate::moves::Moves;
+use crate::table::moves::Moves;
 use crate::table::{Lead, Table};
 use std::alloc::{AllocError, Global};
 

@@ -5,7 +5,10 @@ ghost use Rattle.pathspec_glob_set.specs.Moves.{takes_of, IsSink, IsStep};
 ghost use Rattle.pathspec_glob_set.specs.Sizes.{row_at, AreLooks, IsFirst};
 ghost use Rattle.pathspec_glob_set.specs.Tables.{nowhere, unknown, AddsSpare, BeginsText, ClearsWhenFull, Counts, IsKnown, IsNewTable, IsSameButSinks, IsSpare, IsTable, KeepsRoom, Leads};
 
-use crate::moves::Moves;
+pub mod moves;
+pub mod row;
+
+use crate::table::moves::Moves;
 use pathspec_glob::BitVec;
 use std::alloc::{AllocError, Global};
 

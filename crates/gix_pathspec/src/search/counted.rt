@@ -67,6 +67,20 @@ impl Model for CountedHeads {
     ghost view = { λ h. h.all };
 }
 
+/// The head of a set. A match can take its length alone, so it compares none beside the search for heads.
+#[derive(Drop)]
+pub(crate) struct SetHead {
+    bytes: Vec<u8>,
+}
+
+impl Model for SetHead {
+    ghost use Rattle.std.specs.Prelude.{List, ℕ};
+
+    ghost Value = { List ℕ };
+
+    ghost view = { λ h. h.bytes.items };
+}
+
 /// The room that questions to specs write: that of their globs, an outcome for each spec, and a count that is never set back.
 #[derive(Drop)]
 pub(crate) struct SpecScratch {
@@ -239,6 +253,29 @@ impl CountedHeads {
             from result }
     {
         self.all.next_place(head, from)
+    }
+}
+
+impl SetHead {
+    /// Wraps the head of a set.
+    pub(super) fn new(bytes: Vec<u8>) -> SetHead
+        ensures { result ≡ bytes.items }
+    {
+        SetHead { bytes }
+    }
+
+    /// The length of the head, in bytes.
+    pub(crate) fn len(&self) -> usize
+        ensures { result ≡ length self.now }
+    {
+        self.bytes.len()
+    }
+
+    /// The head, to read. A match can't call this.
+    pub(super) fn as_slice(&self) -> &[u8]
+        ensures { result.now ≡ self.now }
+    {
+        &self.bytes
     }
 }
 

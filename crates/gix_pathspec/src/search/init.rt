@@ -27,16 +27,15 @@ ghost use Rattle.gix_pathspec.specs.Reading.{reading};
 ghost use Rattle.gix_pathspec.specs.Lines.{numbered_of_lines, search_of_lines};
 
 use crate::by_head::SpecsByHead;
+use crate::by_head::head_set::HeadSet;
 use crate::by_head::subtree_excludes::ExcludesByHead;
 use crate::search::compiling::{compile, compile_all, compile_lines};
 use crate::search::counted::{CountedExcludes, CountedHeads, CountedSpecs};
 use crate::search::exclude_members::ExcludeMembers;
-use crate::search::head_set::HeadSet;
-use crate::search::head_sets::has_head;
 use crate::search::matching::boxed_scratch;
 use crate::search::members::{Members, has_set};
 use crate::search::reach::Reach;
-use crate::search::set_building::{sets_of_heads, slices};
+use crate::search::set_building::{has_head, sets_of_heads, slices};
 use crate::search::set_sources::source_places;
 use crate::search::spec::CompiledSpec;
 use crate::search::subtree_excludes::excludes_with_heads;

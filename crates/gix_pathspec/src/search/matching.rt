@@ -21,9 +21,9 @@ ghost use Rattle.std.specs.Box.{box_value};
 
 use crate::Pattern;
 use crate::by_head::SpecsByHead;
+use crate::by_head::head_set::HeadSet;
 use crate::by_head::subtree_excludes::ExcludesByHead;
 use crate::search::counted::SpecScratch;
-use crate::search::head_set::HeadSet;
 use crate::search::set_building::{sets_by_head, sets_of_heads};
 use crate::search::{MatchKind, Scratch, Search};
 use bstr::BStr;

@@ -7,10 +7,10 @@ ghost use Rattle.pathspec_heads.specs.Heads.{IsChainOf};
 ghost use Rattle.gix_pathspec.specs.Bytes.{begins_with, is_empty};
 ghost use Rattle.gix_pathspec.specs.Effort.{ArePlacesOf};
 ghost use Rattle.gix_pathspec.specs.HeadSets.{set_heads, AreHeadSetsOf, IsHeadSetOf, IsUnread};
-ghost use Rattle.gix_pathspec.specs.SetSources.{all_sources, ArePlain, ended_heads, has_set_behind, IsFirstOf, IsGroupOf, members_behind, numbers_behind, positions_from};
+ghost use Rattle.gix_pathspec.specs.SetSources.{all_sources, ArePlain, ended_heads, has_set_behind, IsFirstOf, IsGroupOf, members_behind, numbers_behind, positions_from, SetSource};
 
-use crate::search::counted::CountedHeads;
-use crate::search::head_set::HeadSet;
+use crate::by_head::head_set::HeadSet;
+use crate::search::counted::{CountedHeads, SetHead};
 use crate::search::members::room_for;
 use crate::search::set_sources::{HeadedMember, ended_heads, headed_members};
 use crate::search::spec::CompiledSpec;
@@ -52,7 +52,7 @@ pub(super) fn sets_by_head(alloc: Global, sets: &[HeadSet]) -> Result<CountedHea
 {
     let mut heads = Vec::with_capacity(alloc, sets.len())?;
     for set in sets {
-        heads.push(set.head())?;
+        heads.push(set.head().as_slice())?;
     }
     Ok(CountedHeads::new(PlacesByHead::new(alloc, &heads)?))
 }
@@ -172,7 +172,7 @@ fn set_of_group(
 ) -> Result<Option<HeadSet>, AllocError>
     requires { IfSome group (λ numbers. numbers.items ≡ numbers_behind head.now sources.now) }
     ensures made { IfOk result (λ made. IfSome made (λ set. (is_some group ≡ true)
-        × IsHeadSetOf sources.now set × (set.head.items ≡ head.now))) }
+        × IsHeadSetOf sources.now set × (set.head ≡ head.now))) }
     ensures none { IfOk result (λ made. made ≡ None → is_some group ≡ true
         → has_set_behind sources.now head.now ≡ false) }
     ensures unread { IfOk result (λ made. IfSome made IsUnread) }
@@ -195,7 +195,7 @@ fn set_of(
 ) -> Result<Option<HeadSet>, AllocError>
     requires { numbers.items ≡ numbers_behind head.now sources.now }
     ensures made { IfOk result (λ made. IfSome made (λ set.
-        IsHeadSetOf sources.now set × (set.head.items ≡ head.now))) }
+        IsHeadSetOf sources.now set × (set.head ≡ head.now))) }
     ensures none { IfOk result (λ made. made ≡ None
         → has_set_behind sources.now head.now ≡ false) }
     ensures unread { IfOk result (λ made. IfSome made IsUnread) }
@@ -207,7 +207,7 @@ fn set_of(
     let Some(set) = GlobSet::new(alloc, &globs)? else {
         return Ok(None);
     };
-    let head = Vec::from_slice(alloc, head)?;
+    let head = SetHead::new(Vec::from_slice(alloc, head)?);
     let scratch = set.new_scratch(alloc, room_for(numbers.len(), sources.len()))?;
     Ok(Some(HeadSet::new(head, numbers, scratch)))
 }
@@ -231,4 +231,17 @@ fn globs_of(
         globs.push(sources[*number].behind_head(alloc)?)?;
     }
     Ok(globs)
+}
+
+/// Whether one of the sets has this head.
+pub(super) fn has_head(sets: &[HeadSet], head: &[u8]) -> bool
+    ensures { (sources : List SetSource) → AreHeadSetsOf sources sets.now
+        → result ≡ has_set_behind sources head.now }
+{
+    for set in sets {
+        if set.head().as_slice() == head {
+            return true;
+        }
+    }
+    false
 }

@@ -320,7 +320,7 @@ fn last_of(path: &[u8]) -> u8
 
 /// Whether a wildcard byte stands in a path at a place.
 #[inline(always)]
-pub(super) fn has_wildcard_at(path: &[u8], at: usize) -> bool
+pub(crate) fn has_wildcard_at(path: &[u8], at: usize) -> bool
     ensures { result ≡ has_wildcard_at path.now at }
 {
     match path.get(at) {

@@ -8,7 +8,7 @@ use Rattle.std.proofs.lemmas.List.{length-map}
 use Rattle.bstr.specs.BStr.{bstr_bytes}
 use Rattle.pathspec_glob.specs.Counts.{Counts}
 use Rattle.pathspec_heads.specs.Groups.{IsGrouped}
-use Rattle.gix_pathspec.specs.declared.search.head_set.HeadSet.{HeadSet}
+use Rattle.gix_pathspec.specs.declared.by_head.head_set.HeadSet.{HeadSet}
 use Rattle.gix_pathspec.specs.Beside.{head_beside}
 use Rattle.gix_pathspec.specs.Bytes.{begins_with}
 use Rattle.gix_pathspec.specs.EndBytes.{has_wildcard_at}
@@ -134,7 +134,7 @@ returns-clause-by_set g c =
     let total = (c.scratch.inside.stepped + effort) % 2 ^ 128 in
     let counted : Counts c.scratch.inside.stepped effort total = mod-mod (c.scratch.inside.stepped + effort) (2 ^ 128) in
     let few : steps ≤ sum_by (most_effort path) last = subst (λ t. steps ≤ sum_by (most_effort t) last) c.as_bytes-bytes.ensures (c.rest_sets-steps.ensures.few (kept.few bytes asked.ensures.few)) in
-    let size : length (set_heads given) ≡ length last = sym (ap (λ (hs : List (List ℕ)). length hs) (kept.heads ∙ asked.ensures.heads)) ∙ length-map last (λ (s : HeadSet). s.head.items) in
+    let size : length (set_heads given) ≡ length last = sym (ap (λ (hs : List (List ℕ)). length hs) (kept.heads ∙ asked.ensures.heads)) ∙ length-map last (λ (s : HeadSet). s.head) in
     let seldom = few-compared (set_heads given) places.heads compared grouped.few c.longest_head_of-begun.ensures.cost c.longest_head_of-begun.ensures.none in
     let all = few-efforts specs path last steps compared (kept.own (head_set_sources specs) own.2) few (omega (arith, seldom.0, size)) (λ e. seldom.1 (omega (arith, e, size))) in
     record {
@@ -150,10 +150,10 @@ returns-clause-by_set g c =
           let which = given.1 in
           let its : IsHeadSetOf (all_sources specs) which.1 = set-at (IsHeadSetOf (all_sources specs)) asked.new.sets which.0 which.1 own.1.each which.2 in
           record {
-            head = which.1.head.items;
+            head = which.1.head;
             enough = its.enough;
-            begins = subst (λ t. begins_with t which.1.head.items ≡ true) c.as_bytes-bytes.ensures which.3.begins;
-            plain = subst (λ t. has_wildcard_at t (length which.1.head.items) ≡ false) c.as_bytes-bytes.ensures which.3.plain;
+            begins = subst (λ t. begins_with t which.1.head ≡ true) c.as_bytes-bytes.ensures which.3.begins;
+            plain = subst (λ t. has_wildcard_at t (length which.1.head) ≡ false) c.as_bytes-bytes.ensures which.3.plain;
             late = c.requires.late;
             silent = c.is_some.ensures ∙ c.told_members-members.ensures.told ∙ ap (λ b. b && is_some c.args.members) given.0;
           };

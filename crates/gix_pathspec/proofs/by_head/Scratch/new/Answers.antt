@@ -3,7 +3,7 @@ use Rattle.std.proofs.Common.{◌≡◌, ◌+◌, refl, sym, subst, arith}
 use Rattle.std.specs.List.{sum_by}
 use Rattle.std.proofs.lemmas.List.Elements.{All-weaker}
 use Rattle.pathspec_glob.specs.Counts.{Counts}
-use Rattle.gix_pathspec.specs.declared.search.head_set.HeadSet.{HeadSet}
+use Rattle.gix_pathspec.specs.declared.by_head.head_set.HeadSet.{HeadSet}
 use Rattle.gix_pathspec.specs.HeadSets.{total_of, IsAtRest, IsUnread}
 use Rattle.gix_pathspec.proofs.HeadCountsProofs.{unread-total}
 use Rattle.gix_pathspec.proofs.by_head.Scratch.new.Goals as goal

@@ -3,7 +3,7 @@ use Rattle.std.proofs.Common.{◌≡◌, ◌∙◌, Bool, ℕ, true, false, refl
 use Rattle.std.specs.Box.{box_value}
 use Rattle.std.proofs.lemmas.Bool.{both_ways, eq-eqb, eqb-true}
 use Rattle.pathspec_heads.specs.Groups.{IsGrouped}
-use Rattle.gix_pathspec.specs.declared.search.head_set.HeadSet.{HeadSet}
+use Rattle.gix_pathspec.specs.declared.by_head.head_set.HeadSet.{HeadSet}
 use Rattle.gix_pathspec.specs.Beside.{head_beside, ArePlacesBeside}
 use Rattle.gix_pathspec.specs.HeadSets.{AreHeadSetsOf}
 use Rattle.gix_pathspec.specs.Members.{AreMembersOf}

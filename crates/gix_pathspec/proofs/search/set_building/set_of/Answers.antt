@@ -32,7 +32,7 @@ returns-clause-made c =
     let of = subst (λ gs. IsSetOf gs c.in-Some.set) same (subst (λ o. IfSome o (IsSetOf c.deref-2.result.now)) c.in-Some.is c.in_ok-set.ensures.set) in
     let own = alike-moves globs c.in_ok-scratch.scratch.table.moves c.in-Some.set.moves c.in_ok-scratch.ensures.alike of in
     let few = subst (λ gs. count_places gs ≤ most_places) same (c.in_ok-set.ensures.few (ap is_some c.in-Some.is)) in
-    let head = ap (λ v. v.items) c.new-2.ensures.head ∙ c.in_ok-head.ensures.items in
+    let head = c.new-2.ensures.head ∙ c.new-head.ensures ∙ c.in_ok-from_slice.ensures.items in
     let numbers = ap (λ v. v.items) c.new-2.ensures.numbers ∙ c.requires in
     (set-made h sources c.new-2.result head numbers (subst (λ (rs : List ℕ). 4 ≤ length rs) (sym (ap (λ v. v.items) c.new-2.ensures.numbers)) many) few (subst (λ s. AreMovesOf globs s.table.moves) (sym c.new-2.ensures.set) own), head)
 

@@ -1,0 +1,9 @@
+use Rattle.std.proofs.Common.{◌≡◌, ℕ, ◌≤◌, length}
+use Rattle.pathspec_glob.specs.BitVecs.{holds}
+use Rattle.pathspec_glob_set.proofs.table.row.forget.Given as goal
+
+abbrev pub invariant-loop-place : goal.invariant-loop-place
+invariant-loop-place l = record {
+  kept : (i : ℕ) → i ≤ l.last → holds l.row i ≡ holds l.fn.row i;
+  len : length l.row ≡ length l.fn.row;
+}
