@@ -12,7 +12,7 @@ use Rattle.pathspec_glob_set.specs.Moves.LeadsTo.{byte, empty}
 use Rattle.pathspec_glob_set.specs.Rows.{leads_on, taken_of}
 use Rattle.pathspec_glob_set.specs.Sizes.{row_at, IsFirst}
 use Rattle.pathspec_glob_set.specs.declared.table.Table.{Table}
-use Rattle.pathspec_glob_set.specs.Tables.{cell_of, most_misses, nowhere, row_of, unknown, AddsSpare, AreCells, AreFewSteps, AreRows, AreSinks, BeginsText, ClearsWhenFull, Counts, IsRight, IsTable}
+use Rattle.pathspec_glob_set.specs.Tables.{cell_of, most_misses, nowhere, row_of, unknown, AddsSpare, AreCells, AreFewSteps, AreRows, AreSinks, BeginsText, ClearsWhenFull, CountsSteps, IsRight, IsTable}
 
 -- ---- rows
 
@@ -319,7 +319,7 @@ few-for_more places some more table low few = record {
 }
 
 -- the steps of a byte more
-pub few-more : (places bytes : ℕ) (old new : Table) → length old.moves.wide ≡ places → new.misses ≤ most_misses → Counts 1 old new → AreFewSteps places bytes old → AreFewSteps places (bytes + 1) new
+pub few-more : (places bytes : ℕ) (old new : Table) → length old.moves.wide ≡ places → new.misses ≤ most_misses → CountsSteps 1 old new → AreFewSteps places bytes old → AreFewSteps places (bytes + 1) new
 few-more places bytes old new e most counted few = record {
   filled = filled;
   few = most;
@@ -431,6 +431,6 @@ pub clears-begun : (old new : Table) → BeginsText new → ClearsWhenFull 0 old
 clears-begun old new begun clears = subst (λ k. ClearsWhenFull k old new) (sym begun.misses) clears
 
 -- a byte more
-pub clears-on : (before old new : Table) → length old.rows.items ≡ length before.rows.items → Counts 1 old new → ClearsWhenFull (new.misses - old.misses) old new
+pub clears-on : (before old new : Table) → length old.rows.items ≡ length before.rows.items → CountsSteps 1 old new → ClearsWhenFull (new.misses - old.misses) old new
     → ClearsWhenFull old.misses before old → ClearsWhenFull new.misses before new
 clears-on before old new room counted clears was = clears-more old.misses (new.misses - old.misses) new.misses before old new (omega (arith, counted.rises)) room was clears

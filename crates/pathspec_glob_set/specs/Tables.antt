@@ -126,7 +126,7 @@ abbrev pub IsSpare : Table → ℕ → Type 0
 IsSpare table r = (r < table.used) × (row_of table r ≡ table.spare)
 
 -- so many steps and those of the cells that were filled are counted: all places and one more for each
-pub record Counts (asked : ℕ) (old new : Table) : Type 0 where
+pub record CountsSteps (asked : ℕ) (old new : Table) : Type 0 where
   pub steps : new.steps + old.misses * (length old.moves.wide + 1) ≡ old.steps + asked + new.misses * (length old.moves.wide + 1)
   pub rises : old.misses ≤ new.misses
   pub one : new.misses ≤ old.misses + 1

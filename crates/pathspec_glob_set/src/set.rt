@@ -10,6 +10,7 @@ ghost use Rattle.pathspec_glob_set.specs.Sets.{count_places};
 use crate::building::{are_few, moves_of, rows_for};
 use crate::member::Member;
 use crate::table::moves::Moves;
+use crate::table::total::Total;
 use crate::table::{Lead, Table};
 use std::alloc::{AllocError, Global};
 
@@ -36,7 +37,7 @@ pub struct SetScratch {
     /// The globs that the last question looked at.
     looks: usize,
     /// The steps and looks of all searches, modulo 2^128.
-    total: u128,
+    total: Total,
     ghost right: { IsTable table },
     ghost few: { losses ≤ most_losses },
     ghost in_use: { IsInUse table lead },
@@ -83,13 +84,14 @@ impl GlobSet {
     {
         let moves = self.moves.copy(alloc)?;
         let rows = rows_for(&moves, room);
+        let (table, total) = Table::new(alloc, moves, rows)?;
         Ok(SetScratch {
-            table: Table::new(alloc, moves, rows)?,
+            table,
             lead: Lead::Row(0),
             gave_up: false,
             losses: 0,
             looks: 0,
-            total: 0,
+            total,
         })
     }
 
@@ -159,7 +161,7 @@ impl SetScratch {
     pub fn total_steps(&self) -> u128
         ensures { result ≡ self.now.total }
     {
-        self.total
+        self.total.count()
     }
 
     /// Reads a text for questions by [`SetScratch::next_of`]: finds where it leads, unless the scratch is spent.
@@ -211,7 +213,7 @@ impl SetScratch {
             return;
         }
         let lead = self.table.walk(text, behind);
-        self.total = self.total.wrapping_add(self.table.steps());
+        self.total.add_steps(&self.table);
         self.gave_up = is_unknown(lead);
         self.lead = lead;
         if !self.gave_up {
@@ -235,10 +237,7 @@ impl SetScratch {
         ensures total { CountsLooks (set_in self.old) from result 0 self.old self.new }
         ensures kept { KeepsReading self.old self.new }
     {
-        let mut looks = 0;
-        let found = self.first_from(from, &mut looks);
-        self.looks = looks;
-        self.total = self.total.wrapping_add(looks as u128);
+        let found = self.first_from(from);
         if found < self.len() {
             Some(found)
         } else {
@@ -254,16 +253,21 @@ impl SetScratch {
     }
 
     /// The first glob from a number on that matches the text that was read last, or the count of globs.
-    fn first_from(&self, from: usize, looks: &mut usize) -> usize
-        requires from { from ≤ length self.now.table.moves.ends.items }
-        requires none { looks.old ≡ 0 }
-        ensures found { (text : List ℕ) → HasRead self.now text
-            → IsFound (set_in self.now) text from self.now.lead result }
+    fn first_from(&mut self, from: usize) -> usize
+        requires from { from ≤ length self.old.table.moves.ends.items }
+        ensures found { (text : List ℕ) → HasRead self.old text
+            → IsFound (set_in self.old) text from self.old.lead result }
         ensures behind { from ≤ result }
-        ensures looks { AreLooks (length self.now.table.moves.ends.items) from result looks.new }
+        ensures looks { AreLooks (length self.old.table.moves.ends.items)
+            from result self.new.looks }
+        ensures total { Counts self.old.total self.new.looks self.new.total }
+        ensures kept { KeepsReading self.old self.new }
     {
+        self.looks = 0;
         match self.lead {
-            Lead::Row(row) => self.table.first_of(row, from, looks),
+            Lead::Row(row) => self
+                .table
+                .first_of(row, from, &mut self.looks, &mut self.total),
             Lead::Nowhere => self.len(),
             Lead::Unknown => from,
         }

@@ -1,14 +1,17 @@
 //! Rows that texts led to, with a cell for each class of bytes: where it leads, once that was asked.
 ghost use Rattle.std.specs.Prelude.{◌≡◌, ◌+◌, ◌*◌, ◌-◌, ◌<◌, ◌≤◌, ◌^◌, ℕ, false, length, get_or, set, replicate, IfOk, IfSome, IsTrue};
 ghost use Rattle.pathspec_glob.specs.BitVecs.{holds};
+ghost use Rattle.pathspec_glob.specs.Counts.{Counts};
 ghost use Rattle.pathspec_glob_set.specs.Moves.{takes_of, IsSink, IsStep};
 ghost use Rattle.pathspec_glob_set.specs.Sizes.{row_at, AreLooks, IsFirst};
-ghost use Rattle.pathspec_glob_set.specs.Tables.{nowhere, unknown, AddsSpare, BeginsText, ClearsWhenFull, Counts, IsKnown, IsNewTable, IsSameButSinks, IsSpare, IsTable, KeepsRoom, Leads};
+ghost use Rattle.pathspec_glob_set.specs.Tables.{nowhere, unknown, AddsSpare, BeginsText, ClearsWhenFull, CountsSteps, IsKnown, IsNewTable, IsSameButSinks, IsSpare, IsTable, KeepsRoom, Leads};
 
 pub mod moves;
 pub mod row;
+pub mod total;
 
 use crate::table::moves::Moves;
+use crate::table::total::Total;
 use pathspec_glob::BitVec;
 use std::alloc::{AllocError, Global};
 
@@ -61,16 +64,17 @@ pub struct Table {
 }
 
 impl Table {
-    /// Makes a table of `count` rows, of which one is in use. Nothing else of it takes memory later.
+    /// Makes a table of `count` rows, of which one is in use, and a total of 0. Nothing else of it takes memory later.
     ///
     /// # Errors
     /// Memory runs out.
-    pub fn new(alloc: Global, moves: Moves, count: usize) -> Result<Table, AllocError>
+    pub fn new(alloc: Global, moves: Moves, count: usize) -> Result<(Table, Total), AllocError>
         requires many { 2 ≤ count }
         requires few { count ≤ nowhere }
-        ensures table { IfOk result IsTable }
-        ensures new { IfOk result (IsNewTable count) }
-        ensures moves { IfOk result (λ table. table.moves ≡ moves) }
+        ensures table { IfOk result (λ made. IsTable made.0) }
+        ensures new { IfOk result (λ made. IsNewTable count made.0) }
+        ensures moves { IfOk result (λ made. made.0.moves ≡ moves) }
+        ensures total { IfOk result (λ made. made.1 ≡ 0) }
     {
         let rows = copies_of(alloc, &moves.start, count)?;
         let spare = moves.start.copy(alloc)?;
@@ -82,7 +86,7 @@ impl Table {
         let cells = vec![in alloc; UNKNOWN; size]?;
         let sinks = vec![in alloc; false; count]?;
         let index = vec![in alloc; UNKNOWN; 2 * count]?;
-        Ok(Table {
+        let table = Table {
             moves,
             rows,
             firsts,
@@ -94,7 +98,8 @@ impl Table {
             misses: 0,
             cleared: false,
             steps: 0,
-        })
+        };
+        Ok((table, Total::zero()))
     }
 
     /// How bytes lead from one row to another.
@@ -139,7 +144,7 @@ impl Table {
         ensures table { IsTable self.new }
         ensures leads { Leads (takes_of self.old.moves byte) (row_at self.old.rows.items row)
             self.new result }
-        ensures counted { Counts 1 self.old self.new }
+        ensures counted { CountsSteps 1 self.old self.new }
         ensures room { KeepsRoom self.old self.new }
         ensures cleared { ClearsWhenFull (self.new.misses - self.old.misses) self.old self.new }
     {
@@ -178,9 +183,9 @@ impl Table {
         row * self.moves.width() + class
     }
 
-    /// The first glob from one on that a text matches which leads to a row, or the count of globs. `looks` counts the globs that are
-    /// looked at; the first of all is written with the row.
-    pub fn first_of(&self, row: usize, from: usize, looks: &mut usize) -> usize
+    /// The first glob from one on that a text matches which leads to a row, or the count of globs. `looks` and `total` count the
+    /// globs that are looked at; the first of all is written with the row.
+    pub fn first_of(&self, row: usize, from: usize, looks: &mut usize, total: &mut Total) -> usize
         requires table { IsTable self.now }
         requires row { row < self.now.used }
         requires from { from ≤ length self.now.moves.ends.items }
@@ -188,13 +193,14 @@ impl Table {
         ensures first { IsFirst self.now.moves.ends.items (row_at self.now.rows.items row)
             from result }
         ensures looks { AreLooks (length self.now.moves.ends.items) from result looks.new }
+        ensures total { Counts total.old looks.new total.new }
     {
         let first = self.firsts[row];
         if from <= first {
             return first;
         }
         for glob in from..self.moves.ends.len() {
-            if self.is_at_end(row, glob, looks) {
+            if self.is_at_end(row, glob, looks, total) {
                 return glob;
             }
         }
@@ -202,7 +208,7 @@ impl Table {
     }
 
     /// Whether a text that leads to a row matches a glob. The call counts a look.
-    fn is_at_end(&self, row: usize, glob: usize, looks: &mut usize) -> bool
+    fn is_at_end(&self, row: usize, glob: usize, looks: &mut usize, total: &mut Total) -> bool
         requires table { IsTable self.now }
         requires row { row < self.now.used }
         requires glob { glob < length self.now.moves.ends.items }
@@ -210,8 +216,10 @@ impl Table {
         ensures holds { result ≡ holds (row_at self.now.rows.items row)
             (get_or self.now.moves.ends.items glob 0) }
         ensures looks { looks.new ≡ looks.old + 1 }
+        ensures total { Counts total.old 1 total.new }
     {
         *looks += 1;
+        total.add_look();
         self.rows[row].holds(self.moves.ends[glob])
     }
 
@@ -225,7 +233,7 @@ impl Table {
         ensures table { IsTable self.new }
         ensures leads { Leads (row_at self.old.moves.takes.items class)
             (row_at self.old.rows.items row) self.new result }
-        ensures counted { Counts 0 self.old self.new }
+        ensures counted { CountsSteps 0 self.old self.new }
         ensures room { KeepsRoom self.old self.new }
         ensures cleared { ClearsWhenFull (self.new.misses - self.old.misses) self.old self.new }
     {
