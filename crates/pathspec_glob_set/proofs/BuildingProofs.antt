@@ -5,7 +5,7 @@ use Rattle.std.proofs.lemmas.List.{get_or_default, get_or_append_left, get_or_pu
 use Rattle.std.proofs.lemmas.List.Sums.{sum_by_more}
 use Rattle.std.specs.List.{sum_by}
 use Rattle.pathspec_glob_set.specs.declared.member.Member.{Member}
-use Rattle.pathspec_glob_set.specs.declared.building.Classes.{Classes}
+use Rattle.pathspec_glob_set.specs.declared.table.building.Classes.{Classes}
 use Rattle.pathspec_glob_set.specs.Meanings.{takes_before}
 use Rattle.pathspec_glob_set.specs.Questions.{AddsClass, AreClasses, AreTakenAlike}
 use Rattle.pathspec_glob_set.specs.Sets.{count_places, size_of, AreEnds, IsAt, IsColumn}

@@ -4,7 +4,7 @@ use Rattle.pathspec_glob_set.specs.declared.columns.Question.{Question}
 use Rattle.pathspec_glob_set.specs.declared.columns.Question.TheVariants.{Wide, Over, Takes, Behind, Cuts}
 use Rattle.pathspec_glob_set.specs.declared.member.Member.{Member}
 use Rattle.pathspec_glob_set.specs.Meanings.{is_over_before, is_wide_before, may_cut, takes_before}
-use Rattle.pathspec_glob_set.specs.declared.building.Classes.{Classes}
+use Rattle.pathspec_glob_set.specs.declared.table.building.Classes.{Classes}
 use Rattle.pathspec_glob_set.specs.Sizes.{row_at}
 use Rattle.pathspec_glob_set.specs.Sets.{size_of, IsAt, IsColumn}
 

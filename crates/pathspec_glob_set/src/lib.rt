@@ -2,7 +2,6 @@
 #![tactic(auto)]
 
 mod borders;
-mod building;
 mod columns;
 mod member;
 mod set;

@@ -7,8 +7,8 @@ ghost use Rattle.pathspec_glob_set.specs.Tables.{is_unknown, text_with, AreFewSt
 ghost use Rattle.pathspec_glob_set.specs.Sizes.{most_losses, most_places, AreLooks};
 ghost use Rattle.pathspec_glob_set.specs.Sets.{count_places};
 
-use crate::building::{are_few, moves_of, rows_for};
 use crate::member::Member;
+use crate::table::building::{are_few, moves_of, rows_for};
 use crate::table::moves::Moves;
 use crate::table::total::Total;
 use crate::table::{Lead, Table};
@@ -69,7 +69,7 @@ impl GlobSet {
     pub fn len(&self) -> usize
         ensures { result ≡ length self.now.moves.ends.items }
     {
-        self.moves.ends.len()
+        self.moves.globs()
     }
 
     /// Makes room to search the set in, of 1,024 rows, or 4,096 where it has 64 globs or more, but 60 for each star behind the front
@@ -99,7 +99,7 @@ impl GlobSet {
     pub fn fits(&self, scratch: &SetScratch) -> bool
         ensures { IsTrue result → AreAlike scratch.now.table.moves self.now.moves }
     {
-        scratch.table.moves().is_same(&self.moves)
+        scratch.table.is_of(&self.moves)
     }
 
     /// The first glob from a number on that matches a text, if no glob before it cuts and matches. A search that gives up leaves
@@ -249,7 +249,7 @@ impl SetScratch {
     pub fn len(&self) -> usize
         ensures { result ≡ length self.now.table.moves.ends.items }
     {
-        self.table.moves().ends.len()
+        self.table.globs()
     }
 
     /// The first glob from a number on that matches the text that was read last, or the count of globs.

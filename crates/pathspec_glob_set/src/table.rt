@@ -2,10 +2,11 @@
 ghost use Rattle.std.specs.Prelude.{◌≡◌, ◌+◌, ◌*◌, ◌-◌, ◌<◌, ◌≤◌, ◌^◌, ℕ, false, length, get_or, set, replicate, IfOk, IfSome, IsTrue};
 ghost use Rattle.pathspec_glob.specs.BitVecs.{holds};
 ghost use Rattle.pathspec_glob.specs.Counts.{Counts};
-ghost use Rattle.pathspec_glob_set.specs.Moves.{takes_of, IsSink, IsStep};
+ghost use Rattle.pathspec_glob_set.specs.Moves.{takes_of, AreAlike, IsSink, IsStep};
 ghost use Rattle.pathspec_glob_set.specs.Sizes.{row_at, AreLooks, IsFirst};
 ghost use Rattle.pathspec_glob_set.specs.Tables.{nowhere, unknown, AddsSpare, BeginsText, ClearsWhenFull, CountsSteps, IsKnown, IsNewTable, IsSameButSinks, IsSpare, IsTable, KeepsRoom, Leads};
 
+pub mod building;
 pub mod moves;
 pub mod row;
 pub mod total;
@@ -102,11 +103,18 @@ impl Table {
         Ok((table, Total::zero()))
     }
 
-    /// How bytes lead from one row to another.
-    pub fn moves(&self) -> &Moves
-        ensures { result.now ≡ self.now.moves }
+    /// The count of globs.
+    pub fn globs(&self) -> usize
+        ensures { result ≡ length self.now.moves.ends.items }
     {
-        &self.moves
+        self.moves.globs()
+    }
+
+    /// Whether the table is one of these moves. One of a copy is, and another may be said not to be.
+    pub fn is_of(&self, moves: &Moves) -> bool
+        ensures { IsTrue result → AreAlike self.now.moves moves.now }
+    {
+        self.moves.is_same(moves)
     }
 
     /// The steps of this text.

@@ -11,19 +11,19 @@ use std::alloc::{AllocError, Global};
 #[derive(Drop)]
 pub struct Moves {
     /// The places whose next token takes any number of bytes.
-    pub(crate) wide: BitVec,
+    pub(super) wide: BitVec,
     /// The places whose next two tokens may stand for nothing.
-    pub(crate) over: BitVec,
+    pub(super) over: BitVec,
     /// The places at which a glob that cuts matches whatever stands before.
-    pub(crate) cuts: BitVec,
+    pub(super) cuts: BitVec,
     /// The row of the empty text.
-    pub(crate) start: BitVec,
+    pub(super) start: BitVec,
     /// The class of each byte. Bytes of a class are taken by the same tokens.
-    pub(crate) classes: [u8; 256],
+    pub(super) classes: [u8; 256],
     /// For each class, the places whose next token takes its bytes.
-    pub(crate) takes: Vec<BitVec>,
+    pub(super) takes: Vec<BitVec>,
     /// The last place of each glob.
-    pub(crate) ends: Vec<usize>,
+    pub(super) ends: Vec<usize>,
     ghost sizes: { HaveSizes over cuts start wide classes takes.items ends.items },
 }
 
@@ -35,6 +35,13 @@ impl Moves {
         ensures { result ≡ length self.now.wide }
     {
         self.wide.len()
+    }
+
+    /// The count of globs.
+    pub fn globs(&self) -> usize
+        ensures { result ≡ length self.now.ends.items }
+    {
+        self.ends.len()
     }
 
     /// The count of classes of bytes.

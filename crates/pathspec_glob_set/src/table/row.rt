@@ -7,7 +7,7 @@ ghost use Rattle.pathspec_glob_set.specs.Rows.{is_settled, leads_on, taken_of, I
 use pathspec_glob::BitVec;
 
 /// Adds to a row all places that its own lead to without a byte.
-pub(crate) fn close(row: &mut BitVec, wide: &BitVec, over: &BitVec)
+pub(super) fn close(row: &mut BitVec, wide: &BitVec, over: &BitVec)
     requires wide { length wide.now ≡ length row.old }
     requires over { length over.now ≡ length row.old }
     ensures closed { IsClosedRow wide.now over.now row.old row.new }

@@ -4,7 +4,7 @@ use Rattle.pathspec_glob_set.specs.Questions.{AreClasses}
 use Rattle.pathspec_glob_set.specs.Sets.{size_of, IsColumn}
 use Rattle.pathspec_glob_set.proofs.BuildingProofs.{all-places, ends-within, within-places}
 use Rattle.pathspec_glob_set.proofs.StartProofs.{start-row}
-use Rattle.pathspec_glob_set.proofs.building.moves_of.Goals as goal
+use Rattle.pathspec_glob_set.proofs.table.building.moves_of.Goals as goal
 
 pub column-requires-clause-places : goal.column-requires-clause-places
 column-requires-clause-places c =

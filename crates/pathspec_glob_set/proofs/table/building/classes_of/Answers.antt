@@ -1,12 +1,12 @@
 use Rattle.std.proofs.Common.{◌≡◌, ℕ, suc, ◌+◌, ◌-◌, ◌<◌, ◌∙◌, false, sym, ap, subst, arith, List, length, set, get_or}
 use Rattle.std.proofs.lemmas.Grind.{get_or-set_at}
 use Rattle.std.proofs.lemmas.List.{get_or-set_same, get_or-set_other, length-set}
-use Rattle.pathspec_glob_set.specs.declared.building.Classes.{Classes}
+use Rattle.pathspec_glob_set.specs.declared.table.building.Classes.{Classes}
 use Rattle.pathspec_glob_set.specs.declared.member.Member.{Member}
 use Rattle.pathspec_glob_set.specs.Questions.{AreClasses, AreTakenAlike}
 use Rattle.pathspec_glob_set.proofs.BuildingProofs.{more-classes, same-class}
-use Rattle.pathspec_glob_set.proofs.building.classes_of.Goals.{then-byte-eq0+in_ok-takes+in_ok-found, else-byte-eq0+else-borders-byte}
-use Rattle.pathspec_glob_set.proofs.building.classes_of.Goals as goal
+use Rattle.pathspec_glob_set.proofs.table.building.classes_of.Goals.{then-byte-eq0+in_ok-takes+in_ok-found, else-byte-eq0+else-borders-byte}
+use Rattle.pathspec_glob_set.proofs.table.building.classes_of.Goals as goal
 
 -- classes with the class of one byte more, said of what they equal
 of-equal : (globs : List Member) (ends : List ℕ) (places next byte : ℕ) (here there : Classes) (mine yours : ℕ) → here ≡ there → mine ≡ yours

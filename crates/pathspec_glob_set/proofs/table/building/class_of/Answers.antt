@@ -2,7 +2,7 @@ use Rattle.std.proofs.Common.{◌≡◌, ◌<◌, ◌∙◌, sym, subst, arith, 
 use Rattle.std.proofs.lemmas.List.{get_or_default}
 use Rattle.pathspec_glob_set.specs.Questions.{AddsClass}
 use Rattle.pathspec_glob_set.proofs.BuildingProofs.{one-behind, there-already}
-use Rattle.pathspec_glob_set.proofs.building.class_of.Goals as goal
+use Rattle.pathspec_glob_set.proofs.table.building.class_of.Goals as goal
 
 pub returns-in_ok-push : goal.returns-in_ok-push
 returns-in_ok-push c =

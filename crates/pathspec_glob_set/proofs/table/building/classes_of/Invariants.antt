@@ -1,6 +1,6 @@
 use Rattle.std.proofs.Common.{◌≡◌, ℕ, suc, length, get_or}
 use Rattle.pathspec_glob_set.specs.Questions.{AreClasses}
-use Rattle.pathspec_glob_set.proofs.building.classes_of.Given as goal
+use Rattle.pathspec_glob_set.proofs.table.building.classes_of.Given as goal
 
 abbrev pub invariant-loop-byte : goal.invariant-loop-byte
 invariant-loop-byte l = record {
