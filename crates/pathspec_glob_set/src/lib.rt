@@ -6,7 +6,6 @@ mod columns;
 mod member;
 mod set;
 mod table;
-mod walk;
 
 pub use member::Member;
 pub use set::{GlobSet, SetScratch};

@@ -212,8 +212,7 @@ impl SetScratch {
             self.lead = Lead::Unknown;
             return;
         }
-        let lead = self.table.walk(text, behind);
-        self.total.add_steps(&self.table);
+        let lead = self.table.read(text, behind, &mut self.total);
         self.gave_up = is_unknown(lead);
         self.lead = lead;
         if !self.gave_up {

@@ -10,6 +10,7 @@ pub mod building;
 pub mod moves;
 pub mod row;
 pub mod total;
+mod walk;
 
 use crate::table::moves::Moves;
 use crate::table::total::Total;
@@ -145,7 +146,7 @@ impl Table {
 
     /// Asks where a byte leads from a row.
     #[inline(always)]
-    pub fn lead(&mut self, row: usize, byte: u8) -> Lead
+    fn lead(&mut self, row: usize, byte: u8) -> Lead
         requires table { IsTable self.old }
         requires row { row < self.old.used }
         requires steps { self.old.steps < 2 ^ 127 }
@@ -170,7 +171,7 @@ impl Table {
 
     /// Whether each byte leads from a row to itself, as far as it is known.
     #[inline(always)]
-    pub fn is_sink(&self, row: usize) -> bool
+    fn is_sink(&self, row: usize) -> bool
         requires table { IsTable self.now }
         requires row { row < self.now.used }
         ensures known { result ≡ get_or self.now.sinks.items row false }

@@ -31,7 +31,7 @@ impl Moves {
     ghost use Rattle.pathspec_glob_set.specs.Moves.{class_of, AreAlike, IsSink, IsStep};
 
     /// The count of places.
-    pub fn places(&self) -> usize
+    pub(super) fn places(&self) -> usize
         ensures { result ≡ length self.now.wide }
     {
         self.wide.len()
@@ -46,7 +46,7 @@ impl Moves {
 
     /// The count of classes of bytes.
     #[inline(always)]
-    pub fn width(&self) -> usize
+    pub(super) fn width(&self) -> usize
         ensures { result ≡ length self.now.takes.items }
     {
         self.takes.len()
@@ -54,7 +54,7 @@ impl Moves {
 
     /// The class of a byte.
     #[inline(always)]
-    pub fn class(&self, byte: u8) -> usize
+    pub(super) fn class(&self, byte: u8) -> usize
         ensures class { result ≡ class_of self.now byte }
         ensures within { result < length self.now.takes.items }
     {

@@ -36,7 +36,7 @@ impl Total {
     }
 
     /// Adds the steps of a table's text.
-    pub fn add_steps(&mut self, table: &Table)
+    pub(super) fn add_steps(&mut self, table: &Table)
         ensures { Counts self.old table.now.steps self.new }
     {
         self.count = self.count.wrapping_add(table.steps());

@@ -1,17 +1,35 @@
 //! The walk of a table over a text, from its end.
 ghost use Rattle.std.specs.Prelude.{◌+◌, ◌<◌, ◌++◌, ℕ, List, length};
+ghost use Rattle.pathspec_glob.specs.Counts.{Counts};
 ghost use Rattle.pathspec_glob_set.specs.Moves.{LeadsTo};
 ghost use Rattle.pathspec_glob_set.specs.Tables.{row_of, text_with, AreFewSteps, ClearsWhenFull, Finds, IsTable, KeepsRoom};
 
+use crate::table::total::Total;
 use crate::table::{Lead, Table};
 
 impl Table {
-    /// Finds the row that a text leads to, with one byte behind it if there is one. The text is read from its end, and only as far
-    /// as bytes may still tell globs apart.
+    /// Finds the row that a text leads to, with one byte behind it if there is one, and adds the steps to a total. The text is read
+    /// from its end, and only as far as bytes may still tell globs apart.
     ///
     /// The call counts a step for each byte that it reads, and all places and one more for each cell that it fills. It takes no
     /// memory.
-    pub fn walk(&mut self, text: &[u8], behind: Option<u8>) -> Lead
+    pub fn read(&mut self, text: &[u8], behind: Option<u8>, total: &mut Total) -> Lead
+        requires table { IsTable self.old }
+        ensures table { IsTable self.new }
+        ensures found { Finds self.new (text_with text.now behind) result }
+        ensures steps { AreFewSteps (length self.old.moves.wide)
+            (length (text_with text.now behind)) self.new }
+        ensures total { Counts total.old self.new.steps total.new }
+        ensures room { KeepsRoom self.old self.new }
+        ensures cleared { ClearsWhenFull self.new.misses self.old self.new }
+    {
+        let lead = self.walk(text, behind);
+        total.add_steps(self);
+        lead
+    }
+
+    /// Finds the row that a text leads to, with one byte behind it if there is one.
+    fn walk(&mut self, text: &[u8], behind: Option<u8>) -> Lead
         requires table { IsTable self.old }
         ensures table { IsTable self.new }
         ensures found { Finds self.new (text_with text.now behind) result }
