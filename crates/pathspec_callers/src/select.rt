@@ -1,15 +1,12 @@
-//! Callers of `pathspec_walk`, `pathspec_index` and `pathspec_select`.
+//! Callers of `pathspec_walk` and `pathspec_select`.
 ghost use Rattle.std.specs.Prelude.{◌≡◌, [], Some, map, string_bytes, IfOk};
 ghost use Rattle.gix_pathspec.specs.Search.{specs_of};
 ghost use Rattle.pathspec_select.specs.Environment.{words_of};
 ghost use Rattle.pathspec_select.specs.Choice.{WritesChosen};
 ghost use Rattle.pathspec_walk.specs.Walks.{chosen_entries};
-ghost use Rattle.pathspec_parts.specs.Records.{listing_entries};
-ghost use Rattle.pathspec_index.specs.Index.{number_of};
 
 use gix_pathspec::Search;
 use gix_pathspec::attributes::LookUp;
-use pathspec_index::{IndexPlace, IndexWalk, SortedPaths};
 use pathspec_parts::tree::{Cursor, Tree};
 use pathspec_select::{Environment, Refusal, run};
 use pathspec_walk::{SelectError, select};
@@ -51,24 +48,4 @@ pub fn chosen_entries<L: LookUp>(
         return Err(SelectError::Memory);
     };
     select(alloc, &mut cursor, search, look_up)
-}
-
-/// The places of the paths of an index, and of the directories that they imply, that a search chooses.
-///
-/// # Errors
-/// [`SelectError`], as [`select`] tells it.
-pub fn chosen_places<L: LookUp>(
-    alloc: Global,
-    paths: &SortedPaths<'_>,
-    search: &Search,
-    look_up: &mut L,
-) -> Result<Vec<IndexPlace>, SelectError<L::Fault>>
-    ensures { let es = listing_entries paths.now in
-        IfOk result (λ given. map (number_of es) given.items ≡ chosen_entries
-        (L.table look_up.old) (specs_of search.now.specs) es) }
-{
-    let Ok(mut walk) = IndexWalk::new(alloc, paths) else {
-        return Err(SelectError::Memory);
-    };
-    select(alloc, &mut walk, search, look_up)
 }

@@ -7,7 +7,7 @@ use crate::lister::{Lister, Stop};
 use crate::reaching::read_entered;
 use crate::telling::{quoted, tell};
 use crate::unmatched::Includes;
-use pathspec_disk::{Disk, DiskOptions, Seen};
+use pathspec_list::disk::{Disk, DiskOptions, Seen};
 use pathspec_list::{ListError, walk_selected};
 use pathspec_options::{ListOptions, SpecOptions};
 use pathspec_parts::attributes::LookUp;

@@ -5,7 +5,7 @@ use crate::Failure;
 use crate::attribute_directory::AttributeDirectory;
 use gix_pathspec::Search;
 use gix_pathspec::attributes::NoAttributes;
-use pathspec_disk::{Disk, DiskFault, DiskOptions, Seen};
+use pathspec_list::disk::{Disk, DiskFault, DiskOptions, Seen};
 use pathspec_list::{Directories, ListError, Visitor, walk_selected};
 use std::fs::Files;
 use std::io::Write;

@@ -49,7 +49,7 @@ impl<'s> Questions<'s> {
         ensures { IfOk result (λ questions. questions
             ≡ record { specs = search.now.specs; selection = selection }) }
     {
-        let scratch = Box::new(alloc, search.new_scratch(alloc)?)?;
+        let scratch = search.boxed_scratch(alloc)?;
         Ok(Questions {
             search,
             selection,

@@ -4,3 +4,4 @@ pub mod VisitProofs
 pub mod StepProofs
 pub mod LookProofs
 pub mod AskedProofs
+mod NameRows

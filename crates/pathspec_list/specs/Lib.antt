@@ -7,3 +7,4 @@ pub mod Directories
 pub mod Listings
 pub mod ListAnswers
 pub mod Courses
+pub mod Names

@@ -1,7 +1,8 @@
-//! Walks over directories, which open only those in which a search can select something.
+//! Walks over directories, those of a disk among them, which open only those in which a search can select something.
 #![tactic(auto)]
 
 mod directories;
+pub mod disk;
 mod visitor;
 mod walk;
 

@@ -1,6 +1,5 @@
 //! The walk over directories that gives what a search selects.
 ghost use Rattle.std.specs.Prelude.{◌≡◌, ◌≢◌, [], ◌∷◌, ◌++◌, map, reverse, not, if◌then◌else◌, IfOk, OnOk, OnErr};
-ghost use Rattle.std.specs.Box.{box_value};
 ghost use Rattle.gix_pathspec.specs.Room.{Fits};
 ghost use Rattle.gix_pathspec.specs.Search.{specs_of};
 ghost use Rattle.pathspec_walk.specs.Walks.{can_hold};
@@ -81,7 +80,7 @@ pub fn walk_selected<D: Directories, L: LookUp, V: Visitor<D::Fault>>(
 {
     // The proof reads here that no nil spec has a prefix directory.
     laws::nil_specs_lack_a_prefix(search);
-    let mut scratch = match boxed_scratch(alloc, search) {
+    let mut scratch = match search.boxed_scratch(alloc) {
         Ok(scratch) => scratch,
         Err(AllocError) => return Err(ListError::Memory),
     };
@@ -107,16 +106,6 @@ pub fn walk_selected<D: Directories, L: LookUp, V: Visitor<D::Fault>>(
         )?;
     }
     Err(ListError::Memory)
-}
-
-/// Makes a scratch of a search, in a box: whoever drops it needn't prove anew what becomes of its lists.
-///
-/// # Errors
-/// Memory runs out.
-fn boxed_scratch(alloc: Global, search: &Search) -> Result<Box<Scratch>, AllocError>
-    ensures { IfOk result (λ scratch. Fits search.now.specs (box_value scratch)) }
-{
-    Ok(Box::new(alloc, search.new_scratch(alloc)?)?)
 }
 
 /// Opens the top, and puts what lies there on the stack.

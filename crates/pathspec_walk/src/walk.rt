@@ -1,6 +1,5 @@
 //! The entries of a tree that a search chooses, by a walk that looks only where one can lie.
 ghost use Rattle.std.specs.Prelude.{◌≡◌, ◌≢◌, ◌&&◌, ◌++◌, ◌∷◌, [], map, length, if◌then◌else◌, IfOk, OnOk, OnErr};
-ghost use Rattle.std.specs.Box.{box_value};
 ghost use Rattle.pathspec_parts.specs.Cursors.{IsNew, path_at, is_dir_at, after_enter};
 ghost use Rattle.gix_pathspec.specs.Matching.{is_chosen};
 ghost use Rattle.gix_pathspec.specs.Room.{Fits};
@@ -74,7 +73,7 @@ pub fn select<W: Walk, L: LookUp>(
     // The proof reads here that no nil spec has a prefix directory, and that paths are bytes.
     laws::nil_specs_lack_a_prefix(search);
     laws::spec_paths_are_bytes(search);
-    let mut scratch = match boxed_scratch(alloc, search) {
+    let mut scratch = match search.boxed_scratch(alloc) {
         Ok(scratch) => scratch,
         Err(AllocError) => return Err(SelectError::Memory),
     };
@@ -83,16 +82,6 @@ pub fn select<W: Walk, L: LookUp>(
         visit(cursor, search, &mut scratch, look_up, place, &mut given)?;
     }
     Ok(given)
-}
-
-/// Makes a scratch of a search, in a box: whoever drops it needn't prove anew what becomes of its lists.
-///
-/// # Errors
-/// Memory runs out.
-fn boxed_scratch(alloc: Global, search: &Search) -> Result<Box<Scratch>, AllocError>
-    ensures { IfOk result (λ scratch. Fits search.now.specs (box_value scratch)) }
-{
-    Ok(Box::new(alloc, search.new_scratch(alloc)?)?)
 }
 
 /// Gives the entry at which the cursor stands if it is chosen, and enters it if it is a directory not to be skipped.

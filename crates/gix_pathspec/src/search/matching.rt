@@ -88,6 +88,17 @@ impl Search {
         scratch_for(alloc, &self.specs, sets, &self.excludes)
     }
 
+    /// Makes room for matches as [`Search::new_scratch`] does, in a box: who drops a box needn't prove anew what becomes of its lists.
+    ///
+    /// # Errors
+    /// Memory runs out.
+    pub fn boxed_scratch(&self, alloc: Global) -> Result<Box<Scratch>, AllocError>
+        ensures fits { IfOk result (λ scratch. Fits self.now.specs (box_value scratch)) }
+        ensures fresh { IfOk result (λ scratch. IsFresh (box_value scratch).counts) }
+    {
+        Ok(Box::new(alloc, self.new_scratch(alloc)?)?)
+    }
+
     /// Whether a scratch has room for matches of the search. One that [`Search::new_scratch`] made for it has. So has one of a
     /// search whose specs list the same attributes and have globs that are no shorter; if some head of either has a set, the globs that
     /// begin right behind their spec's head are the same, and the same of them are excludes that [`Search::may_skip`] asks. The

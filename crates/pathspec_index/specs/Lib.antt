@@ -1,9 +1,0 @@
-pub use Rattle.gix_pathspec.specs.Bytes
-pub use Rattle.gix_pathspec.specs.Paths
-pub use Rattle.gix_pathspec.specs.Attributes
-pub use Rattle.gix_pathspec.specs.Specs
-pub use Rattle.gix_pathspec.specs.Matching
-pub use Rattle.gix_pathspec.specs.Search
-pub use Rattle.pathspec_walk.specs.Walks
-pub use Rattle.pathspec_walk.specs.SelectAnswers
-pub mod Index
