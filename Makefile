@@ -1,7 +1,8 @@
 # Thin rules over the toolchain's command rt, which does the work and keeps what it has proved.
 #   make           prove and build the programs, and run the first once
 #   make quick     run the program before any proof
-#   make check     the gate: every proof, must-fail edit, test and program; two checks at a time, or RT_JOBS
+#   make check     the gate: every proof, test and program, and the must-fail edits in crates/; two checks at a time, or RT_JOBS
+#   make must-fail try the edits in edits/, too: of the crates that changed since the last tag, or of all with ALL=1
 #   make install   the programs with their manual pages and completions below PREFIX (and DESTDIR); the library and the crate for
 #                  Rust over it where it is built, and so the wheel for Python
 #   make library   prove and build the library for C, and compare its calls with the header's
@@ -29,7 +30,7 @@ version = $(shell sed -n 's/^.define PS_VERSION //p' include/pathspec.h)
 # A folder as pathspec.pc names it: by its prefix, where it lies below it.
 below = $(1:$(PREFIX)/%=$${prefix}/%)
 
-.PHONY: all quick check install library bindings examples dist reproduce
+.PHONY: all quick check must-fail install library bindings examples dist reproduce
 
 all:
 	cd $(folder) && rt run -- ':(glob)src/*.c' < stdin
@@ -40,6 +41,9 @@ quick:
 
 check:
 	bash .ci/run
+
+must-fail:
+	edits/run $(if $(ALL),--all)
 
 install:
 	@test -x $(program) -a -x $(tool) || { echo "$(program) and $(tool) aren't built: run make" >&2; exit 1; }
