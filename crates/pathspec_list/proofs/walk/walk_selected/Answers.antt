@@ -47,7 +47,7 @@ paths-init g c =
       course = λ es known. course_begins takes (can_hold specs) es (course given told opened []) after refl
           (top_at_start es given told opened (texts c.new-pending.result.items) after (ap texts c.new-pending.ensures.items) (c.in_ok-open_top.ensures.visited es known));
       asked = asks_first takes specs _ _ c.open_top.ensures.asked;
-      room = c.in-Ok.ensures;
+      room = c.in-Ok.ensures.fits;
       tree = c.open_top.ensures.tree_stays;
       table = refl;
       stops = c.in_ok-open_top.ensures.stops;

@@ -58,7 +58,7 @@ loop-place-init g c =
     record {
       course = start_as (g.L.LookUp.table c.args.look_up.now) (specs_of c.args.search.now.specs) begin c.requires (numbers c.new-given.result.items) (ap numbers c.new-given.ensures.items);
       tree = refl;
-      room = c.in-Ok.ensures;
+      room = c.in-Ok.ensures.fits;
       table = refl;
       count = refl;
     }
