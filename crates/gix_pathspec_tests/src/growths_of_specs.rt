@@ -1,11 +1,12 @@
 //! Each growth refused in turn, of calls that read, write, normalise and build specs.
-use crate::building::{are_same, is_cloned};
-use crate::searches::{Settled, scratch_of, search_of_list, settled, settled_in, visited};
 use bstr::BStr;
 use gix_pathspec::search::{Scratch, Visit};
 use gix_pathspec::{BuildError, Defaults, Error, MagicSignature, Pattern, Search, parse};
 use pathspec_parts::attributes::Assignment;
-use pathspec_test_searches::{pattern_of, patterns_of, search_of};
+use pathspec_test_searches::answers::{Settled, scratch_of, settled, settled_in, visited};
+use pathspec_test_searches::{
+    are_same, is_cloned, pattern_of, patterns_of, search_of, search_of_list,
+};
 use pathspec_test_support::growths::{
     ALL, Call, Calls, Changes, Changing, NONE, assert_calls, refuse,
 };

@@ -9,6 +9,7 @@ pub mod heads;
 pub mod lines;
 pub mod search;
 pub mod select;
+pub mod sets;
 pub mod spec;
 pub mod stems;
 pub mod store;

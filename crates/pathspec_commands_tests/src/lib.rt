@@ -1,11 +1,8 @@
-//! Tests of `pathspec_commands`, through its one public call.
+//! Tests of commands where memory runs out or devices fail. How a command is run stands open for other tests.
 #![tactic(auto)]
 
-#[cfg(test)]
-mod commands;
 #[cfg(test)]
 mod devices;
 #[cfg(test)]
 mod growths_of_commands;
-#[cfg(test)]
-mod running;
+pub mod running;

@@ -1,24 +1,24 @@
 //! Running a command over memory.
 use pathspec_commands::{Failure, run};
 use pathspec_options::Options;
-use std::alloc::{AllocError, Global};
+use std::alloc::AllocError;
 use std::fs::Files;
 use std::io::{Read, Write};
 use std::rt::Env;
 
 /// What a command wrote, what it told, and its exit status.
 #[derive(Debug, Drop, PartialEq, Eq)]
-pub(crate) struct Ran {
-    pub(crate) written: Vec<u8>,
-    pub(crate) told: Vec<u8>,
-    pub(crate) status: u8,
+pub struct Ran {
+    pub written: Vec<u8>,
+    pub told: Vec<u8>,
+    pub status: u8,
 }
 
 /// The exit status of the program for a failure.
 const FAULT: u8 = 2;
 
 /// Runs the command that words ask for, with the program's name in front.
-pub(crate) fn run_words<R: Files + Env + AllocGlobal, I: Read, W: Write>(
+pub fn run_words<R: Files + Env + AllocGlobal, I: Read, W: Write>(
     rt: &R,
     words: &[&str],
     reader: &mut I,
@@ -34,7 +34,7 @@ pub(crate) fn run_words<R: Files + Env + AllocGlobal, I: Read, W: Write>(
 }
 
 /// What a command does with an input. A failure that is told has its text behind what was told before.
-pub(crate) fn run_over<R: Files + Env + AllocGlobal>(
+pub fn run_over<R: Files + Env + AllocGlobal>(
     rt: &R,
     words: &[&str],
     input: &[u8],
@@ -55,9 +55,4 @@ pub(crate) fn run_over<R: Files + Env + AllocGlobal>(
         told,
         status,
     })
-}
-
-/// The bytes of a text, in memory of its own.
-pub(crate) fn copy(alloc: Global, text: &str) -> Result<Vec<u8>, AllocError> {
-    Vec::from_slice(alloc, text.as_bytes())
 }

@@ -1,6 +1,6 @@
 //! Each growth refused in turn, of calls on globs, heads, attributes, stacks and trees.
-use crate::globs::boxed_room;
 use crate::heads::{answers, next_of, stem_table};
+use crate::rooms::boxed_room;
 use bstr::BStr;
 use pathspec_heads::places::PlacesByHead;
 use pathspec_parts::attributes::{Assignment, Case, Name, Outcome, StateRef};

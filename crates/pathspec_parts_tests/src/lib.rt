@@ -1,19 +1,14 @@
-//! Tests of globs, heads and parts, through public calls, one module for each topic.
+//! Tests of globs, sets of globs, heads, parts and attribute files where memory runs out. What they are made of stands open for
+//! other tests.
 #![tactic(auto)]
 
 #[cfg(test)]
-mod attributes;
-#[cfg(test)]
-mod directory_globs;
-#[cfg(test)]
-mod globs;
+mod growths_of_files;
 #[cfg(test)]
 mod growths_of_parts;
 #[cfg(test)]
-mod heads;
-#[cfg(test)]
-mod paths;
-#[cfg(test)]
-mod steps;
-#[cfg(test)]
-mod trees;
+mod growths_of_sets;
+pub mod heads;
+pub mod manual;
+pub mod rooms;
+pub mod sets;

@@ -4,7 +4,7 @@ use pathspec_test_support::look_ups::text_of;
 use std::alloc::{AllocError, Global};
 
 /// The words of a line, between spaces.
-pub(super) fn words_of(alloc: Global, line: &str) -> Result<Vec<String>, AllocError> {
+pub fn words_of(alloc: Global, line: &str) -> Result<Vec<String>, AllocError> {
     let mut words = Vec::new(alloc);
     for word in line.split(' ') {
         if !word.is_empty() {
@@ -15,10 +15,10 @@ pub(super) fn words_of(alloc: Global, line: &str) -> Result<Vec<String>, AllocEr
 }
 
 /// Variables by their names, with their texts.
-pub(super) type Variables<'v> = &'v [(&'v str, &'v str)];
+pub type Variables<'v> = &'v [(&'v str, &'v str)];
 
 /// No variables.
-pub(super) const UNSET: Variables<'static> = &[];
+pub const UNSET: Variables<'static> = &[];
 
 /// A text of its own for the variable with this name, if it is set.
 fn owned_text_of(
@@ -33,10 +33,7 @@ fn owned_text_of(
 }
 
 /// The environment in which these variables are set, which have the names of its fields.
-pub(super) fn environment_of(
-    alloc: Global,
-    variables: Variables<'_>,
-) -> Result<Environment, AllocError> {
+pub fn environment_of(alloc: Global, variables: Variables<'_>) -> Result<Environment, AllocError> {
     Ok(Environment {
         literal: owned_text_of(alloc, variables, "literal")?,
         icase: owned_text_of(alloc, variables, "icase")?,
@@ -46,7 +43,7 @@ pub(super) fn environment_of(
 }
 
 /// The job that the words of a line and variables ask for. It is boxed, as searches are.
-pub(super) fn job_of(
+pub fn job_of(
     alloc: Global,
     line: &str,
     variables: Variables<'_>,

@@ -1,6 +1,6 @@
 //! Runs of the program over readers, writers and look-ups that fail, or take one byte a call.
 use crate::asked::{UNSET, environment_of, job_of, words_of};
-use crate::program::{add_end, writes_for};
+use crate::runs::{add_end, writes_for};
 use pathspec_parts::attributes::LookUp;
 use pathspec_select::{Job, run, run_with};
 use pathspec_test_devices::{ALL, Answer, Script, ScriptedReader, ScriptedWriter};

@@ -1,25 +1,16 @@
-//! Tests of `pathspec_select` and of what goes through all crates, through public calls, one module for each topic.
+//! Tests of the program's `run`, filters and walks where memory runs out or devices fail. What they are made of stands open for other
+//! tests.
 #![tactic(auto)]
 
-#[cfg(test)]
-mod asked;
-#[cfg(test)]
-mod callers;
+pub mod asked;
 #[cfg(test)]
 mod devices;
+pub mod environments;
 #[cfg(test)]
-mod environments;
+mod growths_of_filters;
+#[cfg(test)]
+mod growths_of_lists;
 #[cfg(test)]
 mod growths_of_runs;
-#[cfg(test)]
-mod jobs;
-#[cfg(test)]
-mod listings;
-#[cfg(test)]
-mod program;
-#[cfg(test)]
-mod readme;
-#[cfg(test)]
-mod specs_first;
-#[cfg(test)]
-mod walks;
+pub mod memory_directories;
+pub mod runs;

@@ -1,7 +1,9 @@
 //! What the tests of searches, walks and the program share: the search of texts.
 #![tactic(auto)]
 
-use bstr::BStr;
+pub mod answers;
+
+use bstr::{BStr, BString};
 use gix_pathspec::{BuildError, Defaults, Error, Pattern, Search};
 use pathspec_parts::path::is_clean_prefix;
 use std::alloc::Global;
@@ -58,4 +60,27 @@ fn patterns_of_line(alloc: Global, line: &str) -> Result<Vec<Pattern>, Error> {
 /// all specs is proved sooner than one with a list in each row.
 pub fn search_of_line(alloc: Global, line: &str, prefix: &str) -> Result<Box<Search>, Fail> {
     Ok(build_from(alloc, patterns_of_line(alloc, line)?, prefix)??)
+}
+
+/// The search of these texts, which comes from a list.
+pub fn search_of_list(alloc: Global, texts: &[&str], prefix: &str) -> Result<Box<Search>, Fail> {
+    let mut search = search_of(alloc, texts, prefix)?;
+    search.source = Some(BString::from_slice(alloc, "list")?);
+    Ok(search)
+}
+
+/// Whether two searches are of equal specs, and come from the same place.
+pub fn are_same(search: &Search, other: &Search) -> bool {
+    for (pattern, other) in search.patterns().zip(other.patterns()) {
+        if pattern != other {
+            return false;
+        }
+    }
+    search.patterns().len() == other.patterns().len() && search.source == other.source
+}
+
+/// Whether a clone is of the same specs, and comes from the same place.
+pub fn is_cloned(alloc: Global, search: &Search) -> Result<bool, Error> {
+    let copy = Box::new(alloc, search.try_clone()?)?;
+    Ok(are_same(&copy, search))
 }

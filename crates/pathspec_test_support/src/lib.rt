@@ -1,7 +1,6 @@
-//! What all crates of tests share: values in rising order, look-ups, trees, and calls with each growth refused.
+//! What all crates of tests share: look-ups, trees, and calls with each growth refused.
 #![tactic(auto)]
 
 pub mod growths;
 pub mod look_ups;
-pub mod orders;
 pub mod trees;

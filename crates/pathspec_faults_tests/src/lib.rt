@@ -1,5 +1,0 @@
-//! Tests of what faults say to people, through public calls.
-#![tactic(auto)]
-
-#[cfg(test)]
-mod reports;
