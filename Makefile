@@ -1,6 +1,7 @@
 # Thin rules over the toolchain's command rt, which does the work and keeps what it has proved.
 #   make           prove and build the programs, and run the first once
 #   make quick     run the program before any proof
+#   make test      run all tests before any proof, as many crates at a time as there are processors, or JOBS
 #   make check     the gate: every proof, test and program, and the must-fail edits in crates/; two checks at a time, or RT_JOBS
 #   make must-fail try the edits in edits/, too: of the crates that changed since the last tag, or of all with ALL=1
 #   make install   the programs with their manual pages and completions below PREFIX (and DESTDIR); the library and the crate for
@@ -30,7 +31,7 @@ version = $(shell sed -n 's/^.define PS_VERSION //p' include/pathspec.h)
 # A folder as pathspec.pc names it: by its prefix, where it lies below it.
 below = $(1:$(PREFIX)/%=$${prefix}/%)
 
-.PHONY: all quick check must-fail install library bindings examples dist reproduce
+.PHONY: all quick test check must-fail install library bindings examples dist reproduce
 
 all:
 	cd $(folder) && rt run -- ':(glob)src/*.c' < stdin
@@ -38,6 +39,9 @@ all:
 
 quick:
 	cd $(folder) && rt try -- ':(glob)src/*.c' < stdin
+
+test:
+	bash tests/run
 
 check:
 	bash .ci/run
