@@ -18,14 +18,25 @@ pub(crate) fn attribute_rows<R: Files + AllocGlobal>(
     options: &SpecOptions<'_>,
 ) -> Result<Rows, Failure> {
     let mut rows = Rows::new(rt.alloc());
+    add_rows(rt, &mut rows, options)?;
+    Ok(rows)
+}
+
+/// Adds the rows of all attributes that options give paths.
+fn add_rows<R: Files + AllocGlobal>(
+    rt: &R,
+    rows: &mut Rows,
+    options: &SpecOptions<'_>,
+) -> Result<(), Failure> {
     for (path, list) in &options.attributes {
         let assignments = assignments_of(rt.alloc(), path, list)?;
         rows.push(path.as_bytes(), assignments)?;
     }
     for file in &options.attribute_files {
-        add_triples(rt, &mut rows, file)?;
+        let bytes = read_file(rt, file)?;
+        add_triples(rt.alloc(), rows, file, &bytes)?;
     }
-    Ok(rows)
+    Ok(())
 }
 
 /// The attributes of a list.
@@ -33,34 +44,47 @@ fn assignments_of(alloc: Global, path: &str, list: &str) -> Result<Vec<Assignmen
     match parse::attributes(alloc, list.as_bytes()) {
         Ok(assignments) => Ok(assignments),
         Err(Error::Memory) => Err(Failure::Memory),
-        Err(error) => {
-            let subject = format!(in alloc; "--attr {path}")?;
-            // As a spec would say it, so that the place can be marked.
-            let spec = format!(in alloc; ":(attr:{list})")?;
-            let lines = report(alloc, subject.as_str(), spec.as_bytes(), &error)?;
-            Err(Failure::Told(lines))
-        }
+        Err(error) => Err(list_fault(alloc, path, list, &error)?),
     }
 }
 
+/// The fault of a list. The list is shown as a spec would have it, so that the place can be marked.
+fn list_fault(alloc: Global, path: &str, list: &str, error: &Error) -> Result<Failure, AllocError> {
+    let subject = format!(in alloc; "--attr {path}")?;
+    let spec = format!(in alloc; ":(attr:{list})")?;
+    let lines = report(alloc, subject.as_str(), spec.as_bytes(), error)?;
+    Ok(Failure::Told(lines))
+}
+
 /// Adds the rows of a file that has what `git check-attr -z` prints: a path, a name and a state, each ended by the byte 0.
-fn add_triples<R: Files + AllocGlobal>(rt: &R, rows: &mut Rows, file: &str) -> Result<(), Failure> {
-    let bytes = read_file(rt, file)?;
-    let mut rest: &[u8] = &bytes;
+fn add_triples(alloc: Global, rows: &mut Rows, file: &str, bytes: &[u8]) -> Result<(), Failure> {
+    let mut rest = bytes;
     for number in 1..usize::MAX {
         if rest.is_empty() {
             break;
         }
-        let Some((path, name, state, behind)) = triple(rest) else {
-            return Err(triple_fault(rt.alloc(), file, number)?);
-        };
-        let Some(assignment) = assignment_of(rt.alloc(), name, state)? else {
-            return Err(triple_fault(rt.alloc(), file, number)?);
-        };
-        rows.push(path, vec![in rt.alloc(); assignment]?)?;
-        rest = behind;
+        match add_triple(alloc, rows, rest)? {
+            Some(behind) => rest = behind,
+            None => return Err(triple_fault(alloc, file, number)?),
+        }
     }
     Ok(())
+}
+
+/// Adds the row of the triple in front, and gives what stands behind it. None where there is no triple.
+fn add_triple<'r>(
+    alloc: Global,
+    rows: &mut Rows,
+    rest: &'r [u8],
+) -> Result<Option<&'r [u8]>, AllocError> {
+    let Some((path, name, state, behind)) = triple(rest) else {
+        return Ok(None);
+    };
+    let Some(assignment) = assignment_of(alloc, name, state)? else {
+        return Ok(None);
+    };
+    rows.push(path, vec![in alloc; assignment]?)?;
+    Ok(Some(behind))
 }
 
 /// The three texts in front, and what stands behind them.

@@ -42,16 +42,26 @@ pub(crate) fn spec_texts<'a, R: Files + AllocGlobal>(
     options: &SpecOptions<'a>,
 ) -> Result<Vec<SpecText<'a>>, Failure> {
     let mut texts = Vec::new(rt.alloc());
+    add_texts(rt, &mut texts, options)?;
+    Ok(texts)
+}
+
+/// Adds the texts of all specs.
+fn add_texts<'a, R: Files + AllocGlobal>(
+    rt: &R,
+    texts: &mut Vec<SpecText<'a>>,
+    options: &SpecOptions<'a>,
+) -> Result<(), Failure> {
     for (place, word) in options.words.iter().enumerate() {
-        texts.push(SpecText {
-            text: Vec::from_slice(rt.alloc(), word.as_bytes())?,
-            origin: Origin::Word(place.saturating_add(1)),
-        })?;
+        let text = Vec::from_slice(rt.alloc(), word.as_bytes())?;
+        let origin = Origin::Word(place.saturating_add(1));
+        texts.push(SpecText { text, origin })?;
     }
     for file in &options.files {
-        add_lines(rt, &mut texts, file)?;
+        let bytes = read_file(rt, file)?;
+        add_lines(rt.alloc(), texts, file, &bytes)?;
     }
-    Ok(texts)
+    Ok(())
 }
 
 /// The bytes of a file.
@@ -66,16 +76,16 @@ pub(crate) fn read_file<R: Files + AllocGlobal>(rt: &R, file: &str) -> Result<Ve
 }
 
 /// Adds the specs on the lines of a file. A carriage return before a line feed isn't part of the line.
-fn add_lines<'a, R: Files + AllocGlobal>(
-    rt: &R,
+fn add_lines<'a>(
+    alloc: Global,
     texts: &mut Vec<SpecText<'a>>,
     file: &'a str,
+    bytes: &[u8],
 ) -> Result<(), Failure> {
-    let bytes = read_file(rt, file)?;
     let mut number = 1usize;
-    let mut lines = bytes.as_slice().lines();
+    let mut lines = bytes.lines();
     while let Some(line) = lines.next() {
-        let text = spec_of_line(rt.alloc(), line, Origin::Line(file, number))?;
+        let text = spec_of_line(alloc, line, Origin::Line(file, number))?;
         texts.push(text)?;
         number = number.saturating_add(1);
     }
