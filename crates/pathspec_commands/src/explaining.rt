@@ -2,10 +2,11 @@
 use crate::Failure;
 use crate::asked::{Asked, read_specs};
 use crate::attributes::{Attributes, attributes_of};
-use crate::decided::Decided;
-use crate::json::{explanation_object, write_object};
+use crate::decided::{Decided, decided_attributes};
+use crate::json::push_object;
 use crate::reason_texts::reason_text;
-use crate::telling::{bad_path, push_spaces, quoted, read_fault};
+use crate::telling::{bad_path, read_fault};
+use crate::text::Text;
 use crate::verdicts::Verdicts;
 use bstr::BStr;
 use pathspec_explain::{AskedSpec, Explanation, Reason, Verdict, asked_specs};
@@ -22,15 +23,26 @@ use std::rt::Env;
 #[derive(Drop)]
 pub(crate) struct Explainer<'a, 'd> {
     pub(crate) alloc: Global,
-    pub(crate) asked: &'a Asked<'a>,
+    pub(crate) asked: &'a Asked<'d>,
     /// The specs in search order.
     specs: Vec<AskedSpec<'a>>,
     verdicts: Verdicts<'a>,
     attributes: Attributes<'d>,
-    all: bool,
+    /// Whether each spec is asked why it matches a path or doesn't, and not only the one that settles the path.
+    pub(crate) all: bool,
     json: bool,
     /// The column in which explanations stand; 0 where it isn't known.
     column: usize,
+}
+
+/// Why a spec matches a path or doesn't.
+#[derive(Drop)]
+pub(crate) struct SpecReason {
+    pub(crate) reason: Reason,
+    /// The attributes of which the reason speaks, as attribute files decide them.
+    pub(crate) decided: Vec<Decided>,
+    /// The reason in words.
+    pub(crate) words: String,
 }
 
 /// A path as it stands, and as specs are asked about it.
@@ -57,114 +69,120 @@ impl<'p> Path<'p> {
     }
 }
 
-impl Explainer<'_, '_> {
-    /// The reason of the spec with a number, in the order in which they were given. None where there is no such spec.
+impl<'a, 'd> Explainer<'a, 'd> {
+    /// What options ask of each path.
+    ///
+    /// # Errors
+    /// Memory ran out, or attributes can't be read.
+    fn new<R: Files + Env + AllocGlobal, T: Write>(
+        rt: &R,
+        asked: &'a Asked<'d>,
+        specs: &SpecOptions<'d>,
+        options: &ExplainOptions<'_>,
+        told: &mut T,
+    ) -> Result<Explainer<'a, 'd>, Failure> {
+        let alloc = rt.alloc();
+        let column = column_of(alloc, &options.paths)?;
+        let verdicts = Verdicts::new(alloc, &asked.search)?;
+        let asked_specs = asked_specs(alloc, &asked.search)?;
+        Ok(Explainer {
+            alloc,
+            asked,
+            specs: asked_specs,
+            verdicts,
+            attributes: attributes_of(rt, specs, told)?,
+            all: options.all,
+            json: options.json,
+            column,
+        })
+    }
+
+    /// Why the spec with a number, in the order in which specs were given, matches a path or doesn't. None where there is no such
+    /// spec.
+    ///
+    /// # Errors
+    /// Memory ran out.
     pub(crate) fn reason(
         &mut self,
         number: usize,
         path: Path<'_>,
-    ) -> Result<Option<Reason>, AllocError> {
-        let place = self.asked.place_of(number);
-        let Some(spec) = self.specs.get_mut(place) else {
+    ) -> Result<Option<SpecReason>, AllocError> {
+        let alloc = self.alloc;
+        let Some(spec) = self.specs.get_mut(self.asked.place_of(number)) else {
             return Ok(None);
         };
-        Ok(Some(self.attributes.reason(spec, path.path, path.is_dir)?))
+        let attributes = &mut self.attributes;
+        let reason = attributes.reason(spec, path.path, path.is_dir)?;
+        let pattern = spec.pattern();
+        let decided = decided_attributes(alloc, attributes, pattern, reason, path)?;
+        Ok(Some(SpecReason {
+            reason,
+            words: reason_text(alloc, reason, pattern, &decided)?,
+            decided,
+        }))
     }
 
-    /// The attributes that a reason of the spec with a number speaks of, as attribute files decide them. None where rows do.
-    pub(crate) fn decided(
-        &mut self,
-        number: usize,
-        reason: Reason,
-        path: Path<'_>,
-    ) -> Result<Vec<Decided>, AllocError> {
-        let mut decided = Vec::new(self.alloc);
-        let place = self.asked.place_of(number);
-        let (Some(spec), Attributes::Directory(directory)) = (
-            self.specs.get(place),
-            &mut self.attributes,
-        ) else {
-            return Ok(decided);
-        };
-        for (at, listed) in spec.pattern().attributes.iter().enumerate() {
-            let is_told = match reason {
-                Reason::Matches(_) => true,
-                Reason::OtherState(other) => at == other,
-                _ => false,
-            };
-            if is_told {
-                decided.push(directory.decided(self.alloc, path, listed)?)?;
-            }
-        }
-        Ok(decided)
-    }
-
-    /// The words for a reason of the spec with a number, which speaks of these attributes.
-    pub(crate) fn reason_words(
-        &self,
-        number: usize,
-        reason: Reason,
-        decided: &[Decided],
-    ) -> Result<String, AllocError> {
-        let place = self.asked.place_of(number);
-        match self.specs.get(place) {
-            Some(spec) => reason_text(self.alloc, reason, spec.pattern(), decided),
-            None => Ok(String::new(self.alloc)),
-        }
-    }
-
-    /// A spec as lines for people name it, as `2 ':!src/gen'`.
-    fn spec_name(&self, number: usize) -> Result<String, AllocError> {
-        let text = match self.asked.texts.get(number) {
-            Some(text) => text.text.as_slice(),
+    /// Adds a spec as lines for people name it, as `2 ':!src/gen'`.
+    fn push_name(&self, text: &mut Text, number: usize) {
+        text.push_number(number.saturating_add(1));
+        text.push(" ");
+        match self.asked.texts.get(number) {
+            Some(spec) => text.push_quoted(&spec.text),
             // No specs stand for the prefix.
-            None => self.asked.search.common_prefix().as_bytes(),
-        };
-        let text = quoted(self.alloc, text)?;
-        format!(in self.alloc; "{} {text}", number.saturating_add(1))
-    }
-
-    /// A spec with the reason why it matches or doesn't, as `2 ':!src/gen': it lies below`.
-    fn spec_line(&mut self, number: usize, path: Path<'_>) -> Result<String, AllocError> {
-        let name = self.spec_name(number)?;
-        match self.reason(number, path)? {
-            Some(reason) => {
-                let decided = self.decided(number, reason, path)?;
-                let words = self.reason_words(number, reason, &decided)?;
-                format!(in self.alloc; "{name}: {words}")
-            }
-            None => Ok(name),
+            None => self.push_common_prefix(text),
         }
     }
 
-    /// What settles a path, in words.
-    fn verdict_line(&mut self, told: Explanation, path: Path<'_>) -> Result<String, AllocError> {
-        let skip = if told.may_skip {
-            "; a walk may skip it"
-        } else {
-            ""
-        };
+    /// Adds what all includes begin with, in quotes.
+    fn push_common_prefix(&self, text: &mut Text) {
+        text.push_quoted(self.asked.search.common_prefix().as_bytes());
+    }
+
+    /// Adds a spec with the reason why it matches or doesn't, as `2 ':!src/gen': it lies below`.
+    fn push_spec(
+        &mut self,
+        text: &mut Text,
+        number: usize,
+        path: Path<'_>,
+    ) -> Result<(), AllocError> {
+        self.push_name(text, number);
+        if let Some(found) = self.reason(number, path)? {
+            text.push(": ");
+            text.push(found.words.as_str());
+        }
+        Ok(())
+    }
+
+    /// Adds what settles a path, in words.
+    fn push_verdict(
+        &mut self,
+        text: &mut Text,
+        told: Explanation,
+        path: Path<'_>,
+    ) -> Result<(), AllocError> {
         match told.verdict {
             Verdict::Selected(number) => {
-                let spec = self.spec_line(number, path)?;
-                format!(in self.alloc; "selected by {spec}")
+                text.push("selected by ");
+                return self.push_spec(text, number, path);
             }
             Verdict::Excluded(number) => {
-                let spec = self.spec_line(number, path)?;
-                format!(in self.alloc; "excluded by {spec}{skip}")
+                text.push("excluded by ");
+                self.push_spec(text, number, path)?;
+                push_skip(text, told.may_skip);
             }
-            Verdict::NoExcludeMatches => format!(in self.alloc; "selected: no exclude matches"),
+            Verdict::NoExcludeMatches => text.push("selected: no exclude matches"),
             Verdict::NoIncludeMatches if told.may_skip => {
-                format!(in self.alloc; "a walk may skip it: no include can match below")
+                text.push("a walk may skip it: no include can match below");
             }
-            Verdict::NoIncludeMatches => format!(in self.alloc; "not selected: no include matches"),
+            Verdict::NoIncludeMatches => text.push("not selected: no include matches"),
             Verdict::LacksCommonPrefix(_) => {
-                let common = quoted(self.alloc, self.asked.search.common_prefix().as_bytes())?;
-                format!(in self.alloc;
-                    "not selected: all includes begin with {common}, and the path doesn't{skip}"
-                )
+                text.push("not selected: all includes begin with ");
+                self.push_common_prefix(text);
+                text.push(", and the path doesn't");
+                push_skip(text, told.may_skip);
             }
         }
+        Ok(())
     }
 
     /// Explains the path with a number, from 1.
@@ -182,36 +200,94 @@ impl Explainer<'_, '_> {
         }
         self.attributes.reach(rt, path.path.as_bytes(), told)?;
         let told = self.verdicts.verdict(path, &mut self.attributes)?;
-        if self.json {
-            let all = self.all;
-            let object = explanation_object(self, told, path, all)?;
-            return write_object(self.alloc, &object, writer);
-        }
-        self.write_lines(told, path, writer)
-    }
-
-    /// Writes the lines that explain a path.
-    fn write_lines<W: Write>(
-        &mut self,
-        told: Explanation,
-        path: Path<'_>,
-        writer: &mut W,
-    ) -> Result<(), Failure> {
-        let mut lines = String::new(self.alloc);
-        let width = push_shown(&mut lines, path.record)?;
-        push_spaces(&mut lines, self.column.saturating_sub(width).max(2))?;
-        lines.push_str(self.verdict_line(told, path)?.as_str())?;
-        lines.push_str("\n")?;
-        if self.all {
-            for number in 0..self.asked.texts.len() {
-                push_spaces(&mut lines, self.column.max(4))?;
-                lines.push_str(self.spec_line(number, path)?.as_str())?;
-                lines.push_str("\n")?;
-            }
-        }
+        let lines = self.explanation(told, path)?;
         writer
             .write_all(lines.as_bytes())
             .map_err(|_| Failure::Output)
+    }
+
+    /// The lines that explain a path.
+    fn explanation(&mut self, told: Explanation, path: Path<'_>) -> Result<String, AllocError> {
+        let mut lines = Text::new(self.alloc);
+        if self.json {
+            push_object(&mut lines, self, told, path)?;
+        } else {
+            self.push_lines(&mut lines, told, path)?;
+        }
+        lines.end()
+    }
+
+    /// Adds the lines that explain a path to people.
+    fn push_lines(
+        &mut self,
+        lines: &mut Text,
+        told: Explanation,
+        path: Path<'_>,
+    ) -> Result<(), AllocError> {
+        let width = lines.push_shown(path.record);
+        lines.push_spaces(self.column.saturating_sub(width).max(2));
+        self.push_verdict(lines, told, path)?;
+        lines.push("\n");
+        if self.all {
+            self.push_specs(lines, path)?;
+        }
+        Ok(())
+    }
+
+    /// Adds a line for each spec.
+    fn push_specs(&mut self, lines: &mut Text, path: Path<'_>) -> Result<(), AllocError> {
+        for number in 0..self.asked.texts.len() {
+            lines.push_spaces(self.column.max(4));
+            self.push_spec(lines, number, path)?;
+            lines.push("\n");
+        }
+        Ok(())
+    }
+
+    /// Explains the paths of the options, and else those that `reader` has.
+    fn explain_all<D: Files + AllocGlobal, I: Read, W: Write, T: Write>(
+        &mut self,
+        rt: &D,
+        options: &ExplainOptions<'_>,
+        reader: &mut I,
+        writer: &mut W,
+        told: &mut T,
+    ) -> Result<(), Failure> {
+        if options.paths.is_empty() {
+            let separator = if options.null { 0 } else { b'\n' };
+            let mut reader = BufReader::new(self.alloc, reader).map_err(|_| Failure::Memory)?;
+            return self.explain_records(rt, separator, &mut reader, writer, told);
+        }
+        for (place, path) in options.paths.iter().enumerate() {
+            self.explain(rt, path.as_bytes(), place.saturating_add(1), writer, told)?;
+        }
+        Ok(())
+    }
+
+    /// Explains the records that a reader has.
+    fn explain_records<D: Files + AllocGlobal, I: BufRead, W: Write, T: Write>(
+        &mut self,
+        rt: &D,
+        separator: u8,
+        reader: &mut I,
+        writer: &mut W,
+        told: &mut T,
+    ) -> Result<(), Failure> {
+        let mut record = Vec::new(self.alloc);
+        for number in 1..usize::MAX {
+            if !read_record(self.alloc, separator, reader, &mut record)? {
+                break;
+            }
+            self.explain(rt, &record, number, writer, told)?;
+        }
+        Ok(())
+    }
+}
+
+/// Adds that a walk may skip a path, if it may.
+fn push_skip(text: &mut Text, may_skip: bool) {
+    if may_skip {
+        text.push("; a walk may skip it");
     }
 }
 
@@ -228,54 +304,45 @@ pub(crate) fn run<R: Files + Env + AllocGlobal, I: Read, W: Write, T: Write>(
     told: &mut T,
 ) -> Result<u8, Failure> {
     let asked = read_specs(rt, specs)?;
-    let mut explainer = Explainer {
-        alloc: rt.alloc(),
-        asked: &asked,
-        specs: asked_specs(rt.alloc(), &asked.search)?,
-        verdicts: Verdicts::new(rt.alloc(), &asked.search)?,
-        attributes: attributes_of(rt, specs, told)?,
-        all: options.all,
-        json: options.json,
-        column: column_of(rt.alloc(), &options.paths)?,
-    };
+    let mut explainer = Explainer::new(rt, &asked, specs, options, told)?;
+    write_explanations(rt, &mut explainer, options, reader, writer, told)
+}
+
+/// Explains paths to a writer that gets many lines at a time.
+fn write_explanations<D: Files + AllocGlobal, I: Read, W: Write, T: Write>(
+    rt: &D,
+    explainer: &mut Explainer<'_, '_>,
+    options: &ExplainOptions<'_>,
+    reader: &mut I,
+    writer: &mut W,
+    told: &mut T,
+) -> Result<u8, Failure> {
     let mut writer = BufWriter::new(rt.alloc(), writer).map_err(|_| Failure::Memory)?;
-    if options.paths.is_empty() {
-        let separator = if options.null { 0 } else { b'\n' };
-        explain_records(rt, &mut explainer, separator, reader, &mut writer, told)?;
-    } else {
-        for (place, path) in options.paths.iter().enumerate() {
-            let number = place.saturating_add(1);
-            explainer.explain(rt, path.as_bytes(), number, &mut writer, told)?;
-        }
-    }
+    explainer.explain_all(rt, options, reader, &mut writer, told)?;
     writer.flush().map_err(|_| Failure::Output)?;
     Ok(0)
 }
 
-/// Explains the records that a reader has.
-fn explain_records<D: Files + AllocGlobal, I: Read, W: Write, T: Write>(
-    rt: &D,
-    explainer: &mut Explainer<'_, '_>,
+/// Reads the next record into `record`, without its separator. It says whether there was one.
+///
+/// # Errors
+/// The read failed.
+fn read_record<I: BufRead>(
+    alloc: Global,
     separator: u8,
     reader: &mut I,
-    writer: &mut W,
-    told: &mut T,
-) -> Result<(), Failure> {
-    let mut reader = BufReader::new(rt.alloc(), reader).map_err(|_| Failure::Memory)?;
-    let mut record = Vec::new(rt.alloc());
-    for number in 1..usize::MAX {
-        record.clear();
-        match reader.read_until(separator, &mut record) {
-            Ok(0) => break,
-            Ok(_) => {}
-            Err(error) => return Err(read_fault(rt.alloc(), "standard input", &error)?),
-        }
-        let path = record
-            .strip_suffix([separator].as_slice())
-            .unwrap_or(&record);
-        explainer.explain(rt, path, number, writer, told)?;
+    record: &mut Vec<u8>,
+) -> Result<bool, Failure> {
+    record.clear();
+    match reader.read_until(separator, record) {
+        Ok(0) => return Ok(false),
+        Ok(_) => {}
+        Err(error) => return Err(read_fault(alloc, "standard input", &error)?),
     }
-    Ok(())
+    if record.last() == Some(&separator) {
+        record.pop();
+    }
+    Ok(true)
 }
 
 /// The column behind the longest of paths; 0 without paths.

@@ -1,70 +1,143 @@
-//! Explanations as objects (JSON, RFC 8259).
-use crate::Failure;
+//! Explanations as objects (JSON, RFC 8259). The members of an object stand in the order of their names.
 use crate::decided::{Decided, RulePlace};
 use crate::explaining::{Explainer, Path};
+use crate::text::Text;
 use gix_pathspec::search::MatchKind;
 use pathspec_explain::{Explanation, Reason, Verdict};
-use serde_json::{Map, Value, push, put};
-use std::alloc::{AllocError, Global};
-use std::io::Write;
+use std::alloc::AllocError;
 use std::str;
 
-/// A text, or the array of its bytes where they aren't UTF-8.
-fn text_value(alloc: Global, bytes: &[u8]) -> Result<Value, AllocError> {
-    if let Ok(text) = str::from_utf8(bytes) {
-        return Value::try_from_str(alloc, text);
-    }
-    let mut numbers = Vec::new(alloc);
-    for byte in bytes {
-        push(&mut numbers, Value::from(*byte))?;
-    }
-    Ok(Value::Array(numbers))
-}
-
-/// The number of a spec for people, from 1.
-fn number_value(number: usize) -> Value {
-    Value::from(number.saturating_add(1) as u64)
-}
-
-/// The object that explains a path.
-pub(crate) fn explanation_object(
+/// Adds the line with the object that explains a path.
+///
+/// # Errors
+/// Memory ran out.
+pub(crate) fn push_object(
+    text: &mut Text,
     explainer: &mut Explainer<'_, '_>,
     told: Explanation,
     path: Path<'_>,
-    all: bool,
-) -> Result<Value, AllocError> {
-    let alloc = explainer.alloc;
-    let mut members = Map::new(alloc);
-    put(&mut members, alloc, "path", text_value(alloc, path.record)?)?;
-    put(
-        &mut members,
-        alloc,
-        "verdict",
-        Value::try_from_str(alloc, verdict_name(told.verdict))?,
-    )?;
-    put(&mut members, alloc, "may_skip", Value::from(told.may_skip))?;
-    match told.verdict {
+) -> Result<(), AllocError> {
+    text.push("{");
+    push_cause(text, explainer, told.verdict, path)?;
+    push_name(text, "may_skip");
+    text.push(if told.may_skip { "true" } else { "false" });
+    push_name(text, "path");
+    push_bytes(text, path.record);
+    if explainer.all {
+        push_name(text, "specs");
+        push_specs(text, explainer, path)?;
+    }
+    push_word(text, "verdict", verdict_name(told.verdict));
+    text.push("}\n");
+    Ok(())
+}
+
+/// Adds the spec that settles a path, or the byte that does, if there is one.
+fn push_cause(
+    text: &mut Text,
+    explainer: &mut Explainer<'_, '_>,
+    verdict: Verdict,
+    path: Path<'_>,
+) -> Result<(), AllocError> {
+    match verdict {
         Verdict::Selected(number) | Verdict::Excluded(number) => {
-            put(
-                &mut members,
-                alloc,
-                "by",
-                reason_object(explainer, number, path)?,
-            )?;
+            push_name(text, "by");
+            push_spec(text, explainer, number, path)
         }
         Verdict::LacksCommonPrefix(at) => {
-            put(&mut members, alloc, "byte", Value::from(at as u64))?;
+            push_number(text, "byte", at);
+            Ok(())
         }
-        Verdict::NoExcludeMatches | Verdict::NoIncludeMatches => {}
+        Verdict::NoExcludeMatches | Verdict::NoIncludeMatches => Ok(()),
     }
-    if all {
-        let mut reasons = Vec::new(alloc);
-        for number in 0..explainer.asked.texts.len() {
-            push(&mut reasons, reason_object(explainer, number, path)?)?;
+}
+
+/// Adds the array of all specs.
+fn push_specs(
+    text: &mut Text,
+    explainer: &mut Explainer<'_, '_>,
+    path: Path<'_>,
+) -> Result<(), AllocError> {
+    text.push("[");
+    for number in 0..explainer.asked.texts.len() {
+        push_comma(text);
+        push_spec(text, explainer, number, path)?;
+    }
+    text.push("]");
+    Ok(())
+}
+
+/// Adds the object of a spec and why it matches a path or doesn't.
+fn push_spec(
+    text: &mut Text,
+    explainer: &mut Explainer<'_, '_>,
+    number: usize,
+    path: Path<'_>,
+) -> Result<(), AllocError> {
+    text.push("{");
+    match explainer.reason(number, path)? {
+        Some(found) => {
+            push_place(text, found.reason);
+            push_number(text, "number", number.saturating_add(1));
+            push_word(text, "reason", reason_name(found.reason));
+            push_rules(text, &found.decided);
+            push_source(text, explainer, number);
+            push_word(text, "text", found.words.as_str());
         }
-        put(&mut members, alloc, "specs", Value::Array(reasons))?;
+        None => {
+            push_number(text, "number", number.saturating_add(1));
+            push_source(text, explainer, number);
+        }
     }
-    Ok(Value::Object(members))
+    text.push("}");
+    Ok(())
+}
+
+/// Adds where a reason lies, and the kind of its match, if it has them.
+fn push_place(text: &mut Text, reason: Reason) {
+    match reason {
+        Reason::Matches(kind) | Reason::OnlyDirectory(kind) | Reason::WithoutCase(kind) => {
+            push_word(text, "kind", kind_name(kind));
+        }
+        Reason::OtherState(at) | Reason::OutsidePrefix(at) | Reason::Parts(at) => {
+            push_number(text, "at", at);
+        }
+        Reason::NoStates | Reason::GlobFails => {}
+    }
+}
+
+/// Adds the array of the rules that decide attributes, unless there are none.
+fn push_rules(text: &mut Text, decided: &[Decided]) {
+    if decided.is_empty() {
+        return;
+    }
+    push_name(text, "rules");
+    text.push("[");
+    for own in decided {
+        push_comma(text);
+        push_rule(text, own);
+    }
+    text.push("]");
+}
+
+/// Adds the rule that decides an attribute, with the name of the attribute. An attribute of which no rule speaks has no file.
+fn push_rule(text: &mut Text, decided: &Decided) {
+    text.push("{");
+    push_name(text, "attribute");
+    push_bytes(text, &decided.name);
+    if let Some(RulePlace { file, line }) = &decided.rule {
+        push_word(text, "file", file.as_str());
+        push_number(text, "line", *line);
+    }
+    text.push("}");
+}
+
+/// Adds a spec as it was given. The prefix, where it stands for no specs, wasn't given.
+fn push_source(text: &mut Text, explainer: &Explainer<'_, '_>, number: usize) {
+    if let Some(spec) = explainer.asked.texts.get(number) {
+        push_name(text, "spec");
+        push_bytes(text, &spec.text);
+    }
 }
 
 /// What settles a path, in a word.
@@ -78,79 +151,17 @@ fn verdict_name(verdict: Verdict) -> &'static str {
     }
 }
 
-/// The object of a spec and why it matches a path or doesn't.
-fn reason_object(
-    explainer: &mut Explainer<'_, '_>,
-    number: usize,
-    path: Path<'_>,
-) -> Result<Value, AllocError> {
-    let alloc = explainer.alloc;
-    let mut members = Map::new(alloc);
-    put(&mut members, alloc, "number", number_value(number))?;
-    if let Some(text) = explainer.asked.texts.get(number) {
-        put(&mut members, alloc, "spec", text_value(alloc, &text.text)?)?;
-    }
-    let Some(reason) = explainer.reason(number, path)? else {
-        return Ok(Value::Object(members));
-    };
-    let decided = explainer.decided(number, reason, path)?;
-    let words = explainer.reason_words(number, reason, &decided)?;
-    let (name, kind, place) = parts_of(reason);
-    put(
-        &mut members,
-        alloc,
-        "reason",
-        Value::try_from_str(alloc, name)?,
-    )?;
-    if let Some(kind) = kind {
-        put(
-            &mut members,
-            alloc,
-            "kind",
-            Value::try_from_str(alloc, kind_name(kind))?,
-        )?;
-    }
-    if let Some(place) = place {
-        put(&mut members, alloc, "at", Value::from(place as u64))?;
-    }
-    put(&mut members, alloc, "text", Value::String(words))?;
-    if !decided.is_empty() {
-        put(&mut members, alloc, "rules", rules_value(alloc, decided)?)?;
-    }
-    Ok(Value::Object(members))
-}
-
-/// The rules that decide attributes, each with the name of the attribute. An attribute of which no rule speaks has no file.
-fn rules_value(alloc: Global, decided: Vec<Decided>) -> Result<Value, AllocError> {
-    let mut rules = Vec::new(alloc);
-    for own in decided.into_iter() {
-        let Decided {
-            name,
-            state: _state,
-            rule,
-        } = own;
-        let mut members = Map::new(alloc);
-        put(&mut members, alloc, "attribute", text_value(alloc, &name)?)?;
-        if let Some(RulePlace { file, line }) = rule {
-            put(&mut members, alloc, "file", Value::String(file))?;
-            put(&mut members, alloc, "line", Value::from(line as u64))?;
-        }
-        push(&mut rules, Value::Object(members))?;
-    }
-    Ok(Value::Array(rules))
-}
-
-/// A reason's name, with its kind of match and its place.
-fn parts_of(reason: Reason) -> (&'static str, Option<MatchKind>, Option<usize>) {
+/// A reason in a word.
+fn reason_name(reason: Reason) -> &'static str {
     match reason {
-        Reason::Matches(kind) => ("matches", Some(kind), None),
-        Reason::OtherState(place) => ("other_state", None, Some(place)),
-        Reason::NoStates => ("no_states", None, None),
-        Reason::OnlyDirectory(kind) => ("only_directory", Some(kind), None),
-        Reason::OutsidePrefix(at) => ("outside_prefix", None, Some(at)),
-        Reason::WithoutCase(kind) => ("without_case", Some(kind), None),
-        Reason::Parts(at) => ("parts", None, Some(at)),
-        Reason::GlobFails => ("glob_fails", None, None),
+        Reason::Matches(_) => "matches",
+        Reason::OtherState(_) => "other_state",
+        Reason::NoStates => "no_states",
+        Reason::OnlyDirectory(_) => "only_directory",
+        Reason::OutsidePrefix(_) => "outside_prefix",
+        Reason::WithoutCase(_) => "without_case",
+        Reason::Parts(_) => "parts",
+        Reason::GlobFails => "glob_fails",
     }
 }
 
@@ -164,15 +175,77 @@ fn kind_name(kind: MatchKind) -> &'static str {
     }
 }
 
-/// Writes an object as a line.
-pub(crate) fn write_object<W: Write>(
-    alloc: Global,
-    object: &Value,
-    writer: &mut W,
-) -> Result<(), Failure> {
-    let mut line = object.to_string(alloc)?;
-    line.push_str("\n")?;
-    writer
-        .write_all(line.as_bytes())
-        .map_err(|_| Failure::Output)
+/// Adds a member whose value is a string.
+fn push_word(text: &mut Text, name: &str, value: &str) {
+    push_name(text, name);
+    push_string(text, value);
+}
+
+/// Adds a member whose value is a number.
+fn push_number(text: &mut Text, name: &str, value: usize) {
+    push_name(text, name);
+    text.push_number(value);
+}
+
+/// Adds the name of a member of an object. The member's value comes next.
+fn push_name(text: &mut Text, name: &str) {
+    push_comma(text);
+    push_string(text, name);
+    text.push(":");
+}
+
+/// Adds the comma before a member or an element, unless it is the first: no value ends with an opening bracket.
+fn push_comma(text: &mut Text) {
+    if !matches!(text.last(), Some(b'{' | b'[')) {
+        text.push(",");
+    }
+}
+
+/// Adds a text as a string, or as the array of its bytes where they aren't UTF-8.
+fn push_bytes(text: &mut Text, bytes: &[u8]) {
+    match str::from_utf8(bytes) {
+        Ok(value) => push_string(text, value),
+        Err(_) => push_numbers(text, bytes),
+    }
+}
+
+/// Adds the array of bytes.
+fn push_numbers(text: &mut Text, bytes: &[u8]) {
+    text.push("[");
+    for byte in bytes {
+        push_comma(text);
+        text.push_number(usize::from(*byte));
+    }
+    text.push("]");
+}
+
+/// Adds a string (RFC 8259, section 7).
+fn push_string(text: &mut Text, value: &str) {
+    text.push("\"");
+    for character in value.chars() {
+        push_escaped(text, character);
+    }
+    text.push("\"");
+}
+
+/// Adds a character of a string.
+fn push_escaped(text: &mut Text, character: char) {
+    match character {
+        '"' => text.push("\\\""),
+        '\\' => text.push("\\\\"),
+        '\u{8}' => text.push("\\b"),
+        '\u{c}' => text.push("\\f"),
+        '\n' => text.push("\\n"),
+        '\r' => text.push("\\r"),
+        '\t' => text.push("\\t"),
+        '\0'..='\u{f}' => push_control(text, "\\u000", character),
+        '\u{10}'..='\u{1f}' => push_control(text, "\\u001", character),
+        _ => text.push_char(character),
+    }
+}
+
+/// Adds a control character by its number, of which `front` has all but the last digit.
+fn push_control(text: &mut Text, front: &str, character: char) {
+    text.push(front);
+    text.push_char(char::from_digit(u32::from(character) % 16, 16).unwrap_or('0'));
 }

@@ -22,6 +22,7 @@ mod running;
 mod showing;
 mod spec_texts;
 mod telling;
+mod text;
 mod unmatched;
 mod verdicts;
 

@@ -1,18 +1,25 @@
 //! `pathspec show`.
 use crate::Failure;
 use crate::asked::{Asked, read_specs};
-use crate::telling::quoted;
+use crate::text::Text;
 use bitflags::Flags;
 use bstr::BStr;
 use gix_pathspec::attributes::{Assignment, State};
 use gix_pathspec::{MagicSignature, Pattern, Search, SearchMode};
-use pathspec_faults::push_shown;
 use pathspec_glob::first_wildcard;
 use pathspec_options::SpecOptions;
-use std::alloc::{AllocError, Global};
+use std::alloc::Global;
 use std::fs::Files;
 use std::io::Write;
 use std::rt::Env;
+
+/// The flags of a spec, each with its name.
+const FLAGS: [(MagicSignature, &str); 4] = [
+    (MagicSignature::TOP, "top"),
+    (MagicSignature::ICASE, "icase"),
+    (MagicSignature::EXCLUDE, "exclude"),
+    (MagicSignature::MUST_BE_DIR, "directory"),
+];
 
 /// Writes what each spec means to `writer`. It gives the exit status.
 ///
@@ -24,8 +31,13 @@ pub(crate) fn run<R: Files + Env + AllocGlobal, W: Write>(
     writer: &mut W,
 ) -> Result<u8, Failure> {
     let asked = read_specs(rt, specs)?;
+    write_specs(rt.alloc(), &asked, writer)
+}
+
+/// Writes what each spec means.
+fn write_specs<W: Write>(alloc: Global, asked: &Asked<'_>, writer: &mut W) -> Result<u8, Failure> {
     for number in 0..asked.texts.len() {
-        let lines = spec_lines(rt.alloc(), &asked, number)?;
+        let lines = spec_lines(alloc, asked, number)?;
         if writer.write_all(lines.as_bytes()).is_err() {
             return Err(Failure::Output);
         }
@@ -35,31 +47,29 @@ pub(crate) fn run<R: Files + Env + AllocGlobal, W: Write>(
 
 /// The lines on the spec with a number.
 fn spec_lines(alloc: Global, asked: &Asked<'_>, number: usize) -> Result<String, Failure> {
-    let mut lines = String::new(alloc);
-    let (Some(text), Some(pattern)) = (asked.texts.get(number), pattern_at(asked, number)) else {
-        return Ok(lines);
-    };
-    let spec = quoted(alloc, &text.text)?;
-    lines.push_str(format!(in alloc; "{} {spec}\n", number.saturating_add(1))?.as_str())?;
-    let path = pattern.path();
-    push_field(&mut lines, "path", path.as_bytes())?;
-    push_field(&mut lines, "magic", magic_text(alloc, pattern)?.as_bytes())?;
-    push_field(
-        &mut lines,
-        "mode",
-        mode_text(pattern.search_mode).as_bytes(),
-    )?;
-    push_field(
-        &mut lines,
-        "attributes",
-        attribute_text(alloc, &pattern.attributes)?.as_slice(),
-    )?;
-    let prefix = pattern.prefix_directory();
-    push_field(&mut lines, "prefix", prefix.as_bytes())?;
-    let long = pattern.to_bstring()?;
-    push_field(&mut lines, "long form", long.as_bytes())?;
-    push_field(&mut lines, "walk", walk_text(alloc, pattern)?.as_bytes())?;
-    Ok(lines)
+    let mut lines = Text::new(alloc);
+    if let (Some(spec), Some(pattern)) = (asked.texts.get(number), pattern_at(asked, number)) {
+        lines.push_number(number.saturating_add(1));
+        lines.push(" ");
+        lines.push_quoted(&spec.text);
+        lines.push("\n");
+        push_meaning(alloc, &mut lines, pattern)?;
+    }
+    Ok(lines.end()?)
+}
+
+/// Adds the lines on what a spec means.
+fn push_meaning(alloc: Global, lines: &mut Text, pattern: &Pattern) -> Result<(), Failure> {
+    push_field(lines, "path", pattern.path().as_bytes());
+    push_magic(lines, pattern.signature);
+    push_field(lines, "mode", mode_text(pattern.search_mode).as_bytes());
+    push_attributes(lines, &pattern.attributes);
+    push_field(lines, "prefix", pattern.prefix_directory().as_bytes());
+    push_long_form(lines, pattern)?;
+    push_name(lines, "walk");
+    push_walk(alloc, lines, pattern)?;
+    lines.push("\n");
+    Ok(())
 }
 
 /// The normal form of the spec with a number.
@@ -68,38 +78,46 @@ fn pattern_at<'a>(asked: &'a Asked<'_>, number: usize) -> Option<&'a Pattern> {
     asked.search.patterns().nth(place)
 }
 
-/// Adds the line of a field; none where it is empty.
-fn push_field(lines: &mut String, name: &str, value: &[u8]) -> Result<(), AllocError> {
-    if value.is_empty() {
-        return Ok(());
-    }
-    lines.push_str("  ")?;
-    lines.push_str(name)?;
-    for _ in name.len()..12 {
-        lines.push(' ')?;
-    }
-    push_shown(lines, value)?;
-    lines.push_str("\n")?;
-    Ok(())
+/// Begins the line of a field.
+fn push_name(lines: &mut Text, name: &str) {
+    lines.push("  ");
+    lines.push(name);
+    lines.push_spaces(12usize.saturating_sub(name.len()));
 }
 
-/// The flags that a spec asks for.
-fn magic_text(alloc: Global, pattern: &Pattern) -> Result<String, AllocError> {
-    let mut text = String::new(alloc);
-    for (flag, name) in [
-        (MagicSignature::TOP, "top"),
-        (MagicSignature::ICASE, "icase"),
-        (MagicSignature::EXCLUDE, "exclude"),
-        (MagicSignature::MUST_BE_DIR, "directory"),
-    ] {
-        if pattern.signature.contains(flag) {
-            if !text.is_empty() {
-                text.push_str(", ")?;
+/// Adds the line of a field; none where it is empty.
+fn push_field(lines: &mut Text, name: &str, value: &[u8]) {
+    if !value.is_empty() {
+        push_name(lines, name);
+        lines.push_shown(value);
+        lines.push("\n");
+    }
+}
+
+/// Adds the line of the flags that a spec asks for; none where it asks for none.
+fn push_magic(lines: &mut Text, signature: MagicSignature) {
+    let mut is_first = true;
+    for (flag, name) in FLAGS {
+        if signature.contains(flag) {
+            if is_first {
+                push_name(lines, "magic");
+            } else {
+                lines.push(", ");
             }
-            text.push_str(name)?;
+            lines.push(name);
+            is_first = false;
         }
     }
-    Ok(text)
+    if !is_first {
+        lines.push("\n");
+    }
+}
+
+/// Adds the line of a spec's long form.
+fn push_long_form(lines: &mut Text, pattern: &Pattern) -> Result<(), Failure> {
+    let long = pattern.to_bstring()?;
+    push_field(lines, "long form", long.as_bytes());
+    Ok(())
 }
 
 /// How a spec's path is compared.
@@ -111,45 +129,67 @@ fn mode_text(mode: SearchMode) -> &'static str {
     }
 }
 
-/// A list of attributes, as `attr:` takes it.
-fn attribute_text(alloc: Global, attributes: &[Assignment]) -> Result<Vec<u8>, AllocError> {
-    let mut text = Vec::new(alloc);
-    for assignment in attributes {
-        if !text.is_empty() {
-            text.push(b' ')?;
-        }
-        let mark: &[u8] = match &assignment.state {
-            State::Unset => b"-",
-            State::Unspecified => b"!",
-            State::Set | State::Value(_) => b"",
-        };
-        text.extend_from_slice(mark)?;
-        text.extend_from_slice(assignment.name.as_bytes().as_bytes())?;
-        if let State::Value(value) = &assignment.state {
-            text.push(b'=')?;
-            text.extend_from_slice(value)?;
-        }
+/// Adds the line of a list of attributes, as `attr:` takes it; none where the list is empty.
+fn push_attributes(lines: &mut Text, attributes: &[Assignment]) {
+    if attributes.is_empty() {
+        return;
     }
-    Ok(text)
+    push_name(lines, "attributes");
+    for (at, assignment) in attributes.iter().enumerate() {
+        if at > 0 {
+            lines.push(" ");
+        }
+        push_assignment(lines, assignment);
+    }
+    lines.push("\n");
 }
 
-/// Which directories a walk for the spec alone enters at most.
-fn walk_text(alloc: Global, pattern: &Pattern) -> Result<String, Failure> {
+/// Adds an attribute, as `attr:` takes it.
+fn push_assignment(lines: &mut Text, assignment: &Assignment) {
+    match &assignment.state {
+        State::Unset => lines.push("-"),
+        State::Unspecified => lines.push("!"),
+        State::Set | State::Value(_) => {}
+    }
+    lines.push_shown(assignment.name.as_bytes().as_bytes());
+    if let State::Value(value) = &assignment.state {
+        lines.push("=");
+        lines.push_shown(value);
+    }
+}
+
+/// Adds which directories a walk for the spec alone enters at most.
+fn push_walk(alloc: Global, text: &mut Text, pattern: &Pattern) -> Result<(), Failure> {
     if pattern.is_excluded() {
-        return Ok(String::from_str(alloc, "enters what it doesn't exclude")?);
+        text.push("enters what it doesn't exclude");
+        return Ok(());
     }
-    let alone = vec![in alloc; pattern.try_clone()?]?;
-    let Ok(search) = Search::from_specs(alloc, alone, None, BStr::new(b"")) else {
-        return Err(Failure::Memory);
-    };
     let only = only_path(pattern).or(kept_directory(pattern));
-    match only.or(search.longest_common_directory()) {
-        Some(directory) => {
-            let directory = quoted(alloc, directory.as_bytes())?;
-            Ok(format!(in alloc; "enters only {directory} and below")?)
-        }
-        None => Ok(String::from_str(alloc, "may enter any directory")?),
+    if only.is_some() {
+        push_entered(text, only);
+        return Ok(());
     }
+    let search = search_alone(alloc, pattern)?;
+    push_entered(text, search.longest_common_directory());
+    Ok(())
+}
+
+/// Adds that a walk enters only a directory, if there is one.
+fn push_entered(text: &mut Text, directory: Option<BStr<'_>>) {
+    match directory {
+        Some(directory) => {
+            text.push("enters only ");
+            text.push_quoted(directory.as_bytes());
+            text.push(" and below");
+        }
+        None => text.push("may enter any directory"),
+    }
+}
+
+/// The search of a spec alone.
+fn search_alone(alloc: Global, pattern: &Pattern) -> Result<Search, Failure> {
+    let alone = vec![in alloc; pattern.try_clone()?]?;
+    Search::from_specs(alloc, alone, None, BStr::new(b"")).map_err(|_| Failure::Memory)
 }
 
 /// The path of a spec that matches only that and what lies below. None where a wildcard or another case could match.

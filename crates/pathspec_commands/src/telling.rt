@@ -1,6 +1,6 @@
 //! Lines for people.
 use crate::Failure;
-use pathspec_faults::push_shown;
+use crate::text::Text;
 use std::alloc::{AllocError, Global};
 use std::io::{self, ErrorKind, Write};
 
@@ -11,23 +11,14 @@ pub(crate) fn tell<T: Write>(told: &mut T, text: &str) {
 
 /// A text in quotes, with control characters and bytes that are no UTF-8 by their numbers.
 pub(crate) fn quoted(alloc: Global, text: &[u8]) -> Result<String, AllocError> {
-    let mut shown = String::from_str(alloc, "'")?;
-    push_shown(&mut shown, text)?;
-    shown.push_str("'")?;
-    Ok(shown)
+    let mut shown = Text::new(alloc);
+    shown.push_quoted(text);
+    shown.end()
 }
 
 /// The word for so many of something.
 pub(crate) fn noun(count: u64, one: &'static str, many: &'static str) -> &'static str {
     if count == 1 { one } else { many }
-}
-
-/// Adds so many spaces.
-pub(crate) fn push_spaces(line: &mut String, count: usize) -> Result<(), AllocError> {
-    for _ in 0..count {
-        line.push(' ')?;
-    }
-    Ok(())
 }
 
 /// The fault of a read of what has a name.
