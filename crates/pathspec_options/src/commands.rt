@@ -1,177 +1,184 @@
 //! The program's commands and their options.
 use crate::pages;
-use clap::{Arg, ArgAction, Command};
+use crate::rows::{Row, arguments_of, flag, list, option, word, words};
+use clap::Command;
 use std::alloc::{AllocError, Global};
 
-/// A flag with a long name.
-fn flag<'a>(alloc: Global, name: &'a str, help: &'a str) -> Arg<'a> {
-    Arg::new(alloc, name)
-        .long(name)
-        .action(ArgAction::SetTrue)
-        .help(help)
-}
-
-/// An option with one value. One that begins with `-` stands behind `=`.
-fn option<'a>(alloc: Global, name: &'a str, value: &'a str, help: &'a str) -> Arg<'a> {
-    Arg::new(alloc, name)
-        .long(name)
-        .value_name(value)
-        .help(help)
-}
-
-/// An option with one value that may be used more than once.
-fn list<'a>(alloc: Global, name: &'a str, value: &'a str, help: &'a str) -> Arg<'a> {
-    option(alloc, name, value, help).action(ArgAction::Append)
-}
-
 /// The specs among the words of a command.
-fn spec_words<'a>(alloc: Global) -> Arg<'a> {
-    Arg::new(alloc, "specs")
-        .value_name("SPEC")
-        .num_args(0..)
-        .action(ArgAction::Append)
-        .help("Pathspecs, as git takes them")
+fn specs() -> Row {
+    words("specs", &["SPEC"], "Pathspecs, as git takes them")
 }
 
 /// The options that specs are read with.
-fn spec_options<'a>(alloc: Global, command: Command<'a>) -> Result<Command<'a>, AllocError> {
-    command
-        .arg(list(
-            alloc,
+fn spec_options() -> [Row; 7] {
+    [
+        list(
             "specs-from",
-            "FILE",
+            &["FILE"],
             "Takes a spec from each line of a file",
-        ))?
-        .arg(option(
-            alloc,
+        ),
+        option(
             "prefix",
-            "DIR",
+            &["DIR"],
             "The directory in which the specs are given",
-        ))?
-        .arg(option(
-            alloc,
+        ),
+        option(
             "root",
-            "DIR",
+            &["DIR"],
             "Where the repository lies, for absolute paths",
-        ))?
-        .arg(flag(alloc, "icase", "ASCII case doesn't count"))?
-        .arg(flag(alloc, "glob", "Wildcards don't take slashes").conflicts_with("noglob")?)?
-        .arg(flag(alloc, "noglob", "Specs have no wildcards"))?
-        .arg(flag(alloc, "literal", "Specs are paths, magic and all"))
+        ),
+        flag("icase", "ASCII case doesn't count"),
+        flag("glob", "Wildcards don't take slashes").without(&["noglob"]),
+        flag("noglob", "Specs have no wildcards"),
+        flag("literal", "Specs are paths, magic and all"),
+    ]
 }
 
-/// The specs of a command.
-fn specs<'a>(alloc: Global, command: Command<'a>) -> Result<Command<'a>, AllocError> {
-    spec_options(alloc, command.arg(spec_words(alloc))?)
+/// The flag for a byte 0 behind each path.
+fn null() -> Row {
+    flag("null", "A byte 0 ends each path, and not a line feed").short('z')
 }
 
-/// What a command answers, and how.
-fn answers<'a>(alloc: Global, command: Command<'a>) -> Result<Command<'a>, AllocError> {
-    command
-        .arg(flag(
-            alloc,
-            "null",
-            "A byte 0 ends each path, and not a line feed",
+/// The options that say what a command answers, and how.
+fn answers() -> [Row; 5] {
+    [
+        null(),
+        flag("count", "Writes how many are selected").short('c'),
+        flag("quiet", "Writes nothing; status 1 if none is selected").short('q'),
+        flag("error-unmatch", "Status 1 if a spec selects nothing"),
+        flag("stats", "Writes counts to standard error"),
+    ]
+}
+
+/// The options that give paths their attributes.
+fn attributes() -> [Row; 4] {
+    [
+        // A list may begin with `-`, as `-text` does.
+        list(
+            "attr",
+            &["PATH", "LIST"],
+            "The attributes of a path: a=1 -b !c",
         )
-        .short('z'))?
-        .arg(flag(alloc, "count", "Writes how many are selected").short('c'))?
-        .arg(flag(
-            alloc,
-            "quiet",
-            "Writes nothing; status 1 if none is selected",
+        .with_hyphens(),
+        list(
+            "attr-from",
+            &["FILE"],
+            "The attributes that `git check-attr -z` printed",
+        ),
+        option(
+            "attributes",
+            &["DIR"],
+            "Reads the attribute files of this directory",
         )
-        .short('q'))?
-        .arg(flag(alloc, "error-unmatch", "Status 1 if a spec selects nothing"))?
-        .arg(flag(alloc, "stats", "Writes counts to standard error"))
+        .without(&["attr", "attr-from"]),
+        flag("global", "Reads your own attribute file, too, as git does").beside(&["attributes"]),
+    ]
 }
 
-/// The attributes of paths.
-fn attributes<'a>(alloc: Global, command: Command<'a>) -> Result<Command<'a>, AllocError> {
-    // A list may begin with `-`, as `-text` does.
-    let pairs = list(alloc, "attr", "PATH", "The attributes of a path: a=1 -b !c")
-        .num_args(2)
-        .value_names(["PATH", "LIST"].as_slice())
-        .allow_hyphen_values(true);
-    let triples = list(
-        alloc,
-        "attr-from",
-        "FILE",
-        "The attributes that `git check-attr -z` printed",
-    );
-    let files = option(
-        alloc,
-        "attributes",
-        "DIR",
-        "Reads the attribute files of this directory",
-    );
-    let files = files.conflicts_with("attr")?.conflicts_with("attr-from")?;
-    let global = flag(
-        alloc,
-        "global",
-        "Reads your own attribute file, too, as git does",
-    );
-    let global = global.requires_arg("attributes")?;
-    command.arg(pairs)?.arg(triples)?.arg(files)?.arg(global)
-}
-
-/// A command of the program. Of an option that stands twice the last counts, as in git.
-fn part<'a>(alloc: Global, name: &'a str) -> Command<'a> {
-    Command::new(alloc, name).args_override_self(true)
+/// A command with the options of tables. Of an option that stands twice the last counts, as in git.
+///
+/// # Errors
+/// Memory ran out.
+fn part<'a>(
+    alloc: Global,
+    name: &'a str,
+    about: &'a str,
+    page: &'a str,
+    tables: &[&[Row]],
+) -> Result<Command<'a>, AllocError> {
+    let arguments = arguments_of(alloc, tables)?;
+    Command::new(alloc, name)
+        .args_override_self(true)
+        .about(about)
+        .before_help(page)
+        .args(arguments)
 }
 
 /// `pathspec filter`.
 fn filter<'a>(alloc: Global) -> Result<Command<'a>, AllocError> {
-    let command = part(alloc, "filter")
-        .about("Writes the paths of standard input that pathspecs select")
-        .before_help(pages::FILTER);
-    let command = attributes(alloc, specs(alloc, command)?)?;
-    answers(alloc, command)?
-        .arg(flag(alloc, "verbatim", "Takes a leading `./` as part of a path"))?
-        .arg(flag(alloc, "invert", "Writes the paths that aren't selected").short('v'))
+    let own = [
+        flag("verbatim", "Takes a leading `./` as part of a path"),
+        flag("invert", "Writes the paths that aren't selected").short('v'),
+    ];
+    part(
+        alloc,
+        "filter",
+        "Writes the paths of standard input that pathspecs select",
+        pages::FILTER,
+        &[&[specs()], &spec_options(), &attributes(), &answers(), &own],
+    )
 }
 
 /// `pathspec list`.
 fn list_files<'a>(alloc: Global) -> Result<Command<'a>, AllocError> {
-    let directory = Arg::new(alloc, "directory").value_name("DIR");
-    let change = Arg::new(alloc, "change").short('C').value_name("PATH");
-    let command = part(alloc, "list")
-        .about("Writes the files below a directory that pathspecs select")
-        .before_help(pages::LIST)
-        .arg(directory.help("The directory; the current one if left out"))?
-        .arg(spec_words(alloc).last(true))?;
-    let command = attributes(alloc, spec_options(alloc, command)?)?;
-    let command = answers(alloc, command)?;
-    command
-        .arg(change.help("Takes DIR from this directory, as git does"))?
-        .arg(flag(alloc, "dirs", "Lists directories too, with a slash"))?
-        .arg(flag(alloc, "nested", "Enters directories with a `.git` in them"))?
-        .arg(flag(alloc, "unsorted", "Takes names as the system gives them"))
+    let directory = word(
+        "directory",
+        &["DIR"],
+        "The directory; the current one if left out",
+    );
+    let own = [
+        word(
+            "change",
+            &["PATH"],
+            "Takes DIR from this directory, as git does",
+        )
+        .short('C'),
+        flag("dirs", "Lists directories too, with a slash"),
+        flag("nested", "Enters directories with a `.git` in them"),
+        flag("unsorted", "Takes names as the system gives them"),
+    ];
+    part(
+        alloc,
+        "list",
+        "Writes the files below a directory that pathspecs select",
+        pages::LIST,
+        &[
+            &[directory, specs().last()],
+            &spec_options(),
+            &attributes(),
+            &answers(),
+            &own,
+        ],
+    )
 }
 
 /// `pathspec explain`.
 fn explain<'a>(alloc: Global) -> Result<Command<'a>, AllocError> {
-    let command = part(alloc, "explain")
-        .about("Says why paths are selected or not")
-        .before_help(pages::EXPLAIN);
-    let command = attributes(alloc, specs(alloc, command)?)?;
-    command
-        .arg(list(alloc, "path", "PATH", "A path; a slash ends a directory"))?
-        .arg(flag(
-            alloc,
-            "null",
-            "A byte 0 ends each path, and not a line feed",
-        )
-        .short('z'))?
-        .arg(flag(alloc, "all", "Says of each spec why it matches or not"))?
-        .arg(flag(alloc, "json", "Writes an object a line"))
+    let own = [
+        list("path", &["PATH"], "A path; a slash ends a directory"),
+        null(),
+        flag("all", "Says of each spec why it matches or not"),
+        flag("json", "Writes an object a line"),
+    ];
+    part(
+        alloc,
+        "explain",
+        "Says why paths are selected or not",
+        pages::EXPLAIN,
+        &[&[specs()], &spec_options(), &attributes(), &own],
+    )
 }
 
 /// `pathspec show`.
 fn show<'a>(alloc: Global) -> Result<Command<'a>, AllocError> {
-    let command = part(alloc, "show")
-        .about("Shows what pathspecs mean")
-        .before_help(pages::SHOW);
-    specs(alloc, command)
+    part(
+        alloc,
+        "show",
+        "Shows what pathspecs mean",
+        pages::SHOW,
+        &[&[specs()], &spec_options()],
+    )
+}
+
+/// The program with one more command.
+///
+/// # Errors
+/// Memory ran out, for the command or for its place in the program.
+fn with_part<'a>(
+    program: Command<'a>,
+    part: Result<Command<'a>, AllocError>,
+) -> Result<Command<'a>, AllocError> {
+    program.subcommand(part?)
 }
 
 /// The program's command line. `version` is the text of `--version`, behind the program's name.
@@ -179,14 +186,14 @@ fn show<'a>(alloc: Global) -> Result<Command<'a>, AllocError> {
 /// # Errors
 /// Memory ran out.
 pub fn command<'a>(alloc: Global, version: &'a str) -> Result<Command<'a>, AllocError> {
-    Command::new(alloc, "pathspec")
+    let program = Command::new(alloc, "pathspec")
         .version(version)
         .about("git's pathspecs, over lists of paths and directories")
         .before_help(pages::PROGRAM)
         .subcommand_required(true)
-        .disable_help_subcommand(true)
-        .subcommand(filter(alloc)?)?
-        .subcommand(list_files(alloc)?)?
-        .subcommand(explain(alloc)?)?
-        .subcommand(show(alloc)?)
+        .disable_help_subcommand(true);
+    let program = with_part(program, filter(alloc))?;
+    let program = with_part(program, list_files(alloc))?;
+    let program = with_part(program, explain(alloc))?;
+    with_part(program, show(alloc))
 }

@@ -4,6 +4,7 @@
 mod commands;
 mod options;
 mod pages;
+mod rows;
 
 pub use commands::command;
 pub use options::{ExplainOptions, FilterOptions, ListOptions, Modes, Options, SpecOptions, Task};

@@ -232,7 +232,7 @@ fn pairs<'a>(
     let mut pairs = Vec::new(alloc);
     for values in inner.get_strs(id).unwrap_or(&[]).chunks(2) {
         if let [first, second] = values {
-            pairs.push((*first, *second)).map_err(AllocError::from)?;
+            pairs.push((*first, *second))?;
         }
     }
     Ok(pairs)
