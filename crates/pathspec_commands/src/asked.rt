@@ -5,6 +5,7 @@ ghost use Rattle.pathspec_parts.specs.Paths.{is_clean_prefix};
 ghost use Rattle.pathspec_commands.specs.SpecPlaces.{ArePlaces};
 
 use crate::Failure;
+use crate::environment::variable;
 use crate::spec_texts::{SpecText, spec_texts};
 use bstr::BStr;
 use gix_pathspec::search::BuildError;
@@ -13,12 +14,10 @@ use pathspec_faults::report;
 use pathspec_options::{Modes, SpecOptions};
 use pathspec_parts::path;
 use std::alloc::{AllocError, Global};
-use std::env::{self, VarError};
 use std::fs::Files;
 use std::rt::Env;
 
 /// A search, and its specs as they were given.
-#[derive(Drop)]
 pub(crate) struct Asked<'a> {
     pub(crate) texts: Vec<SpecText<'a>>,
     /// For each spec, as it was given, its place in search order.
@@ -26,6 +25,18 @@ pub(crate) struct Asked<'a> {
     /// Whether a spec lists attributes.
     pub(crate) lists_attributes: bool,
     pub(crate) search: Search,
+}
+
+// Written out, so that whoever drops a search with its specs needn't prove anew what becomes of them.
+impl Drop for Asked<'_> {
+    fn drop(self) {
+        let Asked {
+            texts: _texts,
+            places: _places,
+            lists_attributes: _lists_attributes,
+            search: _search,
+        } = self;
+    }
 }
 
 /// Reads the specs of a command, and makes their search.
@@ -37,20 +48,13 @@ pub(crate) fn read_specs<'a, R: Files + Env + AllocGlobal>(
     options: &SpecOptions<'a>,
 ) -> Result<Asked<'a>, Failure> {
     let texts = spec_texts(rt, options)?;
-    let defaults = defaults(rt, options.modes)?;
-    let mut patterns = Vec::new(rt.alloc());
-    let mut excludes = Vec::new(rt.alloc());
-    let mut lists_attributes = false;
-    for text in &texts {
-        let pattern = pattern_of(rt.alloc(), text, defaults)?;
-        excludes.push(pattern.is_excluded())?;
-        lists_attributes = lists_attributes || !pattern.attributes.is_empty();
-        patterns.push(pattern)?;
-    }
+    let patterns = patterns_of(rt, &texts, options.modes)?;
+    let places = places_of(rt.alloc(), &patterns)?;
+    let lists_attributes = any_lists_attributes(&patterns);
     let search = search_of(rt.alloc(), patterns, &texts, options)?;
     Ok(Asked {
         texts,
-        places: places_in_search(rt.alloc(), &excludes)?,
+        places,
         lists_attributes,
         search,
     })
@@ -64,6 +68,36 @@ impl Asked<'_> {
             None => 0,
         }
     }
+}
+
+/// The patterns of specs, in the order in which they were given.
+fn patterns_of<R: Env + AllocGlobal>(
+    rt: &R,
+    texts: &[SpecText<'_>],
+    modes: Modes,
+) -> Result<Vec<Pattern>, Failure> {
+    let defaults = defaults(rt, modes)?;
+    let mut patterns = Vec::new(rt.alloc());
+    for text in texts {
+        patterns.push(pattern_of(rt.alloc(), text, defaults)?)?;
+    }
+    Ok(patterns)
+}
+
+/// Whether some pattern lists attributes.
+fn any_lists_attributes(patterns: &[Pattern]) -> bool {
+    patterns
+        .iter()
+        .any(|pattern| !pattern.attributes.is_empty())
+}
+
+/// For each of patterns, its place in search order.
+fn places_of(alloc: Global, patterns: &[Pattern]) -> Result<Vec<usize>, AllocError> {
+    let mut excludes = Vec::new(alloc);
+    for pattern in patterns {
+        excludes.push(pattern.is_excluded())?;
+    }
+    places_in_search(alloc, &excludes)
 }
 
 /// The places in search order: excludes come first, each group in the order in which it was given.
@@ -147,10 +181,21 @@ fn search_of(
     let root = BStr::new(options.root.as_bytes());
     match Search::from_specs(alloc, patterns, Some(prefix), root) {
         Ok(search) => Ok(search),
-        Err(BuildError::Memory) => Err(Failure::Memory),
-        Err(BuildError::Spec(number, error)) => match texts.get(number) {
-            Some(text) => Err(spec_fault(alloc, text, &error)?),
-            None => Err(Failure::Memory),
+        Err(error) => Err(build_fault(alloc, texts, &error)?),
+    }
+}
+
+/// What people are told where no search could be made of specs.
+fn build_fault(
+    alloc: Global,
+    texts: &[SpecText<'_>],
+    error: &BuildError,
+) -> Result<Failure, Failure> {
+    match error {
+        BuildError::Memory => Ok(Failure::Memory),
+        BuildError::Spec(number, error) => match texts.get(*number) {
+            Some(text) => spec_fault(alloc, text, error),
+            None => Ok(Failure::Memory),
         },
     }
 }
@@ -165,6 +210,19 @@ struct Variables {
 }
 
 impl Variables {
+    /// The words by options and the environment.
+    ///
+    /// # Errors
+    /// A variable isn't UTF-8.
+    fn read<R: Env + AllocGlobal>(rt: &R, modes: Modes) -> Result<Variables, Failure> {
+        Ok(Variables {
+            literal: word(rt, "GIT_LITERAL_PATHSPECS", modes.literal, false)?,
+            icase: word(rt, "GIT_ICASE_PATHSPECS", modes.icase, false)?,
+            glob: word(rt, "GIT_GLOB_PATHSPECS", modes.glob, modes.noglob)?,
+            noglob: word(rt, "GIT_NOGLOB_PATHSPECS", modes.noglob, modes.glob)?,
+        })
+    }
+
     /// The word of the variable with a name, if it is set.
     fn word(&self, name: &str) -> Option<&str> {
         if name == "GIT_LITERAL_PATHSPECS" {
@@ -184,18 +242,20 @@ impl Variables {
 /// # Errors
 /// A variable that is neither true nor false, or isn't UTF-8.
 fn defaults<R: Env + AllocGlobal>(rt: &R, modes: Modes) -> Result<Defaults, Failure> {
-    let variables = Variables {
-        literal: word(rt, "GIT_LITERAL_PATHSPECS", modes.literal, false)?,
-        icase: word(rt, "GIT_ICASE_PATHSPECS", modes.icase, false)?,
-        glob: word(rt, "GIT_GLOB_PATHSPECS", modes.glob, modes.noglob)?,
-        noglob: word(rt, "GIT_NOGLOB_PATHSPECS", modes.noglob, modes.glob)?,
-    };
+    let variables = Variables::read(rt, modes)?;
     let mut var = |name: &str| -> Option<&str> { variables.word(name) };
     match Defaults::from_environment(rt.alloc(), &mut var) {
         Ok(defaults) => Ok(defaults),
-        Err(Error::Memory) => Err(Failure::Memory),
-        Err(error) => Err(Failure::Told(report(rt.alloc(), "environment", b"", &error)?)),
+        Err(error) => Err(environment_fault(rt.alloc(), &error)?),
     }
+}
+
+/// What people are told of variables at fault.
+fn environment_fault(alloc: Global, error: &Error) -> Result<Failure, AllocError> {
+    if *error == Error::Memory {
+        return Ok(Failure::Memory);
+    }
+    Ok(Failure::Told(report(alloc, "environment", b"", error)?))
 }
 
 /// The word of a variable: one that says yes where an option asks for it, none where an option rules it out, and else the
@@ -212,12 +272,5 @@ fn word<R: Env + AllocGlobal>(
     if is_ruled_out {
         return Ok(None);
     }
-    match env::var(rt, name) {
-        Ok(word) => Ok(Some(word)),
-        Err(VarError::NotPresent) => Ok(None),
-        Err(VarError::NotUnicode) => Err(Failure::Told(format!(in rt.alloc();
-            "error: environment: {name} isn't UTF-8\n"
-        )?)),
-        Err(VarError::OutOfMemory) => Err(Failure::Memory),
-    }
+    variable(rt, name)
 }

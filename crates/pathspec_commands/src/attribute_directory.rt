@@ -1,6 +1,7 @@
 //! The attribute files of a directory, each read when a path comes to its directory.
 use crate::Failure;
 use crate::decided::{Decided, RulePlace, state_words};
+use crate::environment::variable;
 use crate::explaining::Path;
 use crate::spec_texts::read_file;
 use crate::telling::{quoted, read_fault, tell};
@@ -12,21 +13,31 @@ use pathspec_parts::path::{is_clean_prefix, strip_last_slash};
 use pathspec_parts::records::is_bad;
 use std::alloc::{AllocError, Global};
 use std::collections::BTreeSet;
-use std::env::{self, VarError};
 use std::fs::{self, Files};
 use std::io::{ErrorKind, Write};
 use std::rt::Env;
 use std::{slice, str};
 
 /// Attribute files below a directory.
-#[derive(Drop)]
 pub(crate) struct AttributeDirectory<'a> {
     directory: &'a str,
     pub(crate) files: AttributeFiles,
     /// The path of the user's own file, where it was asked for.
     global: Option<String>,
-    /// The directories whose files were looked for, from the top, each with a slash at its end.
+    /// The directories whose files were looked for, by their paths from the top.
     known: BTreeSet<Vec<u8>>,
+}
+
+// Written out, so that whoever drops a directory needn't prove anew what becomes of its files.
+impl Drop for AttributeDirectory<'_> {
+    fn drop(self) {
+        let AttributeDirectory {
+            directory: _directory,
+            files: _files,
+            global: _global,
+            known: _known,
+        } = self;
+    }
 }
 
 impl<'a> AttributeDirectory<'a> {
@@ -39,17 +50,15 @@ impl<'a> AttributeDirectory<'a> {
         directory: &'a str,
         told: &mut T,
     ) -> Result<AttributeDirectory<'a>, Failure> {
-        let mut files = AttributeFiles::new(rt.alloc())?;
-        let top = format!(in rt.alloc(); "{directory}/.gitattributes")?;
-        add_file(rt, &mut files, Place::Directory(b""), top.as_str(), told)?;
-        let info = format!(in rt.alloc(); "{directory}/.git/info/attributes")?;
-        add_file(rt, &mut files, Place::Info, info.as_str(), told)?;
-        Ok(AttributeDirectory {
+        let mut opened = AttributeDirectory {
             directory,
-            files,
+            files: AttributeFiles::new(rt.alloc())?,
             global: None,
             known: BTreeSet::new(rt.alloc()),
-        })
+        };
+        opened.read(rt, Place::Directory(b""), told)?;
+        opened.read(rt, Place::Info, told)?;
+        Ok(opened)
     }
 
     /// Reads the user's own file, where git looks for it by default (gitattributes, "DESCRIPTION").
@@ -61,12 +70,25 @@ impl<'a> AttributeDirectory<'a> {
         rt: &R,
         told: &mut T,
     ) -> Result<(), Failure> {
-        let Some(file) = global_path(rt)? else {
+        self.global = global_path(rt)?;
+        if self.global.is_none() {
             return Ok(());
-        };
-        add_file(rt, &mut self.files, Place::Global, file.as_str(), told)?;
-        self.global = Some(file);
-        Ok(())
+        }
+        self.read(rt, Place::Global, told)
+    }
+
+    /// Reads the file at a place, if it is there.
+    ///
+    /// # Errors
+    /// The file can't be read.
+    fn read<R: Files + AllocGlobal, T: Write>(
+        &mut self,
+        rt: &R,
+        place: Place<'_>,
+        told: &mut T,
+    ) -> Result<(), Failure> {
+        let file = self.file_name(rt.alloc(), place)?;
+        add_file(rt, &mut self.files, place, file.as_str(), told)
     }
 
     /// What the files that were read say of an attribute that a spec lists.
@@ -79,14 +101,26 @@ impl<'a> AttributeDirectory<'a> {
         path: Path<'_>,
         listed: &Assignment,
     ) -> Result<Decided, AllocError> {
+        let state = self.state_of(alloc, path, listed)?;
         let name = listed.name.as_bytes().as_bytes();
-        let rule = match self.files.decider(path.path, path.is_dir, name)? {
-            Some(RuleAt { place, line }) => Some(RulePlace {
-                file: self.file_name(alloc, place)?,
-                line,
-            }),
-            None => None,
-        };
+        let rule = self.rule_of(alloc, path, name)?;
+        Ok(Decided {
+            name: Vec::from_slice(alloc, name)?,
+            state,
+            rule,
+        })
+    }
+
+    /// The state, in words, that a path has of an attribute which a spec lists.
+    ///
+    /// # Errors
+    /// Memory runs out.
+    fn state_of(
+        &mut self,
+        alloc: Global,
+        path: Path<'_>,
+        listed: &Assignment,
+    ) -> Result<String, AllocError> {
         let mut found = Outcome::for_assignments(alloc, slice::from_ref(listed))?;
         self.files
             .look_up(path.path, Case::Sensitive, path.is_dir, &mut found)?;
@@ -95,14 +129,27 @@ impl<'a> AttributeDirectory<'a> {
         } else {
             found.state(0)
         };
-        Ok(Decided {
-            name: Vec::from_slice(alloc, name)?,
-            state: state_words(alloc, state)?,
-            rule,
-        })
+        state_words(alloc, state)
     }
 
-    /// The path of the file at a place, as it was read.
+    /// The place of the rule that decides an attribute of a path. None where no rule speaks of it.
+    ///
+    /// # Errors
+    /// Memory runs out.
+    fn rule_of(
+        &self,
+        alloc: Global,
+        path: Path<'_>,
+        name: &[u8],
+    ) -> Result<Option<RulePlace>, AllocError> {
+        let Some(RuleAt { place, line }) = self.files.decider(path.path, path.is_dir, name)? else {
+            return Ok(None);
+        };
+        let file = self.file_name(alloc, place)?;
+        Ok(Some(RulePlace { file, line }))
+    }
+
+    /// The path of the file at a place, as it is read.
     fn file_name(&self, alloc: Global, place: Place<'_>) -> Result<String, AllocError> {
         let directory = self.directory;
         match (place, &self.global) {
@@ -171,20 +218,10 @@ impl<'a> AttributeDirectory<'a> {
         path: &[u8],
         told: &mut T,
     ) -> Result<(), Failure> {
-        let Ok(name) = str::from_utf8(path) else {
-            let name = quoted(rt.alloc(), path)?;
-            return Err(Failure::Told(format!(in rt.alloc();
-                "error: {name}: the path isn't UTF-8, so its attribute file can't be read\n"
-            )?));
-        };
-        let file = format!(in rt.alloc(); "{}/{name}/.gitattributes", self.directory)?;
-        add_file(
-            rt,
-            &mut self.files,
-            Place::Directory(path),
-            file.as_str(),
-            told,
-        )?;
+        if str::from_utf8(path).is_err() {
+            return Err(not_utf8(rt.alloc(), path)?);
+        }
+        self.read(rt, Place::Directory(path), told)?;
         let known = Vec::from_slice(rt.alloc(), path)?;
         self.known.insert(known)?;
         Ok(())
@@ -195,25 +232,26 @@ impl<'a> AttributeDirectory<'a> {
 fn global_path<R: Env + AllocGlobal>(rt: &R) -> Result<Option<String>, Failure> {
     if let Some(directory) = variable(rt, "XDG_CONFIG_HOME")? {
         if !directory.is_empty() {
-            return Ok(Some(format!(in rt.alloc(); "{directory}/git/attributes")?));
+            return path_below(rt.alloc(), directory.as_str(), "git/attributes");
         }
     }
     match variable(rt, "HOME")? {
-        Some(home) => Ok(Some(format!(in rt.alloc(); "{home}/.config/git/attributes")?)),
+        Some(home) => path_below(rt.alloc(), home.as_str(), ".config/git/attributes"),
         None => Ok(None),
     }
 }
 
-/// A variable of the environment, or None where it isn't set.
-fn variable<R: Env + AllocGlobal>(rt: &R, name: &str) -> Result<Option<String>, Failure> {
-    match env::var(rt, name) {
-        Ok(value) => Ok(Some(value)),
-        Err(VarError::NotPresent) => Ok(None),
-        Err(VarError::NotUnicode) => Err(Failure::Told(format!(in rt.alloc();
-            "error: environment: {name} isn't UTF-8\n"
-        )?)),
-        Err(VarError::OutOfMemory) => Err(Failure::Memory),
-    }
+/// A path below a directory.
+fn path_below(alloc: Global, directory: &str, path: &str) -> Result<Option<String>, Failure> {
+    Ok(Some(format!(in alloc; "{directory}/{path}")?))
+}
+
+/// The fault of a directory that has no name in UTF-8, by which its file could be opened.
+fn not_utf8(alloc: Global, path: &[u8]) -> Result<Failure, AllocError> {
+    let name = quoted(alloc, path)?;
+    Ok(Failure::Told(format!(in alloc;
+        "error: {name}: the path isn't UTF-8, so its attribute file can't be read\n"
+    )?))
 }
 
 /// Adds an attribute file, if it is there, and tells of the lines that git leaves out.
@@ -228,9 +266,21 @@ fn add_file<R: Files + AllocGlobal, T: Write>(
         return Ok(());
     }
     let text = read_file(rt, file)?;
-    for LeftOut { line, reason } in files.add(place, &text)?.into_iter() {
-        let reason = reason_text(reason);
-        let warning = format!(in rt.alloc(); "warning: {file}:{line}: {reason}\n")?;
+    let left_out = files.add(place, &text)?;
+    tell_left_out(rt.alloc(), file, &left_out, told)?;
+    Ok(())
+}
+
+/// Tells of the lines of a file that git leaves out.
+fn tell_left_out<T: Write>(
+    alloc: Global,
+    file: &str,
+    left_out: &[LeftOut],
+    told: &mut T,
+) -> Result<(), AllocError> {
+    for LeftOut { line, reason } in left_out {
+        let reason = reason_text(*reason);
+        let warning = format!(in alloc; "warning: {file}:{line}: {reason}\n")?;
         tell(told, warning.as_str());
     }
     Ok(())

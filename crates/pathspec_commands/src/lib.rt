@@ -8,6 +8,7 @@ mod attribute_rows;
 mod attributes;
 mod decided;
 mod devices;
+mod environment;
 mod explaining;
 mod failure;
 mod filtering;
