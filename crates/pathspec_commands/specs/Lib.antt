@@ -1,2 +1,3 @@
+pub mod AttributeTables
 pub mod Filters
 pub mod SpecPlaces

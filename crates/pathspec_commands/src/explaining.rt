@@ -112,7 +112,7 @@ impl<'a, 'd> Explainer<'a, 'd> {
             return Ok(None);
         };
         let attributes = &mut self.attributes;
-        let reason = attributes.reason(spec, path.path, path.is_dir)?;
+        let reason = spec.reason(path.path, path.is_dir, attributes)?;
         let pattern = spec.pattern();
         let decided = decided_attributes(alloc, attributes, pattern, reason, path)?;
         Ok(Some(SpecReason {

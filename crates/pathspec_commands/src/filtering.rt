@@ -25,13 +25,25 @@ const DONE: u8 = 0;
 const NONE_SELECTED: u8 = 1;
 
 /// A filter of a reader's records.
-#[derive(Drop)]
 struct Filter<'d, 's, 'r, 'a, D, R> {
     rt: &'d D,
     search: &'s Search,
     options: FilterOptions,
     reader: FrontReader<'r, R>,
     attributes: Attributes<'a>,
+}
+
+// Written out, so that whoever drops a filter needn't prove anew what becomes of its parts.
+impl<D, R> Drop for Filter<'_, '_, '_, '_, D, R> {
+    fn drop(self) {
+        let Filter {
+            rt: _rt,
+            search: _search,
+            options: _options,
+            reader: _reader,
+            attributes: _attributes,
+        } = self;
+    }
 }
 
 /// How a filter ended without a fault: with its counts, unless it ended at the first selected record.
@@ -77,7 +89,7 @@ impl<D: Files + AllocGlobal, R: Read> Filter<'_, '_, '_, '_, D, R> {
                         counts: Some(counts),
                         status: DONE,
                     }),
-                    Err(error) => Err(failure_of(self.rt.alloc(), error)?),
+                    Err(error) => Err(failure_of(self.rt.alloc(), error)),
                 }
             }
             Attributes::Directory(directory) => {
@@ -123,28 +135,49 @@ impl<D: Files + AllocGlobal, R: Read> Filter<'_, '_, '_, '_, D, R> {
     }
 
     /// Writes the selected records, and tells which includes selected none.
+    ///
+    /// # Errors
+    /// The first fault of a question to the includes, and else that of the filter.
     fn write_and_match<W: Write, T: Write>(
         &mut self,
         writer: &mut W,
-        attributes: Attributes<'_>,
+        includes: Includes<'_, '_, '_, D>,
         asked: &Asked<'_>,
         told: &mut T,
     ) -> Result<Ended, Failure> {
         let form = (self.separator(), !self.options.verbatim);
-        let includes = Includes::new(self.rt, self.search, attributes)?;
         let mut unmatched = Unmatched::new(writer, includes, form);
         let ended = self.write(&mut unmatched, told);
-        if let Some(failure) = unmatched.failure.take() {
-            return Err(failure);
-        }
-        let ended = ended?;
+        let ended = first_fault(unmatched.failure.take(), ended);
         let includes = unmatched.includes;
-        let count = includes.tell_unmatched(asked, "record", told)?;
-        Ok(Ended {
-            counts: ended.counts,
-            status: if count > 0 { NONE_SELECTED } else { DONE },
-        })
+        end_matching(ended, &includes, asked, told)
     }
+}
+
+/// How a filter ended, where a question about what it wrote may have failed before.
+fn first_fault(failure: Option<Failure>, ended: Result<Ended, Failure>) -> Result<Ended, Failure> {
+    match failure {
+        Some(failure) => Err(failure),
+        None => ended,
+    }
+}
+
+/// Tells which includes selected no record, once a filter ended without a fault.
+///
+/// # Errors
+/// The filter's fault, or memory ran out.
+fn end_matching<D: Files + AllocGlobal, T: Write>(
+    ended: Result<Ended, Failure>,
+    includes: &Includes<'_, '_, '_, D>,
+    asked: &Asked<'_>,
+    told: &mut T,
+) -> Result<Ended, Failure> {
+    let ended = ended?;
+    let count = includes.tell_unmatched(asked, "record", told)?;
+    Ok(Ended {
+        counts: ended.counts,
+        status: if count > 0 { NONE_SELECTED } else { DONE },
+    })
 }
 
 /// Which records options select.
@@ -180,20 +213,48 @@ pub(crate) fn run<R: Files + Env + AllocGlobal, I: Read, W: Write, T: Write>(
         reader: FrontReader::new(reader),
         attributes: attributes_of(rt, specs, told)?,
     };
-    let ended = if options.quiet {
+    let ended = run_filter(&mut filter, &asked, specs, writer, told);
+    advise(&filter, &ended, &asked, specs, told);
+    let ended = ended?;
+    write_counts(rt.alloc(), &options, ended.counts, writer, told)?;
+    Ok(ended.status)
+}
+
+/// Runs a filter as its options ask.
+///
+/// # Errors
+/// The first fault.
+fn run_filter<R: Files + Env + AllocGlobal, I: Read, W: Write, T: Write>(
+    filter: &mut Filter<'_, '_, '_, '_, R, I>,
+    asked: &Asked<'_>,
+    specs: &SpecOptions<'_>,
+    writer: &mut W,
+    told: &mut T,
+) -> Result<Ended, Failure> {
+    if filter.options.quiet {
         filter.find_first(told)
-    } else if options.error_unmatch {
-        let attributes = attributes_of(rt, specs, &mut io::sink())?;
-        filter.write_and_match(writer, attributes, &asked, told)
-    } else if options.count {
+    } else if filter.options.error_unmatch {
+        let includes = Includes::new(filter.rt, &asked.search, specs)?;
+        filter.write_and_match(writer, includes, asked, told)
+    } else if filter.options.count {
         filter.write(&mut io::sink(), told)
     } else {
         filter.write(writer, told)
-    };
+    }
+}
+
+/// Tells what was probably meant otherwise, after a filter ended.
+fn advise<R: Files + AllocGlobal, I: Read, T: Write>(
+    filter: &Filter<'_, '_, '_, '_, R, I>,
+    ended: &Result<Ended, Failure>,
+    asked: &Asked<'_>,
+    specs: &SpecOptions<'_>,
+    told: &mut T,
+) {
     let situation = Situation {
         front: filter.reader.front(),
         separator: filter.separator(),
-        counts: match &ended {
+        counts: match ended {
             Ok(ended) => ended.counts,
             Err(_) => None,
         },
@@ -202,53 +263,63 @@ pub(crate) fn run<R: Files + Env + AllocGlobal, I: Read, W: Write, T: Write>(
     for line in advice(&situation) {
         tell(told, line);
     }
-    let ended = ended?;
-    if let Some(counts) = ended.counts {
-        write_counts(rt.alloc(), &options, counts, writer, told)?;
-    }
-    Ok(ended.status)
 }
 
-/// Writes the counts that options ask for.
+/// Writes the counts that options ask for. A filter that ended early has none.
+///
+/// # Errors
+/// Memory ran out, or a write failed.
 fn write_counts<W: Write, T: Write>(
     alloc: Global,
     options: &FilterOptions,
-    counts: Counts,
+    counts: Option<Counts>,
     writer: &mut W,
     told: &mut T,
 ) -> Result<(), Failure> {
+    let Some(counts) = counts else {
+        return Ok(());
+    };
     if options.count && !options.quiet {
-        let line = format!(in alloc; "{}\n", counts.selected)?;
-        if writer.write_all(line.as_bytes()).is_err() {
-            return Err(Failure::Output);
-        }
+        write_selected(alloc, counts.selected, writer)?;
     }
     if options.stats {
-        let Counts {
-            records,
-            selected,
-            skipped,
-        } = counts;
-        let read = noun(records, "record", "records");
-        let directories = noun(skipped, "directory", "directories");
-        let line = format!(in alloc;
-            "{records} {read}, {selected} selected, {skipped} {directories} passed over\n"
-        )?;
-        tell(told, line.as_str());
+        tell(told, stats_line(alloc, counts)?.as_str());
     }
     Ok(())
 }
 
+/// Writes how many records were selected.
+fn write_selected<W: Write>(alloc: Global, selected: u64, writer: &mut W) -> Result<(), Failure> {
+    let line = format!(in alloc; "{selected}\n")?;
+    writer
+        .write_all(line.as_bytes())
+        .map_err(|_| Failure::Output)
+}
+
+/// The line that tells of counts.
+fn stats_line(alloc: Global, counts: Counts) -> Result<String, AllocError> {
+    let Counts {
+        records,
+        selected,
+        skipped,
+    } = counts;
+    let read = noun(records, "record", "records");
+    let directories = noun(skipped, "directory", "directories");
+    format!(in alloc;
+        "{records} {read}, {selected} selected, {skipped} {directories} passed over\n"
+    )
+}
+
 /// What a filter's error says.
-pub(crate) fn failure_of(
-    alloc: Global,
-    error: FilterError<AllocError>,
-) -> Result<Failure, AllocError> {
+pub(crate) fn failure_of(alloc: Global, error: FilterError<AllocError>) -> Failure {
     match error {
-        FilterError::Line(_) | FilterError::Read => Ok(Failure::Told(format!(in alloc;
-            "error: {error}\n"
-        )?)),
-        FilterError::LookUp(_) | FilterError::Memory => Ok(Failure::Memory),
-        FilterError::Write => Ok(Failure::Output),
+        FilterError::Line(_) | FilterError::Read => {
+            match format!(in alloc; "error: {error}\n") {
+                Ok(line) => Failure::Told(line),
+                Err(_) => Failure::Memory,
+            }
+        }
+        FilterError::LookUp(_) | FilterError::Memory => Failure::Memory,
+        FilterError::Write => Failure::Output,
     }
 }

@@ -43,7 +43,6 @@ impl<T: Drop> From<AllocFailed<T>> for Stop {
 }
 
 /// Writes what a walk lists, and tells people of the paths that it can't look at.
-#[derive(Drop)]
 pub(crate) struct Lister<'w, 't, 's, 'o, 'r, 'i, 'd, D, W, T> {
     alloc: Global,
     writer: &'w mut W,
@@ -56,6 +55,23 @@ pub(crate) struct Lister<'w, 't, 's, 'o, 'r, 'i, 'd, D, W, T> {
     selected: u64,
     /// How many paths couldn't be looked at.
     faults: u64,
+}
+
+// Written out, so that whoever drops a lister needn't prove anew what becomes of its includes.
+impl<D, W, T> Drop for Lister<'_, '_, '_, '_, '_, '_, '_, D, W, T> {
+    fn drop(self) {
+        let Lister {
+            alloc: _alloc,
+            writer: _writer,
+            told: _told,
+            top: _top,
+            seen: _seen,
+            options: _options,
+            includes: _includes,
+            selected: _selected,
+            faults: _faults,
+        } = self;
+    }
 }
 
 impl<'w, 't, 's, 'o, 'r, 'i, 'd, D: Files + AllocGlobal, W: Write, T: Write> Lister<
@@ -202,7 +218,8 @@ fn fault_line(
     path: &[u8],
     fault: &DiskFault,
 ) -> Result<String, AllocError> {
-    let name = quoted(alloc, path_below(alloc, top, path)?.as_slice())?;
+    let path = path_below(alloc, top, path)?;
+    let name = quoted(alloc, &path)?;
     match fault {
         DiskFault::NotUtf8 => {
             format!(in alloc; "error: {name}: the path isn't UTF-8, so it can't be opened\n")
@@ -214,15 +231,16 @@ fn fault_line(
 
 /// A path as people name it: with the top before it, unless that is the current directory.
 fn path_below(alloc: Global, top: &str, path: &[u8]) -> Result<Vec<u8>, AllocError> {
-    if top == "." && !path.is_empty() {
-        return Vec::from_slice(alloc, path);
-    }
-    let mut name = Vec::from_slice(alloc, top.as_bytes())?;
-    if !path.is_empty() {
-        if !top.ends_with('/') {
-            name.push(b'/')?;
-        }
-        name.extend_from_slice(path)?;
+    let top = if top == "." && !path.is_empty() {
+        ""
+    } else {
+        top
+    };
+    let has_end = top.is_empty() || top.ends_with('/') || path.is_empty();
+    let slash = if has_end { "" } else { "/" };
+    let mut name = Vec::new(alloc);
+    for part in [top.as_bytes(), slash.as_bytes(), path] {
+        name.extend_from_slice(part)?;
     }
     Ok(name)
 }

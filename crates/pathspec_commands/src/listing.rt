@@ -7,13 +7,12 @@ use crate::lister::{Lister, Stop};
 use crate::reaching::read_entered;
 use crate::telling::{quoted, tell};
 use crate::unmatched::Includes;
-use pathspec_list::disk::{Disk, DiskOptions, Seen};
-use pathspec_list::{ListError, walk_selected};
+use pathspec_list::disk::{Disk, DiskFault, DiskOptions, Seen};
+use pathspec_list::{ListError, Visitor, walk_selected};
 use pathspec_options::{ListOptions, SpecOptions};
-use pathspec_parts::attributes::LookUp;
 use std::alloc::{AllocError, Global};
 use std::fs::Files;
-use std::io::{self, BufWriter, Write};
+use std::io::{BufWriter, Write};
 use std::rt::Env;
 
 /// Writes the paths below a directory that specs select to `writer`, as the walk comes to them, and lines for people to `told`. It
@@ -28,45 +27,15 @@ pub(crate) fn run<R: Files + Env + AllocGlobal, W: Write, T: Write>(
     writer: &mut W,
     told: &mut T,
 ) -> Result<u8, Failure> {
-    let asked = read_specs(rt, specs)?;
     let top = top_of(rt.alloc(), options)?;
-    let lacks_attributes = asked.lists_attributes && !specs.has_attributes();
-    tell(told, attribute_advice(lacks_attributes));
-    let mut attributes = attributes_of(rt, specs, told)?;
-    if let Attributes::Directory(files) = &mut attributes {
-        if asked.lists_attributes {
-            let disk = (top.as_str(), disk_options(options));
-            read_entered(rt, &asked.search, disk, files, told)?;
-        }
-    }
-    let mut writer = BufWriter::new(rt.alloc(), writer).map_err(|_| Failure::Memory)?;
-    let includes = includes_of(rt, specs, options, &asked)?;
+    let asked = read_specs(rt, specs)?;
     let walk = Walk {
         rt,
         asked: &asked,
         top: top.as_str(),
         options: *options,
     };
-    match &mut attributes {
-        Attributes::Rows(rows) => walk.list(rows, includes, &mut writer, told),
-        Attributes::Directory(directory) => {
-            walk.list(&mut directory.files, includes, &mut writer, told)
-        }
-    }
-}
-
-/// The includes that are asked about each selected path, if that is wanted.
-fn includes_of<'r, 's, 'd, R: Files + Env + AllocGlobal>(
-    rt: &'r R,
-    specs: &SpecOptions<'d>,
-    options: &ListOptions<'_>,
-    asked: &'s Asked<'_>,
-) -> Result<Option<Includes<'r, 's, 'd, R>>, Failure> {
-    if !options.error_unmatch || options.quiet {
-        return Ok(None);
-    }
-    let attributes = attributes_of(rt, specs, &mut io::sink())?;
-    Ok(Some(Includes::new(rt, &asked.search, attributes)?))
+    walk.run(specs, writer, told)
 }
 
 /// A walk over the directories of a disk.
@@ -78,43 +47,104 @@ struct Walk<'a, 's, 'o, R> {
     options: ListOptions<'o>,
 }
 
-impl<R: Files + AllocGlobal> Walk<'_, '_, '_, R> {
+impl<'a, R: Files + Env + AllocGlobal> Walk<'a, '_, '_, R> {
+    /// Writes the selected paths, and gives the exit status.
+    ///
+    /// # Errors
+    /// The first fault, but for paths that can't be looked at.
+    fn run<W: Write, T: Write>(
+        &self,
+        specs: &SpecOptions<'_>,
+        writer: &mut W,
+        told: &mut T,
+    ) -> Result<u8, Failure> {
+        let lacks_attributes = self.asked.lists_attributes && !specs.has_attributes();
+        tell(told, attribute_advice(lacks_attributes));
+        let mut attributes = self.attributes(specs, told)?;
+        let includes = self.includes(specs)?;
+        self.list(&mut attributes, includes, writer, told)
+    }
+
+    /// The attributes of the paths that the walk comes to.
+    ///
+    /// # Errors
+    /// A file can't be read, or an option is at fault.
+    fn attributes<'d, T: Write>(
+        &self,
+        specs: &SpecOptions<'d>,
+        told: &mut T,
+    ) -> Result<Attributes<'d>, Failure> {
+        let mut attributes = attributes_of(self.rt, specs, told)?;
+        if let Attributes::Directory(files) = &mut attributes {
+            if self.asked.lists_attributes {
+                let disk = (self.top, disk_options(&self.options));
+                read_entered(self.rt, &self.asked.search, disk, files, told)?;
+            }
+        }
+        Ok(attributes)
+    }
+
+    /// The includes that are asked about each selected path, if that is wanted.
+    ///
+    /// # Errors
+    /// A file of attributes can't be read, or memory ran out.
+    fn includes<'d>(
+        &self,
+        specs: &SpecOptions<'d>,
+    ) -> Result<Option<Includes<'a, 'a, 'd, R>>, Failure> {
+        if !self.options.error_unmatch || self.options.quiet {
+            return Ok(None);
+        }
+        Ok(Some(Includes::new(self.rt, &self.asked.search, specs)?))
+    }
+
     /// Lists what is selected, and gives the exit status.
     ///
     /// # Errors
     /// The first fault, but for paths that can't be looked at.
-    fn list<L: LookUp, W: Write, T: Write>(
+    fn list<W: Write, T: Write>(
         &self,
-        look_up: &mut L,
+        attributes: &mut Attributes<'_>,
         includes: Option<Includes<'_, '_, '_, R>>,
         writer: &mut W,
         told: &mut T,
     ) -> Result<u8, Failure> {
         let alloc = self.rt.alloc();
+        let mut writer = BufWriter::new(alloc, writer).map_err(|_| Failure::Memory)?;
         let seen = Seen::new();
-        let mut directories = Disk::new(self.rt, self.top, disk_options(&self.options), &seen)?;
-        let mut lister = Lister::new(
+        let place = (self.top, &seen);
+        let mut lister = Lister::new(alloc, &mut writer, told, place, self.options, includes);
+        match self.walk(attributes, &seen, &mut lister) {
+            Ok(()) | Err(Stop::Found) => lister.end(self.asked),
+            Err(Stop::Failed(failure)) => Err(failure),
+        }
+    }
+
+    /// Walks over the directories, and gives a visitor what is selected.
+    ///
+    /// # Errors
+    /// The visitor's reason to end the walk, or a fault.
+    fn walk<V: Visitor<DiskFault, Stop = Stop>>(
+        &self,
+        attributes: &mut Attributes<'_>,
+        seen: &Seen,
+        visitor: &mut V,
+    ) -> Result<(), Stop> {
+        let alloc = self.rt.alloc();
+        let mut disk = Disk::new(self.rt, self.top, disk_options(&self.options), seen)?;
+        // With directories, since a lister has to see nested repositories.
+        match walk_selected(
             alloc,
-            writer,
-            told,
-            (self.top, &seen),
-            self.options,
-            includes,
-        );
-        // With directories, since the lister has to see nested repositories.
-        let ended = walk_selected(
-            alloc,
-            &mut directories,
+            &mut disk,
             &self.asked.search,
             true,
-            look_up,
-            &mut lister,
-        );
-        match ended {
-            Ok(()) | Err(ListError::Stopped(Stop::Found)) => lister.end(self.asked),
-            Err(ListError::Stopped(Stop::Failed(failure))) => Err(failure),
-            Err(ListError::NoDirectory) => Err(no_directory(alloc, self.top)?),
-            Err(ListError::LookUp(_) | ListError::Memory) => Err(Failure::Memory),
+            attributes,
+            visitor,
+        ) {
+            Ok(()) => Ok(()),
+            Err(ListError::Stopped(stop)) => Err(stop),
+            Err(ListError::NoDirectory) => Err(Stop::Failed(no_directory(alloc, self.top)?)),
+            Err(ListError::LookUp(_) | ListError::Memory) => Err(Stop::Failed(Failure::Memory)),
         }
     }
 }

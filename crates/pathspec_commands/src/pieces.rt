@@ -1,4 +1,5 @@
 //! A listing in pieces of whole records.
+use pathspec_filter::FilterError;
 use std::alloc::{AllocError, Global};
 use std::io::Read;
 
@@ -16,21 +17,6 @@ pub(crate) struct Pieces<'r, R> {
     whole: usize,
 }
 
-/// Why there is no next piece.
-#[derive(Clone, Copy, Debug)]
-pub(crate) enum PieceError {
-    /// A read failed.
-    Read,
-    /// Memory ran out.
-    Memory,
-}
-
-impl From<AllocError> for PieceError {
-    fn from(_: AllocError) -> PieceError {
-        PieceError::Memory
-    }
-}
-
 impl<'r, R: Read> Pieces<'r, R> {
     /// The pieces of a reader of which nothing was read.
     pub(crate) fn new(alloc: Global, reader: &'r mut R, separator: u8) -> Pieces<'r, R> {
@@ -46,27 +32,36 @@ impl<'r, R: Read> Pieces<'r, R> {
     ///
     /// # Errors
     /// A read failed, or memory ran out.
-    pub(crate) fn fill(&mut self) -> Result<bool, PieceError> {
+    pub(crate) fn fill(&mut self) -> Result<bool, FilterError<AllocError>> {
         let front = self.whole.min(self.bytes.len());
         self.bytes.drain(..front);
         self.whole = 0;
-        let mut chunk = [0u8; CHUNK];
         for _ in 0..u64::MAX {
-            let Ok(count) = self.reader.read(&mut chunk) else {
-                return Err(PieceError::Read);
-            };
-            self.bytes.extend_from_slice(&chunk[..count])?;
-            let end = if count == 0 {
+            let is_end = self.read()? == 0;
+            let whole = if is_end {
                 self.bytes.len()
             } else {
                 self.behind_last()
             };
-            if count == 0 || end > 0 {
-                self.whole = end;
-                return Ok(end > 0);
+            if is_end || whole > 0 {
+                self.whole = whole;
+                return Ok(whole > 0);
             }
         }
-        Err(PieceError::Read)
+        Err(FilterError::Read)
+    }
+
+    /// Reads once, and gives the count of bytes that it read.
+    ///
+    /// # Errors
+    /// The read failed, or memory ran out.
+    fn read(&mut self) -> Result<usize, FilterError<AllocError>> {
+        let mut chunk = [0u8; CHUNK];
+        let Ok(count) = self.reader.read(&mut chunk) else {
+            return Err(FilterError::Read);
+        };
+        self.bytes.extend_from_slice(&chunk[..count])?;
+        Ok(count)
     }
 
     /// The whole records that the last call of [`Pieces::fill`] found.

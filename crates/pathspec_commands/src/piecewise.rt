@@ -2,9 +2,11 @@
 use crate::Failure;
 use crate::attribute_directory::AttributeDirectory;
 use crate::filtering::failure_of;
-use crate::pieces::{PieceError, Pieces};
+use crate::pieces::Pieces;
 use gix_pathspec::Search;
+use pathspec_attributes::AttributeFiles;
 use pathspec_filter::{Counts, FilterError, Selection, filter};
+use std::alloc::{AllocError, Global};
 use std::fs::Files;
 use std::io::{Read, Write};
 
@@ -23,34 +25,45 @@ pub(crate) fn filter_pieces<D: Files + AllocGlobal, R: Read, W: Write, T: Write>
     writer: &mut W,
     told: &mut T,
 ) -> Result<Counts, Failure> {
+    let alloc = rt.alloc();
+    let asked = (search, separator, selection);
     let mut counts = Counts::default();
-    let mut pieces = Pieces::new(rt.alloc(), reader, separator);
+    let mut pieces = Pieces::new(alloc, reader, separator);
     for _ in 0..u64::MAX {
         match pieces.fill() {
             Ok(true) => {}
             Ok(false) => break,
-            Err(PieceError::Read) => return Err(failure_of(rt.alloc(), FilterError::Read)?),
-            Err(PieceError::Memory) => return Err(Failure::Memory),
+            Err(error) => return Err(failure_of(alloc, error)),
         }
         let piece = pieces.whole();
         directory.reach_all(rt, piece, (separator, selection), told)?;
-        let mut rest = piece;
         let files = &mut directory.files;
-        let ended = filter(
-            rt.alloc(),
-            search,
-            separator,
-            selection,
-            &mut rest,
-            writer,
-            files,
-        );
-        counts = match ended {
-            Ok(more) => sum(counts, more),
-            Err(error) => return Err(failure_of(rt.alloc(), behind(counts, error))?),
+        counts = match filter_piece(alloc, asked, piece, counts, writer, files) {
+            Ok(counts) => counts,
+            Err(error) => return Err(failure_of(alloc, error)),
         };
     }
     Ok(counts)
+}
+
+/// Filters a piece, and adds its counts to those of the pieces before.
+///
+/// # Errors
+/// That of the filter. A bad record has its number in the whole listing.
+fn filter_piece<W: Write>(
+    alloc: Global,
+    (search, separator, selection): (&Search, u8, Selection),
+    mut piece: &[u8],
+    counts: Counts,
+    writer: &mut W,
+    files: &mut AttributeFiles,
+) -> Result<Counts, FilterError<AllocError>> {
+    match filter(
+        alloc, search, separator, selection, &mut piece, writer, files,
+    ) {
+        Ok(more) => Ok(sum(counts, more)),
+        Err(error) => Err(behind(counts, error)),
+    }
 }
 
 /// The counts of two pieces.

@@ -5,18 +5,42 @@ use crate::Failure;
 use crate::attribute_directory::AttributeDirectory;
 use gix_pathspec::Search;
 use gix_pathspec::attributes::NoAttributes;
-use pathspec_list::disk::{Disk, DiskFault, DiskOptions, Seen};
+use pathspec_list::disk::{Disk, DiskOptions, Seen};
 use pathspec_list::{Directories, ListError, Visitor, walk_selected};
 use std::fs::Files;
 use std::io::Write;
 
 /// The directories of a disk, each with its attribute file, which is read as it is opened.
-#[derive(Drop)]
 struct Reaching<'d, 'f, 'a, 't, R, T> {
     rt: &'d R,
     disk: Disk<'d, R>,
     files: &'f mut AttributeDirectory<'a>,
     told: &'t mut T,
+}
+
+// Written out, so that whoever drops such directories needn't prove anew what becomes of the disk.
+impl<R, T> Drop for Reaching<'_, '_, '_, '_, R, T> {
+    fn drop(self) {
+        let Reaching {
+            rt: _rt,
+            disk: _disk,
+            files: _files,
+            told: _told,
+        } = self;
+    }
+}
+
+impl<R: Files + AllocGlobal, T: Write> Reaching<'_, '_, '_, '_, R, T> {
+    /// Reads the attribute file of a directory. That of the top was read before.
+    fn enter(&mut self, path: &[u8]) -> Result<(), ReachFault> {
+        if path.is_empty() {
+            return Ok(());
+        }
+        match self.files.enter(self.rt, path, self.told) {
+            Ok(()) => Ok(()),
+            Err(failure) => Err(ReachFault::File(failure)),
+        }
+    }
 }
 
 /// Why a path can't be looked at.
@@ -36,19 +60,14 @@ impl<R: Files + AllocGlobal, T: Write> Directories for Reaching<'_, '_, '_, '_, 
     ghost asked = { λ _. None };
 
     fn open(&mut self, path: &[u8]) -> Result<Option<Vec<Vec<u8>>>, ReachFault> {
-        let names = match self.disk.open(path) {
-            Ok(Some(names)) => names,
-            Ok(None) => return Ok(None),
-            Err(_) => return Err(ReachFault::Disk),
-        };
-        // The file of the top was read before.
-        if !path.is_empty() {
-            match self.files.enter(self.rt, path, self.told) {
-                Ok(()) => {}
-                Err(failure) => return Err(ReachFault::File(failure)),
-            }
+        match self.disk.open(path) {
+            Ok(Some(names)) => match self.enter(path) {
+                Ok(()) => Ok(Some(names)),
+                Err(fault) => Err(fault),
+            },
+            Ok(None) => Ok(None),
+            Err(_) => Err(ReachFault::Disk),
         }
-        Ok(Some(names))
     }
 
     fn is_dir(&mut self, path: &[u8]) -> Result<bool, ReachFault> {

@@ -15,7 +15,6 @@ use std::alloc::{AllocError, Global};
 #[derive(Drop)]
 pub(crate) struct Verdicts<'s> {
     search: &'s Search,
-    /// In a box: whoever drops it needn't prove anew what becomes of its lists.
     scratch: Box<Scratch>,
     ghost fits: { Fits search.now.specs (box_value scratch) },
 }
@@ -26,7 +25,7 @@ impl<'s> Verdicts<'s> {
     /// # Errors
     /// Memory runs out.
     pub(crate) fn new(alloc: Global, search: &'s Search) -> Result<Verdicts<'s>, AllocError> {
-        let scratch = Box::new(alloc, search.new_scratch(alloc)?)?;
+        let scratch = search.boxed_scratch(alloc)?;
         Ok(Verdicts { search, scratch })
     }
 
@@ -41,13 +40,12 @@ impl<'s> Verdicts<'s> {
     ) -> Result<Explanation, AllocError>
         requires { bstr_bytes path.path ≢ [] }
     {
-        let Path { path, is_dir, .. } = path;
-        let scratch = &mut *self.scratch;
-        match attributes {
-            Attributes::Rows(rows) => explain(self.search, path, is_dir, scratch, rows),
-            Attributes::Directory(directory) => {
-                explain(self.search, path, is_dir, scratch, &mut directory.files)
-            }
-        }
+        explain(
+            self.search,
+            path.path,
+            path.is_dir,
+            &mut self.scratch,
+            attributes,
+        )
     }
 }
