@@ -3,14 +3,15 @@
 import copy
 import ctypes
 import gc
+import itertools
 import os
 import pathlib
 import pickle
+import signal
 import subprocess
 import sys
 import threading
 import unittest
-import weakref
 from unittest import mock
 
 from puneloviash import (
@@ -493,13 +494,32 @@ class Lives(unittest.TestCase):
         self.assertTrue(other.matches("a.c"))
 
     def test_freed_with_the_last_reference(self):
-        search = Pathspec(["a"])
-        finalizer, lost = search._finalizer, weakref.ref(search)
-        self.assertTrue(finalizer.alive)
-        del search
         gc.collect()
-        self.assertIsNone(lost())
-        self.assertFalse(finalizer.alive)
+        before = len(_library._structures)
+        search = Pathspec(["a"])
+        other = search.share()
+        self.assertEqual(len(_library._structures), before + 2)
+        search.close()
+        self.assertEqual(len(_library._structures), before + 1)
+        del other
+        self.assertEqual(len(_library._structures), before)
+        with self.assertRaises(PathspecError):
+            Pathspec([":(nope)"])
+        self.assertEqual(len(_library._structures), before)
+
+    def test_asked_in_a_cycle_that_is_collected(self):
+        answers = []
+
+        class Asking:
+            def __del__(self):
+                answers.append(self.search.matches("a"))
+
+        asking = Asking()
+        asking.search = Pathspec(["a"])
+        asking.search.itself = asking
+        del asking
+        gc.collect()
+        self.assertEqual(answers, [True])
 
     def test_the_package_has_types(self):
         self.assertTrue(pathlib.Path(_library.__file__).with_name("py.typed").exists())
@@ -581,6 +601,82 @@ _, status = os.waitpid(child, 0)
 sys.exit(status != 0 or not asks_well())
 """
         subprocess.run([sys.executable, "-c", program], check=True)
+
+    def test_the_end_of_the_interpreter(self):
+        program = """
+import threading
+from puneloviash import Pathspec, _library
+search, other = Pathspec(["a"]), Pathspec(["b"])
+other.itself = other
+def ask():
+    while search.matches("a"):
+        started.set()
+started = threading.Event()
+threading.Thread(target=ask, daemon=True).start()
+started.wait()
+"""
+        command = [sys.executable, "-c", program]
+        ended = subprocess.run(command, check=True, stderr=subprocess.PIPE)
+        self.assertEqual(ended.stderr, b"")
+
+
+class Closings(unittest.TestCase):
+    """A search that is closed amid its calls, and replaced by one that takes other paths."""
+
+    def setUp(self):
+        self.names = itertools.cycle(["src", "docs", "tests"])
+        self.closed = 0
+        self.held = self.make()
+
+    def make(self):
+        name = next(self.names)
+        return name, Pathspec([f"{name}/a", f"{name}/b"])
+
+    def replace(self, *_):
+        self.held[1].close()
+        self.held = self.make()
+        self.closed += 1
+
+    def ask(self, turns):
+        """Asks in turn. Each answer is that of the search, or that it is closed."""
+        for _ in range(turns):
+            name, search = self.held
+            try:
+                right = search.matches(f"{name}/a"), search.common_prefix == f"{name}/"
+            except ValueError as error:
+                self.assertEqual(str(error), "the search is closed")
+            else:
+                self.assertEqual(right, (True, True))
+
+    def test_by_a_signal(self):
+        def replace(*_):
+            self.replace()
+            signal.setitimer(signal.ITIMER_REAL, 1e-4)
+
+        before = signal.signal(signal.SIGALRM, replace)
+        # (the last of these comes first, and after it the handler sets the timer no more)
+        self.addCleanup(signal.signal, signal.SIGALRM, before)
+        self.addCleanup(signal.setitimer, signal.ITIMER_REAL, 0)
+        self.addCleanup(signal.signal, signal.SIGALRM, signal.SIG_IGN)
+        signal.setitimer(signal.ITIMER_REAL, 1e-4)
+        self.ask(25_000)
+        self.assertGreater(self.closed, 50)
+
+    def test_by_the_collector(self):
+        class Closing:
+            def __init__(self, replace):
+                self.itself, self.replace = self, replace
+
+            def __del__(self):
+                self.replace()
+
+        self.addCleanup(gc.set_threshold, *gc.get_threshold())
+        for threshold in range(1, 100):
+            gc.set_threshold(threshold)
+            for _ in range(10):
+                Closing(self.replace)
+                self.ask(10)
+        self.assertGreater(self.closed, 100)
 
 
 if __name__ == "__main__":

@@ -8,7 +8,7 @@ reads specs gives it back.
 import ctypes
 import os
 import pathlib
-from typing import Any, List
+from typing import Any, Dict, List
 
 # The number of these declarations, PS_VERSION of the header.
 VERSION = 2
@@ -111,6 +111,32 @@ add_attributes.argtypes = [
 add_attributes.restype = _status
 free = _holding.ps_search_free
 free.argtypes, free.restype = [_search], None
+
+# The structures of handles, by their addresses.
+_structures: Dict[int, PsSearch] = {}
+
+
+class Handle(int):
+    """The address of a PsSearch, which is freed when the last reference to the handle goes.
+
+    A call holds a reference to the end of its work, so nothing frees the search meanwhile. A handle
+    refers to no object, so the garbage collector doesn't finalize it in a cycle: others of the cycle
+    may still ask their search then.
+    """
+
+    __slots__ = ()
+
+    def __new__(cls) -> "Handle":
+        structure = PsSearch()
+        address = ctypes.addressof(structure)
+        _structures[address] = structure
+        return super().__new__(cls, address)
+
+    # (the names of the module may be gone while the interpreter ends)
+    def __del__(self, _free: Any = free, _structures: Dict[int, PsSearch] = _structures) -> None:
+        _free(self)
+        del _structures[self]
+
 
 match = _holding.ps_search_match
 match.argtypes = [_search, *_bytes, ctypes.c_bool, ctypes.POINTER(PsMatch)]

@@ -7,7 +7,6 @@ import enum
 import itertools
 import os
 import threading
-import weakref
 from typing import (
     Any,
     Callable,
@@ -119,7 +118,8 @@ class Pathspec:
     uses it that was forked while there were other threads.
 
     What it holds is freed by ``close``, at the end of a ``with``, or when nothing refers to it any
-    longer.
+    longer. A call that is under way keeps it to its end, where another thread, a signal's handler
+    or a ``__del__`` closes the search.
 
     >>> search = Pathspec(["src", ":!*.o"])
     >>> search.matches("src/a.c"), search.matches("src/a.o")
@@ -188,8 +188,8 @@ class Pathspec:
     ) -> None:
         prefix, root = os.fsencode(prefix), os.fsencode(root)
         given = texts, len(texts), prefix, len(prefix), root, len(root), int(defaults)
-        handle, fault = _library.PsSearch(), _library.PsFault()
-        status = call(ctypes.addressof(handle), *given, fault)
+        handle, fault = _library.Handle(), _library.PsFault()
+        status = call(handle, *given, fault)
         if status == _library.MEMORY:
             raise MemoryError
         if status == _library.PREFIX:
@@ -200,28 +200,27 @@ class Pathspec:
             raise PathspecError(message, kind, fault.number)
         self._take(handle)
 
-    def _take(self, handle: _library.PsSearch) -> None:
-        """Takes a handle that owns a search."""
+    def _take(self, handle: _library.Handle) -> None:
+        """Takes the handle of a search."""
         # (a call of this thread may come between two of its own, as from a signal's handler, but
         # never into one)
         self._lock = threading.RLock()
         self._has_attributes = False
-        self._at: Optional[int] = ctypes.addressof(handle)
-        self._finalizer = weakref.finalize(self, _free, handle)
-        # (a daemon's thread may ask on while the interpreter ends)
-        self._finalizer.atexit = False
+        self._handle: Optional[_library.Handle] = handle
 
-    def _open(self) -> int:
-        """The address of the handle. The lock is held."""
-        if self._at is None:
+    def _open(self) -> _library.Handle:
+        """The handle, which the caller holds while it works. The lock is held."""
+        # (it is read once, since the search may be closed between two steps)
+        handle = self._handle
+        if handle is None:
             raise ValueError("the search is closed")
-        return self._at
+        return handle
 
     def share(self) -> Pathspec:
         """The same search, for a thread of its own, without attributes. Specs aren't read again."""
-        other, handle = type(self).__new__(type(self)), _library.PsSearch()
+        other, handle = type(self).__new__(type(self)), _library.Handle()
         with self._lock:
-            status = _library.share(self._open(), ctypes.addressof(handle))
+            status = _library.share(self._open(), handle)
         if status != _library.OK:
             raise MemoryError
         other._take(handle)
@@ -235,9 +234,9 @@ class Pathspec:
         """
         text, is_dir = _path(path, is_dir)
         with self._lock:
-            at = self._open()
+            handle = self._open()
             if not self._has_attributes:
-                return bool(_library.selects(at, text, len(text), is_dir))
+                return bool(_library.selects(handle, text, len(text), is_dir))
         found = self.settle(path, is_dir)
         return found is not None and not found.is_excluded
 
@@ -464,13 +463,11 @@ class Pathspec:
         return Walk(self, os.fspath(root), on_error, attributes)
 
     def close(self) -> None:
-        """Frees what the search holds.
+        """Frees what the search holds; a call that is under way frees it at its end.
 
-        Closing again does nothing, and any other call raises ValueError.
+        Closing again does nothing, and any later call raises ValueError.
         """
-        with self._lock:
-            self._at = None
-            self._finalizer()
+        self._handle = None
 
     def __enter__(self) -> Pathspec:
         return self
@@ -480,10 +477,6 @@ class Pathspec:
 
     def __reduce__(self) -> NoReturn:
         raise TypeError("a Pathspec can't be pickled or copied: hand on its specs")
-
-
-def _free(handle: _library.PsSearch) -> None:
-    _library.free(ctypes.addressof(handle))
 
 
 def _joined(specs: Iterable[Text]) -> bytes:
