@@ -71,7 +71,7 @@ fn attributes() -> [Row; 4] {
             "Reads the attribute files of this directory",
         )
         .without(&["attr", "attr-from"]),
-        flag("global", "Reads your own attribute file, too, as git does").beside(&["attributes"]),
+        flag("global", "Reads your own attribute file, but no core.attributesFile").beside(&["attributes"]),
     ]
 }
 
