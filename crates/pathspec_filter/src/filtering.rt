@@ -23,9 +23,9 @@ const MOST: u64 = u64::MAX - 1;
 /// Records end with the separator; the last one may lack it. A record that ends with `/` is a directory, any other a file. Whether
 /// a `./` in front of a record is part of its path is the caller's choice.
 ///
-/// What is selected of the bytes of a read is written before the next read. It holds these bytes and the longest record, and
-/// takes no other memory: two buffers of 320 KiB together, of which the larger one doubles for a longer record, and the path of
-/// a directory. It looks at each byte a fixed number of times.
+/// What is selected of the bytes of a read is written before the next read. It takes memory for two buffers of 320 KiB together,
+/// for the path of a directory, and for a scratch of the search ([`Search::new_scratch`]). The larger buffer holds the bytes of a
+/// read and the longest record, and doubles for a longer one. It looks at each byte a fixed number of times.
 ///
 /// A directory that holds no selected path ([`Search::may_skip`]) is asked about once for all records below it that follow
 /// one another, and those are asked about no more. It only reads the search, so that filters can share one.
