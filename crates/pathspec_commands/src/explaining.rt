@@ -171,10 +171,10 @@ impl<'a, 'd> Explainer<'a, 'd> {
                 push_skip(text, told.may_skip);
             }
             Verdict::NoExcludeMatches => text.push("selected: no exclude matches"),
-            Verdict::NoIncludeMatches if told.may_skip => {
-                text.push("a walk may skip it: no include can match below");
+            Verdict::NoIncludeMatches => {
+                text.push("not selected: no include matches");
+                push_skip(text, told.may_skip);
             }
-            Verdict::NoIncludeMatches => text.push("not selected: no include matches"),
             Verdict::LacksCommonPrefix(_) => {
                 text.push("not selected: all includes begin with ");
                 self.push_common_prefix(text);

@@ -134,7 +134,9 @@ fn paths_are_explained(rt: HostRuntime) -> Result<(), Fail> {
         (&["explain", ":", "--path", "b"], "", "b  selected by 1 ':': it matches every path\n", "", 0),
         (&["explain", "--prefix", "a", "--path", "a/b"], "", "a/b  selected by 1 'a': it lies below\n", "", 0),
         (&["explain", "*.c", "a/", "--path", "b/"], "", "b/  not selected: no include matches\n", "", 0),
-        (&["explain", "a", "b", "--path", "c/"], "", "c/  a walk may skip it: no include can match below\n", "", 0),
+        (&["explain", "a", "b", "--path", "c/"], "", "c/  not selected: no include matches; a walk may skip it\n", "", 0),
+        // `docs/*.md` could match below, and an exclude takes all of it.
+        (&["explain", "docs/*.md", "src/*.rs", ":!docs/*", "--path", "docs/"], "", "docs/  not selected: no include matches; a walk may skip it\n", "", 0),
     ];
     assert_rows(&rt, ROWS)
 }
