@@ -21,8 +21,8 @@ pub(crate) fn reason_text(
     match reason {
         Reason::Matches(kind) => push_match(&mut text, kind, decided),
         Reason::NoStates => text.push("no attributes are known of the path"),
-        Reason::OnlyDirectory(_) => text.push("it would match a directory"),
-        Reason::WithoutCase(_) => text.push("without case it would match"),
+        Reason::OnlyDirectory(_) => text.push("its path fits only a directory"),
+        Reason::WithoutCase(_) => text.push("its path fits only without case"),
         Reason::GlobFails => text.push("its glob doesn't match"),
         Reason::OtherState(place) => match decided.first() {
             Some(own) => push_decided(&mut text, own),

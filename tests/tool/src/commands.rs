@@ -147,8 +147,9 @@ fn paths_are_explained(rt: HostRuntime) -> Result<(), Fail> {
 fn each_reason_has_its_words(rt: HostRuntime) -> Result<(), Fail> {
     const NONE: &str = "b  not selected: no include matches\n    ";
     const ROWS: &[(&[&str], &str)] = &[
-        (&["b/"], "1 'b/': it would match a directory\n"),
-        (&["B"], "1 'B': without case it would match\n"),
+        (&["b/"], "1 'b/': its path fits only a directory\n"),
+        (&["B"], "1 'B': its path fits only without case\n"),
+        (&[":(attr:x)B"], "1 ':(attr:x)B': its path fits only without case\n"),
         (&["c*", "d"], "1 'c*': it begins with 'c', and the path doesn't\n    2 'd': the path is neither 'd' nor below it\n"),
         (&["*.c"], "1 '*.c': its glob doesn't match\n"),
         (&[":(attr:x -y)b", "--attr", "b", "x"], "1 ':(attr:x -y)b': the attribute 'y' has another state\n"),
