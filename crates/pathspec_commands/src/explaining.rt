@@ -9,6 +9,7 @@ use crate::telling::{bad_path, read_fault};
 use crate::text::Text;
 use crate::verdicts::Verdicts;
 use bstr::BStr;
+use memchr::memchr;
 use pathspec_explain::{AskedSpec, Explanation, Reason, Verdict, asked_specs};
 use pathspec_faults::push_shown;
 use pathspec_options::{ExplainOptions, SpecOptions};
@@ -264,12 +265,13 @@ impl<'a, 'd> Explainer<'a, 'd> {
         Ok(())
     }
 
-    /// Explains the records that a reader has.
-    fn explain_records<D: Files + AllocGlobal, I: BufRead, W: Write, T: Write>(
+    /// Explains the records that a reader has. Answers are written before more is read, since whoever sends the next record may
+    /// wait for them.
+    fn explain_records<D: Files + AllocGlobal, I: Read, W: Write, T: Write>(
         &mut self,
         rt: &D,
         separator: u8,
-        reader: &mut I,
+        reader: &mut BufReader<I>,
         writer: &mut W,
         told: &mut T,
     ) -> Result<(), Failure> {
@@ -279,6 +281,9 @@ impl<'a, 'd> Explainer<'a, 'd> {
                 break;
             }
             self.explain(rt, &record, number, writer, told)?;
+            if !has_record(reader, separator) {
+                flush(writer)?;
+            }
         }
         Ok(())
     }
@@ -319,8 +324,18 @@ fn write_explanations<D: Files + AllocGlobal, I: Read, W: Write, T: Write>(
 ) -> Result<u8, Failure> {
     let mut writer = BufWriter::new(rt.alloc(), writer).map_err(|_| Failure::Memory)?;
     explainer.explain_all(rt, options, reader, &mut writer, told)?;
-    writer.flush().map_err(|_| Failure::Output)?;
+    flush(&mut writer)?;
     Ok(0)
+}
+
+/// Writes what a writer holds back.
+fn flush<W: Write>(writer: &mut W) -> Result<(), Failure> {
+    writer.flush().map_err(|_| Failure::Output)
+}
+
+/// Whether the next record can be read from memory.
+fn has_record<I: Read>(reader: &BufReader<I>, separator: u8) -> bool {
+    memchr(separator, reader.buffer()).is_some()
 }
 
 /// Reads the next record into `record`, without its separator. It says whether there was one.

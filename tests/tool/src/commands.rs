@@ -1,5 +1,6 @@
 //! What commands write, what they tell, and how they end.
-use pathspec_commands_tests::running::{Ran, run_over};
+use pathspec_commands_tests::running::{Ran, run_over, run_words};
+use pathspec_test_devices::{ALL, Script, ScriptedReader, ScriptedWriter};
 use std::alloc::{AllocError, Global};
 use std::test::Fail;
 
@@ -139,6 +140,18 @@ fn paths_are_explained(rt: HostRuntime) -> Result<(), Fail> {
         (&["explain", "docs/*.md", "src/*.rs", ":!docs/*", "--path", "docs/"], "", "docs/  not selected: no include matches; a walk may skip it\n", "", 0),
     ];
     assert_rows(&rt, ROWS)
+}
+
+#[test]
+fn an_answer_is_written_before_more_is_read(rt: HostRuntime) -> Result<(), Fail> {
+    // The first read brings one record and the front of the next, the second all others.
+    let mut reader = ScriptedReader::new(b"a\nb\nc\n", Script::new(&[Ok(3)], ALL));
+    let mut writer = ScriptedWriter::new(rt.alloc(), Script::new(&[], ALL));
+    let mut told = Vec::new(rt.alloc());
+    let ended = run_words(&rt, &["explain"], &mut reader, &mut writer, &mut told);
+    assert!(rt; matches!(ended, Ok(0)));
+    assert_eq!(rt; writer.script.calls, 2);
+    Ok(())
 }
 
 // A row for each reason why a spec doesn't match.
