@@ -170,6 +170,20 @@ fn prefix_of<'a>(alloc: Global, options: &SpecOptions<'a>) -> Result<BStr<'a>, F
     Ok(BStr::new(prefix))
 }
 
+/// The root that options name; empty without one.
+///
+/// # Errors
+/// It isn't absolute.
+fn root_of<'a>(alloc: Global, options: &SpecOptions<'a>) -> Result<BStr<'a>, Failure> {
+    let root = options.root;
+    if !root.is_empty() && !root.starts_with('/') {
+        return Err(Failure::Told(format!(in alloc;
+            "error: --root: `{root}` is no absolute path\n"
+        )?));
+    }
+    Ok(BStr::new(root.as_bytes()))
+}
+
 /// The search of patterns.
 fn search_of(
     alloc: Global,
@@ -178,7 +192,7 @@ fn search_of(
     options: &SpecOptions<'_>,
 ) -> Result<Search, Failure> {
     let prefix = prefix_of(alloc, options)?;
-    let root = BStr::new(options.root.as_bytes());
+    let root = root_of(alloc, options)?;
     match Search::from_specs(alloc, patterns, Some(prefix), root) {
         Ok(search) => Ok(search),
         Err(error) => Err(build_fault(alloc, texts, &error)?),

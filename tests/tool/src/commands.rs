@@ -114,6 +114,7 @@ fn faults_are_told_with_their_place(rt: HostRuntime) -> Result<(), Fail> {
         (&["show", ""], "", "", "error: spec 1: the spec is empty\n  `.` is the directory and all below it\n", 2),
         (&["filter", "--prefix=a//b"], "", "",
             "error: --prefix: `a//b` is no directory's path: names between single slashes, none of them `.` or `..`\n", 2),
+        (&["filter", "--root=rel", "a"], "", "", "error: --root: `rel` is no absolute path\n", 2),
         (&["filter", "--attr", "a", "b=c.d"], "", "",
             "error: --attr a: no value of an attribute holds `.`\n  :(attr:b=c.d)\n            ^\n  values: letters, digits, `-`, `_`, and a comma as `\\,`\n", 2),
         (&["filter", "a"], "a\n\nb\n", "a\n", "error: record 2 is empty, begins with a slash or holds two in a row\n", 2),
