@@ -62,7 +62,9 @@ fn spec_lines(alloc: Global, asked: &Asked<'_>, number: usize) -> Result<String,
 fn push_meaning(alloc: Global, lines: &mut Text, pattern: &Pattern) -> Result<(), Failure> {
     push_field(lines, "path", pattern.path().as_bytes());
     push_magic(lines, pattern.signature);
-    push_field(lines, "mode", mode_text(pattern.search_mode).as_bytes());
+    push_name(lines, "mode");
+    lines.push(mode_text(pattern.search_mode));
+    lines.push("\n");
     push_attributes(lines, &pattern.attributes);
     push_field(lines, "prefix", pattern.prefix_directory().as_bytes());
     push_long_form(lines, pattern)?;
@@ -85,11 +87,11 @@ fn push_name(lines: &mut Text, name: &str) {
     lines.push_spaces(12usize.saturating_sub(name.len()));
 }
 
-/// Adds the line of a field; none where it is empty.
+/// Adds the line of a text in quotes; none where it is empty.
 fn push_field(lines: &mut Text, name: &str, value: &[u8]) {
     if !value.is_empty() {
         push_name(lines, name);
-        lines.push_shown(value);
+        lines.push_quoted(value);
         lines.push("\n");
     }
 }

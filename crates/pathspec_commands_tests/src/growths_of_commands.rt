@@ -31,7 +31,7 @@ fn a_command_ends_or_memory_ran_out(rt: HostRuntime) -> Result<(), Fail> {
             "a/x  selected by 1 'a': it lies below\n     1 'a': it lies below\n     2 '*.c': its glob doesn't match\nb/   not selected: no include matches\n     1 'a': the path is neither 'a' nor below it\n     2 '*.c': its glob doesn't match\n"),
         (&["explain", "--json", ":!a"], "b\n", "{\"may_skip\":false,\"path\":\"b\",\"verdict\":\"no_exclude_matches\"}\n"),
         (&["list", "is/not/there", "--error-unmatch", "--", "a"], "", ""),
-        (&["show", ":(icase)a"], "", "1 ':(icase)a'\n  path        a\n  magic       icase\n  mode        glob; wildcards take slashes\n  long form   :(icase)a\n  walk        may enter any directory\n"),
+        (&["show", ":(icase)a"], "", "1 ':(icase)a'\n  path        'a'\n  magic       icase\n  mode        glob; wildcards take slashes\n  long form   ':(icase)a'\n  walk        may enter any directory\n"),
     ];
     let mut calls = Vec::new(rt.alloc());
     for (words, input, written) in ROWS {

@@ -202,14 +202,15 @@ fn explanations_are_objects(rt: HostRuntime) -> Result<(), Fail> {
 fn specs_are_shown(rt: HostRuntime) -> Result<(), Fail> {
     const ROWS: &[Row<'_>] = &[
         (&["show", "--prefix=src", ":(icase,attr:a=b -c !d)B/", ":!gen"], "",
-            "1 ':(icase,attr:a=b -c !d)B/'\n  path        src/B\n  magic       icase, directory\n  mode        glob; wildcards take slashes\n  attributes  a=b -c !d\n  prefix      src\n  long form   :(icase,prefix:3,attr:a=b -c !d)src/B/\n  walk        enters only 'src' and below\n2 ':!gen'\n  path        src/gen\n  magic       exclude\n  mode        glob; wildcards take slashes\n  prefix      src\n  long form   :(exclude,prefix:3)src/gen\n  walk        enters what it doesn't exclude\n", "", 0),
-        (&["show", ":(glob)*.c"], "", "1 ':(glob)*.c'\n  path        *.c\n  mode        glob; only `**` takes slashes\n  long form   :(glob)*.c\n  walk        may enter any directory\n", "", 0),
+            "1 ':(icase,attr:a=b -c !d)B/'\n  path        'src/B'\n  magic       icase, directory\n  mode        glob; wildcards take slashes\n  attributes  a=b -c !d\n  prefix      'src'\n  long form   ':(icase,prefix:3,attr:a=b -c !d)src/B/'\n  walk        enters only 'src' and below\n2 ':!gen'\n  path        'src/gen'\n  magic       exclude\n  mode        glob; wildcards take slashes\n  prefix      'src'\n  long form   ':(exclude,prefix:3)src/gen'\n  walk        enters what it doesn't exclude\n", "", 0),
+        (&["show", ":(glob)*.c"], "", "1 ':(glob)*.c'\n  path        '*.c'\n  mode        glob; only `**` takes slashes\n  long form   ':(glob)*.c'\n  walk        may enter any directory\n", "", 0),
         (&["show", "--prefix=a/b", ":(icase)C", ":(icase)../D"], "",
-            "1 ':(icase)C'\n  path        a/b/C\n  magic       icase\n  mode        glob; wildcards take slashes\n  prefix      a/b\n  long form   :(icase,prefix:3)a/b/C\n  walk        enters only 'a/b' and below\n2 ':(icase)../D'\n  path        a/D\n  magic       icase\n  mode        glob; wildcards take slashes\n  prefix      a\n  long form   :(icase,prefix:1)a/D\n  walk        enters only 'a' and below\n", "", 0),
+            "1 ':(icase)C'\n  path        'a/b/C'\n  magic       icase\n  mode        glob; wildcards take slashes\n  prefix      'a/b'\n  long form   ':(icase,prefix:3)a/b/C'\n  walk        enters only 'a/b' and below\n2 ':(icase)../D'\n  path        'a/D'\n  magic       icase\n  mode        glob; wildcards take slashes\n  prefix      'a'\n  long form   ':(icase,prefix:1)a/D'\n  walk        enters only 'a' and below\n", "", 0),
         // `a*/C` matches `a*x/C`, too.
         (&["show", "--prefix=a*", ":(icase)C"], "",
-            "1 ':(icase)C'\n  path        a*/C\n  magic       icase\n  mode        glob; wildcards take slashes\n  prefix      a*\n  long form   :(icase,prefix:2)a*/C\n  walk        may enter any directory\n", "", 0),
-        (&["show", ":(literal)a*"], "", "1 ':(literal)a*'\n  path        a*\n  mode        literal\n  long form   :(literal)a*\n  walk        enters only 'a*' and below\n", "", 0),
+            "1 ':(icase)C'\n  path        'a*/C'\n  magic       icase\n  mode        glob; wildcards take slashes\n  prefix      'a*'\n  long form   ':(icase,prefix:2)a*/C'\n  walk        may enter any directory\n", "", 0),
+        (&["show", " a "], "", "1 ' a '\n  path        ' a '\n  mode        glob; wildcards take slashes\n  long form   ':() a '\n  walk        enters only ' a ' and below\n", "", 0),
+        (&["show", ":(literal)a*"], "", "1 ':(literal)a*'\n  path        'a*'\n  mode        literal\n  long form   ':(literal)a*'\n  walk        enters only 'a*' and below\n", "", 0),
     ];
     assert_rows(&rt, ROWS)
 }
