@@ -27,7 +27,7 @@ fn spec_options() -> [Row; 7] {
             &["DIR"],
             "Where the repository lies, for absolute paths",
         ),
-        flag("icase", "ASCII case doesn't count"),
+        flag("icase", "ASCII case doesn't count").short_alias('i'),
         flag("glob", "Wildcards don't take slashes").without(&["noglob"]),
         flag("noglob", "Specs have no wildcards"),
         flag("literal", "Specs are paths, magic and all"),
@@ -36,7 +36,10 @@ fn spec_options() -> [Row; 7] {
 
 /// The flag for a byte 0 behind each path.
 fn null() -> Row {
-    flag("null", "A byte 0 ends each path, and not a line feed").short('z')
+    // Other programs call it `-0`.
+    flag("null", "A byte 0 ends each path, and not a line feed")
+        .short('z')
+        .short_alias('0')
 }
 
 /// The options that say what a command answers, and how.

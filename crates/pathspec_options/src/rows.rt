@@ -9,6 +9,8 @@ pub(crate) struct Row {
     name: &'static str,
     has_long_name: bool,
     short_name: Option<char>,
+    /// Another short name, which help leaves out.
+    short_alias: Option<char>,
     action: ArgAction,
     /// What help calls the values of one use.
     values: &'static [&'static str],
@@ -26,6 +28,7 @@ pub(crate) fn flag(name: &'static str, help: &'static str) -> Row {
         name,
         has_long_name: true,
         short_name: None,
+        short_alias: None,
         action: ArgAction::SetTrue,
         values: &[],
         help,
@@ -88,6 +91,14 @@ impl Row {
         }
     }
 
+    /// The option with another short name, which help leaves out.
+    pub(crate) fn short_alias(self, name: char) -> Row {
+        Row {
+            short_alias: Some(name),
+            ..self
+        }
+    }
+
     /// The option with values that may begin with `-`.
     pub(crate) fn with_hyphens(self) -> Row {
         Row {
@@ -128,24 +139,28 @@ impl Row {
             .help(self.help)
             .allow_hyphen_values(self.takes_hyphens)
             .last(self.is_last);
-        self.with_names(argument)
+        self.with_names(argument)?
             .conflicts_with_all(self.conflicts)?
             .requires_all(self.needs)
     }
 
     /// The argument with the names that stand before its values. Words have none, and may be many.
-    fn with_names<'a>(self, argument: Arg<'a>) -> Arg<'a> {
+    fn with_names<'a>(self, argument: Arg<'a>) -> Result<Arg<'a>, AllocError> {
         if self.takes_all_words {
-            return argument.num_args(0..);
+            return Ok(argument.num_args(0..));
         }
         let argument = match self.short_name {
             Some(name) => argument.short(name),
             None => argument,
         };
-        if self.has_long_name {
+        let argument = if self.has_long_name {
             argument.long(self.name)
         } else {
             argument
+        };
+        match self.short_alias {
+            Some(name) => argument.short_alias(name),
+            None => Ok(argument),
         }
     }
 }

@@ -252,6 +252,15 @@ const ROWS: &[Row] = &[
         ],
         "list count quiet error-unmatch stats change= directory= prefix= root= spec=a spec=-- spec=b",
     ),
+    // names that help leaves out
+    Row(
+        &["pathspec", "filter", "-0i", "a"],
+        "filter null icase prefix= root= spec=a",
+    ),
+    Row(
+        &["pathspec", "show", "--specs-from=f", "-i"],
+        "show icase prefix= root= from=f",
+    ),
     // mistakes, and what is asked for
     Row(
         &["pathspec", "list", "a", "b"],
