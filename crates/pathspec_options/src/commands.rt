@@ -169,7 +169,7 @@ fn show<'a>(alloc: Global) -> Result<Command<'a>, AllocError> {
         "show",
         "Shows what pathspecs mean",
         pages::SHOW,
-        &[&[specs()], &spec_options()],
+        &[&[specs().unless(&["specs-from"])], &spec_options()],
     )
 }
 

@@ -20,6 +20,8 @@ pub(crate) struct Row {
     is_last: bool,
     conflicts: &'static [&'static str],
     needs: &'static [&'static str],
+    /// The options of which one has to stand where this one doesn't. Empty, it may be left out.
+    substitutes: &'static [&'static str],
 }
 
 /// A flag.
@@ -37,6 +39,7 @@ pub(crate) fn flag(name: &'static str, help: &'static str) -> Row {
         is_last: false,
         conflicts: &[],
         needs: &[],
+        substitutes: &[],
     }
 }
 
@@ -131,6 +134,14 @@ impl Row {
         }
     }
 
+    /// The option that may be left out only where one of these stands.
+    pub(crate) fn unless(self, names: &'static [&'static str]) -> Row {
+        Row {
+            substitutes: names,
+            ..self
+        }
+    }
+
     /// The argument that the row describes.
     fn argument<'a>(self, alloc: Global) -> Result<Arg<'a>, AllocError> {
         let argument = Arg::new(alloc, self.name)
@@ -141,6 +152,7 @@ impl Row {
             .last(self.is_last);
         self.with_names(argument)?
             .conflicts_with_all(self.conflicts)?
+            .required_unless_present_any(self.substitutes)?
             .requires_all(self.needs)
     }
 

@@ -290,6 +290,15 @@ const ROWS: &[Row] = &[
         &["pathspec"],
         "2 error: 'pathspec' requires a subcommand but one was not provided",
     ),
+    Row(
+        &["pathspec", "show"],
+        "2 error: the following required arguments were not provided:",
+    ),
+    Row(
+        &["pathspec", "help"],
+        "2 error: unrecognized subcommand 'help'",
+    ),
+    Row(&["pathspec", "-V"], "0 pathspec 1 (2)"),
     Row(&["pathspec", "--version"], "0 pathspec 1 (2)"),
     Row(&["pathspec", "filter", "--help"], "0 Examples:"),
 ];
