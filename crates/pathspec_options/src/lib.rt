@@ -5,6 +5,7 @@ mod commands;
 mod options;
 mod pages;
 mod rows;
+mod tips;
 
 pub use commands::command;
 pub use options::{ExplainOptions, FilterOptions, ListOptions, Modes, Options, SpecOptions, Task};

@@ -1,5 +1,6 @@
 //! What the words of a command line ask for.
 use crate::commands::command;
+use crate::tips::with_tip;
 use clap::{ArgMatches, Error};
 use std::alloc::{AllocError, Global};
 
@@ -105,8 +106,10 @@ impl<'a> Options<'a> {
         words: &'a [&'a str],
         version: &'a str,
     ) -> Result<Options<'a>, Error> {
-        let matches = command(alloc, version)?.try_get_matches_from(words)?;
-        Ok(Options::of_matches(alloc, &matches)?)
+        match command(alloc, version)?.try_get_matches_from(words) {
+            Ok(matches) => Ok(Options::of_matches(alloc, &matches)?),
+            Err(error) => Err(with_tip(alloc, error, version)?),
+        }
     }
 
     /// What the matches of a command line ask for.

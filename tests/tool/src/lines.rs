@@ -312,6 +312,20 @@ fn words_ask_for_what_they_say(rt: HostRuntime) -> Result<(), Fail> {
 }
 
 #[test]
+fn an_option_of_other_programs_gets_a_tip(rt: HostRuntime) -> Result<(), Fail> {
+    for word in ["--exclude", "--exclude=a"] {
+        let words = ["pathspec", "filter", word];
+        let Err(error) = Options::from_words(rt.alloc(), words.as_slice(), "1") else {
+            return Err(Fail::from(AllocError));
+        };
+        let text = format!(in rt.alloc(); "{error}")?;
+        let tip = "error: unexpected argument '--exclude' found\n\n  tip: ':!PATTERN' is an exclude\n\n";
+        assert!(rt; text.as_str().starts_with(tip), "{text}");
+    }
+    Ok(())
+}
+
+#[test]
 fn help_fits_in_80_columns(rt: HostRuntime) -> Result<(), Fail> {
     for name in ["filter", "list", "explain", "show"] {
         let words = ["pathspec", name, "--help"];
