@@ -4,7 +4,7 @@
 use pathspec_commands::{Failure, run};
 use pathspec_options::{Options, Task};
 use pathspec_process::{Output, WordsError, words};
-use std::io::{self, IsTerminal};
+use std::io::{self, ErrorKind, IsTerminal};
 use std::process::ExitCode;
 
 /// The versions of the port and of the toolchain.
@@ -24,10 +24,7 @@ fn run_words(rt: &HostRuntime, words: &[String]) -> Result<u8, Failure> {
     }
     let options = match Options::from_words(rt.alloc(), &texts, VERSION) {
         Ok(options) => options,
-        Err(error) => {
-            let _ = error.print(rt);
-            return Ok(u8::try_from(error.exit_code()).unwrap_or(FAULT));
-        }
+        Err(error) => return print_answer(rt, &error),
     };
     if reads_paths(&options.task) && rt.stdin().is_terminal() {
         let _ = eprintln!(rt; "pathspec: reading paths from the terminal, one a line");
@@ -41,6 +38,19 @@ fn run_words(rt: &HostRuntime, words: &[String]) -> Result<u8, Failure> {
     match ended {
         Err(Failure::Output) if output.is_closed() => Ok(CLOSED),
         ended => ended,
+    }
+}
+
+/// Prints what is wrong with the words, or the help or version that they ask for, and gives the exit status.
+fn print_answer(rt: &HostRuntime, error: &clap::Error) -> Result<u8, Failure> {
+    let printed = error.print(rt);
+    if error.use_stderr() {
+        return Ok(FAULT);
+    }
+    match printed {
+        Ok(()) => Ok(0),
+        Err(fault) if fault.kind() == ErrorKind::BrokenPipe => Ok(CLOSED),
+        Err(_) => Err(Failure::Output),
     }
 }
 
