@@ -23,7 +23,7 @@ use std::rt::Env;
 /// What is asked of each path, with the room for the answers.
 #[derive(Drop)]
 pub(crate) struct Explainer<'a, 'd> {
-    pub(crate) alloc: Global,
+    alloc: Global,
     pub(crate) asked: &'a Asked<'d>,
     /// The specs in search order.
     specs: Vec<AskedSpec<'a>>,

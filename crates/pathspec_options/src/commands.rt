@@ -74,7 +74,11 @@ fn attributes() -> [Row; 4] {
             "Reads the attribute files of this directory",
         )
         .without(&["attr", "attr-from"]),
-        flag("global", "Reads your own attribute file, but no core.attributesFile").beside(&["attributes"]),
+        flag(
+            "global",
+            "Reads your own file too, but no core.attributesFile",
+        )
+        .beside(&["attributes"]),
     ]
 }
 
