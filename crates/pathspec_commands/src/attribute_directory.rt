@@ -44,12 +44,13 @@ impl<'a> AttributeDirectory<'a> {
     /// Reads the file of the top and the one of the repository that lies there (gitattributes, "DESCRIPTION").
     ///
     /// # Errors
-    /// A file can't be read.
+    /// No directory stands there, or a file can't be read.
     pub(crate) fn open<R: Files + AllocGlobal, T: Write>(
         rt: &R,
         directory: &'a str,
         told: &mut T,
     ) -> Result<AttributeDirectory<'a>, Failure> {
+        check_directory(rt, directory)?;
         let mut opened = AttributeDirectory {
             directory,
             files: AttributeFiles::new(rt.alloc())?,
@@ -226,6 +227,24 @@ impl<'a> AttributeDirectory<'a> {
         self.known.insert(known)?;
         Ok(())
     }
+}
+
+/// Checks that a directory stands at a path.
+///
+/// # Errors
+/// What else stands there, or why that can't be told.
+fn check_directory<R: Files + AllocGlobal>(rt: &R, directory: &str) -> Result<(), Failure> {
+    let name = quoted(rt.alloc(), directory.as_bytes())?;
+    match fs::metadata(rt, directory) {
+        Ok(metadata) if metadata.is_dir() => Ok(()),
+        Ok(_) => Err(no_directory(rt.alloc(), name.as_str())?),
+        Err(error) => Err(read_fault(rt.alloc(), name.as_str(), &error)?),
+    }
+}
+
+/// The fault of a file where a directory is wanted.
+fn no_directory(alloc: Global, name: &str) -> Result<Failure, AllocError> {
+    Ok(Failure::Told(format!(in alloc; "error: {name}: Not a directory\n")?))
 }
 
 /// The path of the user's own attribute file. An empty `XDG_CONFIG_HOME` counts as none. None where `HOME` isn't set, either.

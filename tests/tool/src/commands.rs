@@ -70,6 +70,18 @@ fn an_include_that_matches_nothing_is_told(rt: HostRuntime) -> Result<(), Fail> 
     assert_rows(&rt, ROWS)
 }
 
+#[test]
+#[rattlefmt::skip]
+fn attributes_come_from_a_directory(rt: HostRuntime) -> Result<(), Fail> {
+    const ROWS: &[Row<'_>] = &[
+        (&["filter", "--attributes", "is/not/there", "a"], "a\n", "", "error: 'is/not/there': No such file or directory (os error 2)\n", 2),
+        (&["filter", "--attributes", "", "--error-unmatch", "a"], "a\n", "", "error: '': No such file or directory (os error 2)\n", 2),
+        (&["explain", "--attributes", "/dev/null", ":(attr:x)a"], "a\n", "", "error: '/dev/null': Not a directory\n", 2),
+        (&["list", "--attributes", "/dev/null/a"], "", "", "error: '/dev/null/a': Not a directory (os error 20)\n", 2),
+    ];
+    assert_rows(&rt, ROWS)
+}
+
 // (What a walk lists is tried by bench/commands, with directories.)
 #[test]
 #[rattlefmt::skip]
