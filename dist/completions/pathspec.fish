@@ -32,7 +32,7 @@ complete -c pathspec -n $paths -s z -l null -d 'A byte 0 ends each path'
 set -l answers '__pathspec_command_is filter list'
 complete -c pathspec -n $answers -s c -l count -d 'Writes how many are selected'
 complete -c pathspec -n $answers -s q -l quiet -d 'Writes nothing; status 1 if none is selected'
-complete -c pathspec -n $answers -l error-unmatch -d 'Status 1 if a spec selects nothing'
+complete -c pathspec -n $answers -l error-unmatch -d 'Status 1 if an include matches nothing'
 complete -c pathspec -n $answers -l stats -d 'Writes counts to standard error'
 
 set -l filter '__pathspec_command_is filter'

@@ -9,7 +9,7 @@ use crate::attributes::{Attributes, attributes_of};
 use crate::devices::{FirstByte, FrontReader};
 use crate::piecewise::filter_pieces;
 use crate::telling::{noun, tell};
-use crate::unmatched::{Includes, Unmatched};
+use crate::unmatched::{AskingReader, Includes, Records};
 use gix_pathspec::Search;
 use pathspec_filter::{Counts, FilterError, LeadingDot, Selection, filter};
 use pathspec_options::{FilterOptions, SpecOptions};
@@ -21,7 +21,7 @@ use std::rt::Env;
 /// The exit status of a filter that did all that it should.
 const DONE: u8 = 0;
 
-/// The exit status where nothing was selected, with `--quiet`, or an include selected nothing, with `--error-unmatch`.
+/// The exit status where nothing was selected, with `--quiet`, or an include matched nothing, with `--error-unmatch`.
 const NONE_SELECTED: u8 = 1;
 
 /// A filter of a reader's records.
@@ -54,13 +54,6 @@ struct Ended {
 }
 
 impl<D: Files + AllocGlobal, R: Read> Filter<'_, '_, '_, '_, D, R> {
-    /// The byte that ends a record.
-    fn separator(&self) -> u8
-        ensures { result ≡ separator_of self.now.options }
-    {
-        if self.options.null { 0 } else { b'\n' }
-    }
-
     /// Writes the selected records.
     ///
     /// # Errors
@@ -72,7 +65,7 @@ impl<D: Files + AllocGlobal, R: Read> Filter<'_, '_, '_, '_, D, R> {
             (W.contents writer.old) (W.contents writer.new) result) }
         ensures status { IfOk result (λ ended. ended.status ≡ DONE) }
     {
-        let (separator, selection) = (self.separator(), selection(&self.options));
+        let (separator, selection) = (separator(&self.options), selection(&self.options));
         match &mut self.attributes {
             Attributes::Rows(rows) => {
                 let ended = filter(
@@ -133,51 +126,13 @@ impl<D: Files + AllocGlobal, R: Read> Filter<'_, '_, '_, '_, D, R> {
             status: NONE_SELECTED,
         })
     }
-
-    /// Writes the selected records, and tells which includes selected none.
-    ///
-    /// # Errors
-    /// The first fault of a question to the includes, and else that of the filter.
-    fn write_and_match<W: Write, T: Write>(
-        &mut self,
-        writer: &mut W,
-        includes: Includes<'_, '_, '_, D>,
-        asked: &Asked<'_>,
-        told: &mut T,
-    ) -> Result<Ended, Failure> {
-        let form = (self.separator(), !self.options.verbatim);
-        let mut unmatched = Unmatched::new(writer, includes, form);
-        let ended = self.write(&mut unmatched, told);
-        let ended = first_fault(unmatched.failure.take(), ended);
-        let includes = unmatched.includes;
-        end_matching(ended, &includes, asked, told)
-    }
 }
 
-/// How a filter ended, where a question about what it wrote may have failed before.
-fn first_fault(failure: Option<Failure>, ended: Result<Ended, Failure>) -> Result<Ended, Failure> {
-    match failure {
-        Some(failure) => Err(failure),
-        None => ended,
-    }
-}
-
-/// Tells which includes selected no record, once a filter ended without a fault.
-///
-/// # Errors
-/// The filter's fault, or memory ran out.
-fn end_matching<D: Files + AllocGlobal, T: Write>(
-    ended: Result<Ended, Failure>,
-    includes: &Includes<'_, '_, '_, D>,
-    asked: &Asked<'_>,
-    told: &mut T,
-) -> Result<Ended, Failure> {
-    let ended = ended?;
-    let count = includes.tell_unmatched(asked, "record", told)?;
-    Ok(Ended {
-        counts: ended.counts,
-        status: if count > 0 { NONE_SELECTED } else { DONE },
-    })
+/// The byte that ends a record.
+fn separator(options: &FilterOptions) -> u8
+    ensures { result ≡ separator_of options.now }
+{
+    if options.null { 0 } else { b'\n' }
 }
 
 /// Which records options select.
@@ -206,6 +161,57 @@ pub(crate) fn run<R: Files + Env + AllocGlobal, I: Read, W: Write, T: Write>(
     (reader, writer, told): (&mut I, &mut W, &mut T),
 ) -> Result<u8, Failure> {
     let asked = read_specs(rt, specs)?;
+    if options.error_unmatch && !options.quiet {
+        run_asking(rt, &asked, specs, options, reader, writer, told)
+    } else {
+        run_filter(rt, &asked, specs, options, reader, writer, told)
+    }
+}
+
+/// Filters the records of `reader` as [`run_filter`] does, and tells which includes match none of them.
+///
+/// # Errors
+/// The first fault of a question to the includes, and else that of the filter.
+fn run_asking<R: Files + Env + AllocGlobal, I: Read, W: Write, T: Write>(
+    rt: &R,
+    asked: &Asked<'_>,
+    specs: &SpecOptions<'_>,
+    options: FilterOptions,
+    reader: &mut I,
+    writer: &mut W,
+    told: &mut T,
+) -> Result<u8, Failure> {
+    let includes = Includes::new(rt, &asked.search, specs)?;
+    let form = (separator(&options), selection(&options).leading_dot);
+    let mut records = Records::new(includes, form);
+    let mut asking = AskingReader::new(reader, &mut records);
+    let ended = run_filter(rt, asked, specs, options, &mut asking, writer, told);
+    let status = first_fault(records.failure.take(), ended)?;
+    let count = records.includes.tell_unmatched(asked, "record", told)?;
+    Ok(if count > 0 { NONE_SELECTED } else { status })
+}
+
+/// How a filter ended, where a question about what it read may have failed before.
+fn first_fault(failure: Option<Failure>, ended: Result<u8, Failure>) -> Result<u8, Failure> {
+    match failure {
+        Some(failure) => Err(failure),
+        None => ended,
+    }
+}
+
+/// Writes the records of `reader` that a search selects to `writer`, and lines for people to `told`. It gives the exit status.
+///
+/// # Errors
+/// The first fault.
+fn run_filter<R: Files + Env + AllocGlobal, I: Read, W: Write, T: Write>(
+    rt: &R,
+    asked: &Asked<'_>,
+    specs: &SpecOptions<'_>,
+    options: FilterOptions,
+    reader: &mut I,
+    writer: &mut W,
+    told: &mut T,
+) -> Result<u8, Failure> {
     let mut filter = Filter {
         rt,
         search: &asked.search,
@@ -213,8 +219,8 @@ pub(crate) fn run<R: Files + Env + AllocGlobal, I: Read, W: Write, T: Write>(
         reader: FrontReader::new(reader),
         attributes: attributes_of(rt, specs, told)?,
     };
-    let ended = run_filter(&mut filter, &asked, specs, writer, told);
-    advise(&filter, &ended, &asked, specs, told);
+    let ended = end_of(&mut filter, writer, told);
+    advise(&filter, &ended, asked, specs, told);
     let ended = ended?;
     write_counts(rt.alloc(), &options, ended.counts, writer, told)?;
     Ok(ended.status)
@@ -224,19 +230,14 @@ pub(crate) fn run<R: Files + Env + AllocGlobal, I: Read, W: Write, T: Write>(
 ///
 /// # Errors
 /// The first fault.
-fn run_filter<R: Files + Env + AllocGlobal, I: Read, W: Write, T: Write>(
+fn end_of<R: Files + AllocGlobal, I: Read, W: Write, T: Write>(
     filter: &mut Filter<'_, '_, '_, '_, R, I>,
-    asked: &Asked<'_>,
-    specs: &SpecOptions<'_>,
     writer: &mut W,
     told: &mut T,
 ) -> Result<Ended, Failure> {
     if filter.options.quiet {
         filter.find_first(told)
-    } else if filter.options.error_unmatch {
-        let includes = Includes::new(filter.rt, &asked.search, specs)?;
-        filter.write_and_match(writer, includes, asked, told)
-    } else if filter.options.count {
+    } else if filter.options.count && !filter.options.error_unmatch {
         filter.write(&mut io::sink(), told)
     } else {
         filter.write(writer, told)
@@ -253,7 +254,7 @@ fn advise<R: Files + AllocGlobal, I: Read, T: Write>(
 ) {
     let situation = Situation {
         front: filter.reader.front(),
-        separator: filter.separator(),
+        separator: separator(&filter.options),
         counts: match ended {
             Ok(ended) => ended.counts,
             Err(_) => None,

@@ -15,7 +15,7 @@ use std::io::Write;
 /// The exit status of a walk that did all that it should.
 const DONE: u8 = 0;
 
-/// The exit status where nothing was selected, with `--quiet`, or an include selected nothing, with `--error-unmatch`.
+/// The exit status where nothing was selected, with `--quiet`, or an include matched nothing, with `--error-unmatch`.
 const NONE_SELECTED: u8 = 1;
 
 /// The exit status of a walk that couldn't look at some path.
@@ -51,7 +51,7 @@ pub(crate) struct Lister<'w, 't, 's, 'o, 'r, 'i, 'd, D, W, T> {
     seen: &'s Seen,
     options: ListOptions<'o>,
     /// The includes that are asked about each selected path, if that is wanted.
-    includes: Option<Includes<'r, 'i, 'd, D>>,
+    pub(crate) includes: Option<Includes<'r, 'i, 'd, D>>,
     selected: u64,
     /// How many paths couldn't be looked at.
     faults: u64,

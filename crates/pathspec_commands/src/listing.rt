@@ -1,4 +1,6 @@
 //! `pathspec list`.
+ghost use Rattle.std.specs.Prelude.{None};
+
 use crate::Failure;
 use crate::advice::attribute_advice;
 use crate::asked::{Asked, read_specs};
@@ -7,6 +9,8 @@ use crate::lister::{Lister, Stop};
 use crate::reaching::read_entered;
 use crate::telling::{quoted, tell};
 use crate::unmatched::Includes;
+use gix_pathspec::Search;
+use gix_pathspec::attributes::{LookUp, NoAttributes};
 use pathspec_list::disk::{Disk, DiskFault, DiskOptions, Seen};
 use pathspec_list::{ListError, Visitor, walk_selected};
 use pathspec_options::{ListOptions, SpecOptions};
@@ -84,7 +88,7 @@ impl<'a, R: Files + Env + AllocGlobal> Walk<'a, '_, '_, R> {
         Ok(attributes)
     }
 
-    /// The includes that are asked about each selected path, if that is wanted.
+    /// The includes that are asked about paths, if that is wanted.
     ///
     /// # Errors
     /// A file of attributes can't be read, or memory ran out.
@@ -114,38 +118,103 @@ impl<'a, R: Files + Env + AllocGlobal> Walk<'a, '_, '_, R> {
         let seen = Seen::new();
         let place = (self.top, &seen);
         let mut lister = Lister::new(alloc, &mut writer, told, place, self.options, includes);
-        match self.walk(attributes, &seen, &mut lister) {
-            Ok(()) | Err(Stop::Found) => lister.end(self.asked),
+        match self.walk(&self.asked.search, attributes, &seen, &mut lister) {
+            Ok(()) | Err(Stop::Found) => self.end(&mut lister),
             Err(Stop::Failed(failure)) => Err(failure),
         }
     }
 
-    /// Walks over the directories, and gives a visitor what is selected.
+    /// Ends a lister once all selected paths were given, and gives the exit status.
+    ///
+    /// # Errors
+    /// Memory ran out, or a write failed.
+    fn end<W: Write, T: Write>(
+        &self,
+        lister: &mut Lister<'_, '_, '_, '_, '_, '_, '_, R, W, T>,
+    ) -> Result<u8, Failure> {
+        if let Some(includes) = lister.includes.take() {
+            lister.includes = Some(self.ask_excluded(includes)?);
+        }
+        lister.end(self.asked)
+    }
+
+    /// Asks the includes that matched no selected path about excluded ones, in a walk for these includes alone, since the walk for
+    /// selected paths doesn't enter what excludes take whole. It tells nothing: what it can't look at was told, or lies in there.
+    ///
+    /// # Errors
+    /// Memory ran out, or an attribute file can't be read.
+    fn ask_excluded<'r, 's, 'd>(
+        &self,
+        includes: Includes<'r, 's, 'd, R>,
+    ) -> Result<Includes<'r, 's, 'd, R>, Failure> {
+        let Some(search) = includes.left_search()? else {
+            return Ok(includes);
+        };
+        let seen = Seen::new();
+        let mut asking = Asking {
+            includes,
+            seen: &seen,
+            dirs: self.options.dirs,
+        };
+        match self.walk(&search, &mut NoAttributes, &seen, &mut asking) {
+            Ok(()) | Err(Stop::Found) => Ok(asking.includes),
+            Err(Stop::Failed(failure)) => Err(failure),
+        }
+    }
+
+    /// Walks over the directories, and gives a visitor what a search selects.
     ///
     /// # Errors
     /// The visitor's reason to end the walk, or a fault.
-    fn walk<V: Visitor<DiskFault, Stop = Stop>>(
+    fn walk<L: LookUp, V: Visitor<DiskFault, Stop = Stop>>(
         &self,
-        attributes: &mut Attributes<'_>,
+        search: &Search,
+        look_up: &mut L,
         seen: &Seen,
         visitor: &mut V,
     ) -> Result<(), Stop> {
         let alloc = self.rt.alloc();
         let mut disk = Disk::new(self.rt, self.top, disk_options(&self.options), seen)?;
         // With directories, since a lister has to see nested repositories.
-        match walk_selected(
-            alloc,
-            &mut disk,
-            &self.asked.search,
-            true,
-            attributes,
-            visitor,
-        ) {
+        match walk_selected(alloc, &mut disk, search, true, look_up, visitor) {
             Ok(()) => Ok(()),
             Err(ListError::Stopped(stop)) => Err(stop),
             Err(ListError::NoDirectory) => Err(Stop::Failed(no_directory(alloc, self.top)?)),
             Err(ListError::LookUp(_) | ListError::Memory) => Err(Stop::Failed(Failure::Memory)),
         }
+    }
+}
+
+/// Asks includes about each path that a walk gives, until all have matched.
+#[derive(Drop)]
+struct Asking<'a, 'r, 's, 'd, D> {
+    includes: Includes<'r, 's, 'd, D>,
+    seen: &'a Seen,
+    dirs: bool,
+}
+
+impl<D: Files + AllocGlobal> Visitor<DiskFault> for Asking<'_, '_, '_, '_, D> {
+    type Stop = Stop;
+
+    ghost given = { λ _. None };
+
+    ghost told = { λ _. None };
+
+    ghost stops = { λ _. None };
+
+    fn give(&mut self, path: &[u8], is_dir: bool) -> Result<(), Stop> {
+        if is_dir && !self.dirs && !self.seen.is_nested() {
+            return Ok(());
+        }
+        match self.includes.ask(path, is_dir) {
+            Ok(()) if self.includes.is_done() => Err(Stop::Found),
+            Ok(()) => Ok(()),
+            Err(failure) => Err(Stop::Failed(failure)),
+        }
+    }
+
+    fn tell(&mut self, _path: &[u8], _fault: DiskFault) -> Result<(), Stop> {
+        Ok(())
     }
 }
 

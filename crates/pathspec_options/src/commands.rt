@@ -48,7 +48,7 @@ fn answers() -> [Row; 5] {
         null(),
         flag("count", "Writes how many are selected").short('c'),
         flag("quiet", "Writes nothing; status 1 if none is selected").short('q'),
-        flag("error-unmatch", "Status 1 if a spec selects nothing"),
+        flag("error-unmatch", "Status 1 if an include matches nothing"),
         flag("stats", "Writes counts to standard error"),
     ]
 }

@@ -62,10 +62,31 @@ fn a_filter_writes_what_is_asked_for(rt: HostRuntime) -> Result<(), Fail> {
 fn an_include_that_matches_nothing_is_told(rt: HostRuntime) -> Result<(), Fail> {
     const ROWS: &[Row<'_>] = &[
         (&["filter", "--error-unmatch", "a", "b"], "a\nb/\n", "a\nb/\n", "", 0),
-        (&["filter", "--error-unmatch", "a", ":!z", "c", "*.x", ":!b", "b"], "a\nb\n./c/d\n", "a\n./c/d\n",
+        (&["filter", "--error-unmatch", "a", ":!z", "c", "*.x", "b"], "a\n./c/d\n", "a\n./c/d\n",
             "error: pathspec '*.x' did not match any record\nerror: pathspec 'b' did not match any record\n", 1),
+        (&["filter", "--error-unmatch", "lib", "lib/a", "l*", "lib"], "lib/a", "lib/a\n", "", 0),
         (&["filter", "--error-unmatch", ":(attr:x)a", "--attr", "a", "x"], "a\n", "a\n", "", 0),
         (&["filter", "--error-unmatch", "-c", "d"], "a\n", "0\n", "error: pathspec 'd' did not match any record\n", 1),
+        (&["filter", "--error-unmatch", "-z", "a", "b"], "a\0./b", "a\0./b\0", "", 0),
+        (&["filter", "--error-unmatch", "--verbatim", "b"], "./b\n", "", "error: pathspec 'b' did not match any record\n", 1),
+        (&["filter", "--error-unmatch", "a", "b"], "a\n\nb\n", "a\n",
+            "error: record 2 is empty, begins with a slash or holds two in a row\n", 2),
+    ];
+    assert_rows(&rt, ROWS)
+}
+
+// As `git ls-files --error-unmatch` tells of files in the index.
+#[test]
+#[rattlefmt::skip]
+fn an_include_may_match_what_is_not_written(rt: HostRuntime) -> Result<(), Fail> {
+    const ROWS: &[Row<'_>] = &[
+        (&["filter", "--error-unmatch", "lib/gen", ":!lib/gen"], "lib/gen/g\nlib/a\n", "", "", 0),
+        (&["filter", "--error-unmatch", "lib/gen", "src", ":!lib"], "lib/gen/g\nsrc/b", "src/b\n", "", 0),
+        (&["filter", "--error-unmatch", "*.md", "*.x", ":!docs"], "docs/d.md\n", "", "error: pathspec '*.x' did not match any record\n", 1),
+        (&["filter", "--error-unmatch", "nope", ":!docs"], "docs/d.md\n", "", "error: pathspec 'nope' did not match any record\n", 1),
+        (&["filter", "--error-unmatch", "src", ":!nope"], "src/b\n", "src/b\n", "", 0),
+        (&["filter", "--error-unmatch", "-v", "a"], "a\nb", "b\n", "", 0),
+        (&["filter", "--error-unmatch", "-v", "a", "d"], "a\nb", "b\n", "error: pathspec 'd' did not match any record\n", 1),
     ];
     assert_rows(&rt, ROWS)
 }
