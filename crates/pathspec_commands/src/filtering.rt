@@ -237,7 +237,7 @@ fn end_of<R: Files + AllocGlobal, I: Read, W: Write, T: Write>(
 ) -> Result<Ended, Failure> {
     if filter.options.quiet {
         filter.find_first(told)
-    } else if filter.options.count && !filter.options.error_unmatch {
+    } else if filter.options.count {
         filter.write(&mut io::sink(), told)
     } else {
         filter.write(writer, told)

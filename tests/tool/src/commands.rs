@@ -66,7 +66,7 @@ fn an_include_that_matches_nothing_is_told(rt: HostRuntime) -> Result<(), Fail> 
             "error: pathspec '*.x' did not match any record\nerror: pathspec 'b' did not match any record\n", 1),
         (&["filter", "--error-unmatch", "lib", "lib/a", "l*", "lib"], "lib/a", "lib/a\n", "", 0),
         (&["filter", "--error-unmatch", ":(attr:x)a", "--attr", "a", "x"], "a\n", "a\n", "", 0),
-        (&["filter", "--error-unmatch", "-c", "d"], "a\n", "0\n", "error: pathspec 'd' did not match any record\n", 1),
+        (&["filter", "--error-unmatch", "-c", "a", "d"], "a\nb\n", "1\n", "error: pathspec 'd' did not match any record\n", 1),
         (&["filter", "--error-unmatch", "-z", "a", "b"], "a\0./b", "a\0./b\0", "", 0),
         (&["filter", "--error-unmatch", "--verbatim", "b"], "./b\n", "", "error: pathspec 'b' did not match any record\n", 1),
         (&["filter", "--error-unmatch", "a", "b"], "a\n\nb\n", "a\n",
