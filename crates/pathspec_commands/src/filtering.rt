@@ -161,7 +161,7 @@ pub(crate) fn run<R: Files + Env + AllocGlobal, I: Read, W: Write, T: Write>(
     (reader, writer, told): (&mut I, &mut W, &mut T),
 ) -> Result<u8, Failure> {
     let asked = read_specs(rt, specs)?;
-    if options.error_unmatch && !options.quiet {
+    if options.error_unmatch {
         run_asking(rt, &asked, specs, options, reader, writer, told)
     } else {
         run_filter(rt, &asked, specs, options, reader, writer, told)
@@ -187,6 +187,8 @@ fn run_asking<R: Files + Env + AllocGlobal, I: Read, W: Write, T: Write>(
     let mut asking = AskingReader::new(reader, &mut records);
     let ended = run_filter(rt, asked, specs, options, &mut asking, writer, told);
     let status = first_fault(records.failure.take(), ended)?;
+    // A quiet filter ends at the first selected record, maybe before each include has matched.
+    records.read_rest(reader)?;
     let count = records.includes.tell_unmatched(asked, "record", told)?;
     Ok(if count > 0 { NONE_SELECTED } else { status })
 }

@@ -108,6 +108,14 @@ impl<'w, 't, 's, 'o, 'r, 'i, 'd, D: Files + AllocGlobal, W: Write, T: Write> Lis
         }
     }
 
+    /// Ends a quiet walk that gave a path, once no include is left to be asked.
+    fn end_if_found(&self) -> Result<(), Stop> {
+        match &self.includes {
+            Some(includes) if !includes.is_done() => Ok(()),
+            _ => Err(Stop::Found),
+        }
+    }
+
     /// Writes a path, with a slash if it is a directory's.
     fn write(&mut self, path: &[u8], is_dir: bool) -> Result<(), Failure> {
         let separator = if self.options.null { b'\0' } else { b'\n' };
@@ -132,10 +140,10 @@ impl<'w, 't, 's, 'o, 'r, 'i, 'd, D: Files + AllocGlobal, W: Write, T: Write> Lis
         if self.options.stats {
             self.tell_counts()?;
         }
-        let is_none = self.options.quiet && self.selected == 0;
-        Ok(if self.faults > 0 && (is_none || !self.options.quiet) {
+        let is_lacking = unmatched > 0 || self.options.quiet && self.selected == 0;
+        Ok(if self.faults > 0 && (is_lacking || !self.options.quiet) {
             NOT_ALL
-        } else if is_none || unmatched > 0 {
+        } else if is_lacking {
             NONE_SELECTED
         } else {
             DONE
@@ -183,13 +191,13 @@ impl<D: Files + AllocGlobal, W: Write, T: Write> Visitor<DiskFault>
             return Ok(());
         }
         self.selected = self.selected.saturating_add(1);
-        if self.options.quiet {
-            return Err(Stop::Found);
-        }
         if let Some(includes) = &mut self.includes {
             if let Err(failure) = includes.ask(path, is_dir) {
                 return Err(Stop::Failed(failure));
             }
+        }
+        if self.options.quiet {
+            return self.end_if_found();
         }
         if self.options.count {
             return Ok(());

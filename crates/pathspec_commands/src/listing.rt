@@ -96,7 +96,7 @@ impl<'a, R: Files + Env + AllocGlobal> Walk<'a, '_, '_, R> {
         &self,
         specs: &SpecOptions<'d>,
     ) -> Result<Option<Includes<'a, 'a, 'd, R>>, Failure> {
-        if !self.options.error_unmatch || self.options.quiet {
+        if !self.options.error_unmatch {
             return Ok(None);
         }
         Ok(Some(Includes::new(self.rt, &self.asked.search, specs)?))

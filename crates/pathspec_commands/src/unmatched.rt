@@ -2,11 +2,12 @@
 use crate::Failure;
 use crate::asked::Asked;
 use crate::attributes::{Attributes, attributes_of};
+use crate::filtering::failure_of;
 use crate::telling::{quoted, tell};
 use bstr::BStr;
 use gix_pathspec::{Pattern, Search};
 use pathspec_explain::{AskedSpec, Reason, asked_specs};
-use pathspec_filter::{LeadingDot, path_in};
+use pathspec_filter::{FilterError, LeadingDot, path_in};
 use pathspec_options::SpecOptions;
 use pathspec_parts::path::strip_last_slash;
 use pathspec_parts::records::is_bad;
@@ -14,6 +15,9 @@ use std::alloc::{AllocError, Global};
 use std::fs::Files;
 use std::io::{self, Error, ErrorKind, Read, Write};
 use std::rt::Env;
+
+/// How many bytes a read takes at most.
+const CHUNK: usize = 65536;
 
 /// The includes of a search, which are asked about paths until each has matched one.
 pub(crate) struct Includes<'r, 's, 'd, D> {
@@ -264,6 +268,24 @@ impl<D: Files + AllocGlobal> Records<'_, '_, '_, D> {
     fn end_record(&mut self) -> Result<(), Failure> {
         self.includes.ask_record(&self.partial, self.leading_dot)?;
         self.partial.clear();
+        Ok(())
+    }
+
+    /// Reads on, until each include has matched or the listing ends.
+    ///
+    /// # Errors
+    /// A read failed, or a record can't be asked about.
+    pub(crate) fn read_rest<R: Read>(&mut self, reader: &mut R) -> Result<(), Failure> {
+        let mut chunk = [0u8; CHUNK];
+        for _ in 0..u64::MAX {
+            if self.are_done() {
+                break;
+            }
+            match reader.read(&mut chunk) {
+                Ok(count) => self.take(&chunk[..count])?,
+                Err(_) => return Err(failure_of(self.includes.rt.alloc(), FilterError::Read)),
+            }
+        }
         Ok(())
     }
 }

@@ -1,7 +1,9 @@
 //! What commands write, what they tell, and how they end.
+use pathspec_commands::Failure;
 use pathspec_commands_tests::running::{Ran, run_over, run_words};
 use pathspec_test_devices::{ALL, Script, ScriptedReader, ScriptedWriter};
 use std::alloc::{AllocError, Global};
+use std::io::ErrorKind;
 use std::test::Fail;
 
 /// The words of a command, its input, what it writes, what it tells, and its exit status.
@@ -89,6 +91,39 @@ fn an_include_may_match_what_is_not_written(rt: HostRuntime) -> Result<(), Fail>
         (&["filter", "--error-unmatch", "-v", "a", "d"], "a\nb", "b\n", "error: pathspec 'd' did not match any record\n", 1),
     ];
     assert_rows(&rt, ROWS)
+}
+
+#[test]
+#[rattlefmt::skip]
+fn a_quiet_filter_tells_of_includes(rt: HostRuntime) -> Result<(), Fail> {
+    const ROWS: &[Row<'_>] = &[
+        (&["filter", "-q", "--error-unmatch", "lib", "nope"], "lib/a\n", "", "error: pathspec 'nope' did not match any record\n", 1),
+        (&["filter", "-q", "--error-unmatch", "lib", "nope"], "lib/a\nnope/b\n/\n", "", "", 0),
+        (&["filter", "-q", "--error-unmatch", "lib", ":!lib"], "lib/a\n", "", "", 1),
+        (&["filter", "-q", "--error-unmatch", "-v", "lib", "nope"], "a\nlib/a\nnope", "", "", 0),
+        (&["filter", "-qc", "--error-unmatch", "lib"], "lib/a\n", "", "", 0),
+    ];
+    assert_rows(&rt, ROWS)
+}
+
+#[test]
+fn a_quiet_filter_reads_until_each_include_has_matched(rt: HostRuntime) -> Result<(), Fail> {
+    const WORDS: &[&str] = &["filter", "-q", "--error-unmatch", "a", "b/c"];
+    // The input, how many reads of two bytes there are, and the exit status.
+    const ROWS: &[(&str, usize, u8)] =
+        &[("a\nb/c\nd\nd\n", 3, 0), ("a\nb/c", 4, 0), ("a\nb/\nc", 4, 1)];
+    for (number, (input, reads, status)) in ROWS.iter().enumerate() {
+        let mut reader = ScriptedReader::new(input.as_bytes(), Script::new(&[], Ok(2)));
+        let (mut written, mut told) = (Vec::new(rt.alloc()), Vec::new(rt.alloc()));
+        let ended = run_words(&rt, WORDS, &mut reader, &mut written, &mut told);
+        assert!(rt; matches!(ended, Ok(found) if found == *status), "{number}: {ended:?}");
+        assert!(rt; reader.script.calls == *reads, "{number}: {}", reader.script.calls);
+    }
+    let mut reader = ScriptedReader::new(b"a\n", Script::new(&[Ok(2)], Err(ErrorKind::BrokenPipe)));
+    let (mut written, mut told) = (Vec::new(rt.alloc()), Vec::new(rt.alloc()));
+    let ended = run_words(&rt, WORDS, &mut reader, &mut written, &mut told);
+    assert!(rt; matches!(ended, Err(Failure::Told(_))), "{ended:?}");
+    Ok(())
 }
 
 #[test]
