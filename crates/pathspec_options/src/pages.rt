@@ -10,7 +10,8 @@ pub(crate) const PROGRAM: &str = "Examples:
 pub(crate) const FILTER: &str = "Examples:
   git ls-files | pathspec filter 'src/*.rs' ':!src/gen'
   find . -type f -print0 | pathspec filter -z ':!web' | xargs -0 ls
-  git diff --name-only | pathspec filter -q docs && make docs
+  git diff --no-renames --name-only -z HEAD~1 |
+    pathspec filter -zq docs && make docs
 ";
 
 pub(crate) const LIST: &str = "Examples:
