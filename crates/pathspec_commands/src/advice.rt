@@ -6,6 +6,8 @@ use pathspec_filter::Counts;
 pub(crate) struct Situation<'a> {
     /// The first bytes of the input.
     pub(crate) front: &'a [u8],
+    /// A record stands in git's quotes.
+    pub(crate) has_quoted_record: bool,
     pub(crate) separator: u8,
     /// None where it ended early.
     pub(crate) counts: Option<Counts>,
@@ -37,16 +39,13 @@ fn separator_advice(situation: &Situation<'_>) -> &'static str {
     ""
 }
 
-/// On records in git's quotes, and on those that end with a carriage return, where nothing was selected.
+/// On records in git's quotes, and where nothing was selected, on those that end with a carriage return.
 fn record_advice(situation: &Situation<'_>) -> &'static str {
-    let is_none = situation.counts.is_some_and(|counts| counts.selected == 0);
-    if situation.separator == 0 || !is_none {
-        return "";
-    }
-    if has_quoted_line(situation.front) {
+    if situation.has_quoted_record {
         return "advice: records stand in quotes: use `git ls-files -z` and `pathspec filter -z`\n";
     }
-    if has_carriage_return(situation.front) {
+    let is_none = situation.counts.is_some_and(|counts| counts.selected == 0);
+    if situation.separator != 0 && is_none && has_carriage_return(situation.front) {
         return "advice: records end with a carriage return, which is part of their paths\n";
     }
     ""
@@ -59,13 +58,6 @@ pub(crate) fn attribute_advice(lacks_attributes: bool) -> &'static str {
     } else {
         ""
     }
-}
-
-/// Whether a line begins and ends with a quote.
-fn has_quoted_line(front: &[u8]) -> bool {
-    front
-        .split(|byte| *byte == b'\n')
-        .any(|line| matches!(line, [b'"', .., b'"']))
 }
 
 /// Whether a line ends with a carriage return.

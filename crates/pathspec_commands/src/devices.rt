@@ -2,32 +2,48 @@
 ghost use Rattle.std.specs.Prelude.{Some};
 ghost use Rattle.std.specs.Option.{option_to_list};
 
+use crate::quoted_records::QuotedRecords;
 use std::io::{self, Error, ErrorKind, Read, Write};
 
 /// How many first bytes of its input a filter remembers.
 const FRONT: usize = 4096;
 
-/// A reader that remembers its first bytes.
+/// A reader that remembers its first bytes, and whether git quoted a record.
 #[derive(Drop)]
 pub(crate) struct FrontReader<'r, R> {
     reader: &'r mut R,
     front: [u8; FRONT],
     len: usize,
+    /// None where no line feed ends a record, since git quotes none then.
+    quoted: Option<QuotedRecords>,
 }
 
 impl<'r, R: Read> FrontReader<'r, R> {
-    /// A reader of which nothing was read.
-    pub(crate) fn new(reader: &'r mut R) -> FrontReader<'r, R> {
+    /// A reader of which nothing was read. Its records end with the separator.
+    pub(crate) fn new(reader: &'r mut R, separator: u8) -> FrontReader<'r, R> {
         FrontReader {
             reader,
             front: [0; FRONT],
             len: 0,
+            quoted: if separator == b'\n' {
+                Some(QuotedRecords::new())
+            } else {
+                None
+            },
         }
     }
 
     /// The first bytes that were read.
     pub(crate) fn front(&self) -> &[u8] {
         &self.front[..self.len.min(FRONT)]
+    }
+
+    /// Whether a record that was read stands in git's quotes.
+    pub(crate) fn has_quoted_record(&self) -> bool {
+        match &self.quoted {
+            Some(records) => records.is_found(),
+            None => false,
+        }
     }
 }
 
@@ -40,6 +56,9 @@ impl<R: Read> Read for FrontReader<'_, R> {
         let kept = count.min(FRONT - from);
         self.front[from..from + kept].copy_from_slice(&buf[..kept]);
         self.len = from + kept;
+        if let Some(records) = &mut self.quoted {
+            records.take(&buf[..count]);
+        }
         Ok(count)
     }
 }

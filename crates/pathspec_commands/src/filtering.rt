@@ -218,7 +218,7 @@ fn run_filter<R: Files + Env + AllocGlobal, I: Read, W: Write, T: Write>(
         rt,
         search: &asked.search,
         options,
-        reader: FrontReader::new(reader),
+        reader: FrontReader::new(reader, separator(&options)),
         attributes: attributes_of(rt, specs, told)?,
     };
     let ended = end_of(&mut filter, writer, told);
@@ -256,6 +256,7 @@ fn advise<R: Files + AllocGlobal, I: Read, T: Write>(
 ) {
     let situation = Situation {
         front: filter.reader.front(),
+        has_quoted_record: filter.reader.has_quoted_record(),
         separator: separator(&filter.options),
         counts: match ended {
             Ok(ended) => ended.counts,

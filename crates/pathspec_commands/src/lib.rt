@@ -17,6 +17,7 @@ mod lister;
 mod listing;
 mod pieces;
 mod piecewise;
+mod quoted_records;
 mod reaching;
 mod reason_texts;
 mod running;

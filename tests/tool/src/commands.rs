@@ -163,12 +163,33 @@ fn mistakes_that_are_no_faults_get_advice(rt: HostRuntime) -> Result<(), Fail> {
         (&["filter", "-z", "a"], "a/b\nb\n", "a/b\nb\n\0", "advice: the input has line feeds and no byte 0: leave out `-z`?\n", 0),
         (&["filter", "-z", "a"], "a/b\nb\0c\0", "a/b\nb\0", "", 0),
         (&["filter", "a"], "\"a\\303\"\nb\n", "", "advice: records stand in quotes: use `git ls-files -z` and `pathspec filter -z`\n", 0),
-        (&["filter", "b"], "\"a\\303\"\nb\n", "b\n", "", 0),
+        (&["filter", "b"], "\"a\\303\"\nb\n", "b\n", "advice: records stand in quotes: use `git ls-files -z` and `pathspec filter -z`\n", 0),
+        (&["filter", "-v", "b"], "b\n\"a\\\"\\t\"", "\"a\\\"\\t\"\n", "advice: records stand in quotes: use `git ls-files -z` and `pathspec filter -z`\n", 0),
+        (&["filter", "-q", ":!a"], "\"a/\\303\\257\"\nb\n", "", "advice: records stand in quotes: use `git ls-files -z` and `pathspec filter -z`\n", 0),
+        (&["filter", "b"], "\"\n\"a\nb\"\n\"\\\"\n\"\\x\"\n\"\\400\"\n\"\\38\"\n\"a\"b\n \"a\"\nb\n", "b\n", "", 0),
+        (&["filter", "-z", "b"], "\"a\\303\"\0b\0", "b\0", "", 0),
         (&["filter", "a"], "a\r\nb\r\n", "", "advice: records end with a carriage return, which is part of their paths\n", 0),
         (&["filter", ":(attr:x)a"], "a\n", "", "advice: a spec lists attributes, and no path has any: `--attributes .`?\n", 0),
         (&["filter", ":(attr:x)a", "--attr", "b", "x"], "a\n", "", "", 0),
     ];
     assert_rows(&rt, ROWS)
+}
+
+#[test]
+fn a_quoted_record_is_seen_wherever_it_stands(rt: HostRuntime) -> Result<(), Fail> {
+    let mut listing = Vec::new(rt.alloc());
+    for _ in 0..2500 {
+        listing.extend_from_slice(b"a\n")?;
+    }
+    listing.extend_from_slice(b"\"docs/na\\303\\257ve.md\"\n")?;
+    for size in [1, 2, 3, 7, 5010] {
+        let mut reader = ScriptedReader::new(&listing, Script::new(&[], Ok(size)));
+        let (mut written, mut told) = (Vec::new(rt.alloc()), Vec::new(rt.alloc()));
+        let ended = run_words(&rt, &["filter", "-c", "a"], &mut reader, &mut written, &mut told);
+        assert!(rt; matches!(ended, Ok(0)), "{size}: {ended:?}");
+        assert!(rt; told.starts_with(b"advice: records stand in quotes"), "{size}: {told:?}");
+    }
+    Ok(())
 }
 
 #[test]
