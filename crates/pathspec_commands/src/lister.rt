@@ -10,7 +10,7 @@ use pathspec_list::disk::{DiskFault, Seen};
 use pathspec_options::ListOptions;
 use std::alloc::{AllocError, AllocFailed, Global};
 use std::fs::Files;
-use std::io::Write;
+use std::io::{ErrorKind, Write};
 
 /// The exit status of a walk that did all that it should.
 const DONE: u8 = 0;
@@ -52,6 +52,8 @@ pub(crate) struct Lister<'w, 't, 's, 'o, 'r, 'i, 'd, D, W, T> {
     options: ListOptions<'o>,
     /// The includes that are asked about each selected path, if that is wanted.
     pub(crate) includes: Option<Includes<'r, 'i, 'd, D>>,
+    /// Whether the top was given as a word beside no specs, so that it may be meant as one.
+    may_be_spec: bool,
     selected: u64,
     /// How many paths couldn't be looked at.
     faults: u64,
@@ -68,6 +70,7 @@ impl<D, W, T> Drop for Lister<'_, '_, '_, '_, '_, '_, '_, D, W, T> {
             seen: _seen,
             options: _options,
             includes: _includes,
+            may_be_spec: _may_be_spec,
             selected: _selected,
             faults: _faults,
         } = self;
@@ -91,7 +94,7 @@ impl<'w, 't, 's, 'o, 'r, 'i, 'd, D: Files + AllocGlobal, W: Write, T: Write> Lis
         alloc: Global,
         writer: &'w mut W,
         told: &'t mut T,
-        (top, seen): (&'s str, &'s Seen),
+        (top, seen, may_be_spec): (&'s str, &'s Seen, bool),
         options: ListOptions<'o>,
         includes: Option<Includes<'r, 'i, 'd, D>>,
     ) -> Lister<'w, 't, 's, 'o, 'r, 'i, 'd, D, W, T> {
@@ -103,6 +106,7 @@ impl<'w, 't, 's, 'o, 'r, 'i, 'd, D: Files + AllocGlobal, W: Write, T: Write> Lis
             seen,
             options,
             includes,
+            may_be_spec,
             selected: 0,
             faults: 0,
         }
@@ -211,8 +215,19 @@ impl<D: Files + AllocGlobal, W: Write, T: Write> Visitor<DiskFault>
     fn tell(&mut self, path: &[u8], fault: DiskFault) -> Result<(), Stop> {
         let line = fault_line(self.alloc, self.top, path, &fault)?;
         tell(self.told, line.as_str());
+        if self.may_be_spec && path.is_empty() && is_missing(&fault) {
+            tell(self.told, "  specs stand behind `--`\n");
+        }
         self.faults = self.faults.saturating_add(1);
         Ok(())
+    }
+}
+
+/// Whether a path isn't there.
+fn is_missing(fault: &DiskFault) -> bool {
+    match fault {
+        DiskFault::System(error) => error.kind() == ErrorKind::NotFound,
+        DiskFault::NotUtf8 | DiskFault::Memory => false,
     }
 }
 

@@ -116,7 +116,8 @@ impl<'a, R: Files + Env + AllocGlobal> Walk<'a, '_, '_, R> {
         let alloc = self.rt.alloc();
         let mut writer = BufWriter::new(alloc, writer).map_err(|_| Failure::Memory)?;
         let seen = Seen::new();
-        let place = (self.top, &seen);
+        let may_be_spec = self.asked.texts.is_empty() && !self.options.directory.is_empty();
+        let place = (self.top, &seen, may_be_spec);
         let mut lister = Lister::new(alloc, &mut writer, told, place, self.options, includes);
         match self.walk(&self.asked.search, attributes, &seen, &mut lister) {
             Ok(()) | Err(Stop::Found) => self.end(&mut lister),

@@ -144,7 +144,8 @@ fn attributes_come_from_a_directory(rt: HostRuntime) -> Result<(), Fail> {
 fn a_top_that_is_no_directory_is_told(rt: HostRuntime) -> Result<(), Fail> {
     const ROWS: &[Row<'_>] = &[
         (&["list", "is/not/there", "--", "a"], "", "", "error: 'is/not/there': No such file or directory (os error 2)\n", 2),
-        (&["list", "-C", "is", "not//"], "", "", "error: 'is/not//': No such file or directory (os error 2)\n", 2),
+        (&["list", "*.c"], "", "", "error: '*.c': No such file or directory (os error 2)\n  specs stand behind `--`\n", 2),
+        (&["list", "-C", "is", "not//"], "", "", "error: 'is/not//': No such file or directory (os error 2)\n  specs stand behind `--`\n", 2),
         (&["list", "-qC", "is"], "", "", "error: 'is': No such file or directory (os error 2)\n", 2),
         (&["list", "/dev/null"], "", "", "error: '/dev/null': Not a directory\n  specs stand behind `--`\n", 2),
         (&["list", "-C", "is", "/dev/null", "--", ":(attr:x)a"], "", "",

@@ -326,6 +326,18 @@ fn an_option_of_other_programs_gets_a_tip(rt: HostRuntime) -> Result<(), Fail> {
 }
 
 #[test]
+fn a_spec_beside_the_directory_of_list_gets_a_tip(rt: HostRuntime) -> Result<(), Fail> {
+    let words = ["pathspec", "list", "src", "*.c"];
+    let Err(error) = Options::from_words(rt.alloc(), words.as_slice(), "1") else {
+        return Err(Fail::from(AllocError));
+    };
+    let text = format!(in rt.alloc(); "{error}")?;
+    let tip = "error: unexpected argument '*.c' found\n\n  tip: specs stand behind `--`\n\n";
+    assert!(rt; text.as_str().starts_with(tip), "{text}");
+    Ok(())
+}
+
+#[test]
 fn help_fits_in_80_columns(rt: HostRuntime) -> Result<(), Fail> {
     for name in ["filter", "list", "explain", "show"] {
         let words = ["pathspec", name, "--help"];
