@@ -7,9 +7,10 @@ ghost use Rattle.pathspec_commands.specs.SpecPlaces.{ArePlaces};
 use crate::Failure;
 use crate::environment::variable;
 use crate::spec_texts::{SpecText, spec_texts};
+use bitflags::Flags;
 use bstr::BStr;
 use gix_pathspec::search::BuildError;
-use gix_pathspec::{Defaults, Error, Pattern, Search, parse};
+use gix_pathspec::{Defaults, Error, MagicSignature, Pattern, Search, parse};
 use pathspec_faults::report;
 use pathspec_options::{Modes, SpecOptions};
 use pathspec_parts::path;
@@ -24,6 +25,8 @@ pub(crate) struct Asked<'a> {
     places: Vec<usize>,
     /// Whether a spec lists attributes.
     pub(crate) lists_attributes: bool,
+    /// Whether a spec is taken from the top, whatever the prefix.
+    pub(crate) counts_from_top: bool,
     pub(crate) search: Search,
 }
 
@@ -34,6 +37,7 @@ impl Drop for Asked<'_> {
             texts: _texts,
             places: _places,
             lists_attributes: _lists_attributes,
+            counts_from_top: _counts_from_top,
             search: _search,
         } = self;
     }
@@ -51,11 +55,13 @@ pub(crate) fn read_specs<'a, R: Files + Env + AllocGlobal>(
     let patterns = patterns_of(rt, &texts, options.modes)?;
     let places = places_of(rt.alloc(), &patterns)?;
     let lists_attributes = any_lists_attributes(&patterns);
+    let counts_from_top = any_counts_from_top(&patterns);
     let search = search_of(rt.alloc(), patterns, &texts, options)?;
     Ok(Asked {
         texts,
         places,
         lists_attributes,
+        counts_from_top,
         search,
     })
 }
@@ -89,6 +95,13 @@ fn any_lists_attributes(patterns: &[Pattern]) -> bool {
     patterns
         .iter()
         .any(|pattern| !pattern.attributes.is_empty())
+}
+
+/// Whether some pattern is taken from the top, whatever the prefix.
+fn any_counts_from_top(patterns: &[Pattern]) -> bool {
+    patterns
+        .iter()
+        .any(|pattern| pattern.signature.contains(MagicSignature::TOP))
 }
 
 /// For each of patterns, its place in search order.

@@ -3,7 +3,7 @@ ghost use Rattle.std.specs.Prelude.{◌≡◌, IfOk};
 ghost use Rattle.pathspec_commands.specs.Filters.{separator_of, selection_of, takes_of, WithTable, EndsWriting, TellsFirst};
 
 use crate::Failure;
-use crate::advice::{Situation, advice};
+use crate::advice::{Situation, advice, spec_advice};
 use crate::asked::{Asked, read_specs};
 use crate::attributes::{Attributes, attributes_of};
 use crate::devices::{FirstByte, FrontReader};
@@ -266,6 +266,9 @@ fn advise<R: Files + AllocGlobal, I: Read, T: Write>(
     };
     for line in advice(&situation) {
         tell(told, line);
+    }
+    if situation.selects_nothing() && !filter.options.invert {
+        tell(told, spec_advice(asked, "", !specs.prefix.is_empty()));
     }
 }
 

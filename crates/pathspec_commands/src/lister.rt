@@ -2,6 +2,7 @@
 ghost use Rattle.std.specs.Prelude.{None};
 
 use crate::Failure;
+use crate::advice::spec_advice;
 use crate::asked::Asked;
 use crate::telling::{noun, quoted, tell};
 use crate::unmatched::Includes;
@@ -141,6 +142,9 @@ impl<'w, 't, 's, 'o, 'r, 'i, 'd, D: Files + AllocGlobal, W: Write, T: Write> Lis
             Some(includes) => includes.tell_unmatched(asked, "path", self.told)?,
             None => 0,
         };
+        if self.selected == 0 && self.faults == 0 {
+            tell(self.told, spec_advice(asked, self.options.directory, true));
+        }
         if self.options.stats {
             self.tell_counts()?;
         }

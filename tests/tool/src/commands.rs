@@ -170,6 +170,10 @@ fn mistakes_that_are_no_faults_get_advice(rt: HostRuntime) -> Result<(), Fail> {
         (&["filter", "b"], "\"\n\"a\nb\"\n\"\\\"\n\"\\x\"\n\"\\400\"\n\"\\38\"\n\"a\"b\n \"a\"\nb\n", "b\n", "", 0),
         (&["filter", "-z", "b"], "\"a\\303\"\0b\0", "b\0", "", 0),
         (&["filter", "a"], "a\r\nb\r\n", "", "advice: records end with a carriage return, which is part of their paths\n", 0),
+        (&["filter", "--prefix=src", ":/docs"], "src/a\n", "", "advice: a spec counts from the top of the repository: do the paths?\n", 0),
+        (&["filter", "--prefix=src", ":/docs"], "", "", "", 0),
+        (&["filter", "--prefix=src", "-v", ":/a"], "a\n", "", "", 0),
+        (&["filter", ":(top)docs"], "a\n", "", "", 0),
         (&["filter", ":(attr:x)a"], "a\n", "", "advice: a spec lists attributes, and no path has any: `--attributes .`?\n", 0),
         (&["filter", ":(attr:x)a", "--attr", "b", "x"], "a\n", "", "", 0),
     ];
