@@ -1,0 +1,61 @@
+"""Wrong implementations by what other matchers do: a call of the model in another way. `old` is the call as it was."""
+from __future__ import annotations
+
+#: The call, the habit, and what is done in its place.
+HABITS: list[tuple[str, str, str]] = [
+    ("glob_matches", "Python's fnmatch", "__import__('fnmatch').fnmatchcase(text.decode('latin-1'), pattern.decode('latin-1'))"),
+    ("glob_matches", "a shell's: no wildcard takes a dot in front",
+        "old(pattern, text, mode, icase) and not (text[:1] == b'.' and pattern[:1] in (b'*', b'?', b'['))"),
+    ("glob_matches", "an expression's: no wildcard takes a line feed",
+        "old(pattern, text, mode, icase) and not (b'\\n' in text and b'?' in pattern)"),
+    ("glob_matches", "a character is one for `?`",
+        "old(pattern, text.decode('utf-8', 'replace').encode('latin-1', 'replace'), mode, icase)"),
+    ("glob_matches", "braces",
+        "any(old(pattern.replace(b'{a,b}', one), text, mode, icase) for one in (b'a', b'b'))"),
+    ("glob_matches", "`**/` is nothing in any mode",
+        "old(pattern, text, mode, icase) or old(pattern.removeprefix(b'**/'), text, mode, icase)"),
+    ("glob_matches", "a part of the text does", "any(old(pattern, text[at:], mode, icase) for at in range(len(text)))"),
+    ("glob_matches", "a depth of twenty", "old(pattern, text, mode, icase) if len(text) < 60 else False"),
+    ("glob_matches", "a range has both cases",
+        "old(pattern, text, mode, icase) or b'[a-c]' in pattern and old(pattern, text.lower(), mode, icase)"),
+    ("glob_matches", "backslashes are plain", "old(pattern.replace(b'\\\\', b'\\\\\\\\'), text, mode, icase)"),
+    ("glob_matches", "`+` and `(` of an extended glob", "old(pattern.replace(b'+(a)', b'a*'), text, mode, icase)"),
+    ("settle", "an ignore file's: the last that matches",
+        "next(((not one.exclude, at, how(one, path, is_dir)) for at, one in [*enumerate(specs)][::-1] if how(one, path, is_dir)),"
+        " (False, None, None))"),
+    ("settle", "a spec without a slash stands for last names",
+        "old(specs, path if any(b'/' in one.path for one in specs) else path.rpartition(b'/')[2], is_dir, look_up)"),
+    ("settle", "no case at all",
+        "old([dataclasses.replace(one, icase=True) for one in specs], path, is_dir, look_up)"),
+    ("settle", "a backslash in a path is a slash", "old(specs, path.replace(b'\\\\', b'/'), is_dir, look_up)"),
+    ("settle", "a directory is selected with what lies in it",
+        "(True, 0, 'below') if is_dir and any(one.path.startswith(path + b'/') for one in specs)"
+        " else old(specs, path, is_dir, look_up)"),
+    ("settle", "all specs have to match",
+        "old(specs, path, is_dir, look_up) if all(how(one, path, is_dir) or one.exclude for one in specs)"
+        " else (False, None, None)"),
+    ("settle", "names are composed",
+        "old([dataclasses.replace(one, path=one.path.replace(b'a\\xcc\\x88', b'\\xc3\\xa4')) for one in specs],"
+        " path.replace(b'a\\xcc\\x88', b'\\xc3\\xa4'), is_dir, look_up)"),
+    ("read", "blanks are trimmed", "old(text.strip() or text, defaults)"),
+    ("read", "quotes are taken off", "old(text.strip(b'\"') or text, defaults)"),
+    ("read", "a dash excludes", "old(b':!' + text[1:] if text[:1] == b'-' else text, defaults)"),
+    ("read", "a lone `!` excludes", "old(b':' + text if text[:1] == b'!' else text, defaults)"),
+    ("read", "keywords may be cut short", "old(text.replace(b'(exc)', b'(exclude)'), defaults)"),
+    ("read", "a home directory", "old(b'/home/user' + text[1:] if text[:1] == b'~' else text, defaults)"),
+    ("components", "a name of three dots is two steps",
+        "[part for name in old(path) for part in ([b'..', b'..'] if name == b'...' else [name])]"),
+    ("read_assignment", "true and false are states",
+        "old(word.removesuffix(b'=true') if word.endswith(b'=true') else b'-' + word[:-6] if word.endswith(b'=false') else word)"),
+    ("read_assignment", "names have no case", "(lambda one: one and (one[0].lower(), one[1]))(old(word))"),
+    ("split_line", "a `#` begins a comment anywhere", "old(line.partition(b' #')[0])"),
+    ("rule_fits", "a directory's rule is for all below it",
+        "old(rule, path, is_dir) or any(old(rule, path[:at], True) for at in range(len(path)) if path[at : at + 1] == b'/')"),
+    ("reaches", "only the first name counts",
+        "always_matches(spec) or has_wildcard(spec) or spec.path.split(b'/')[0] == directory"),
+    ("must_enter", "what an include matches is entered",
+        "any(how(one, directory, True) or one.path.startswith(directory + b'/') for one in specs if not one.exclude)"
+        " or all(one.exclude for one in specs)"),
+    ("must_enter", "an exclude takes all below what its glob matches",
+        "old(specs, directory) and not any(one.exclude and how(one, directory, True) for one in specs)"),
+]
