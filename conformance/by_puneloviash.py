@@ -141,7 +141,7 @@ class Puneloviash:
 
     def attributes(self, question: Case) -> Answer:
         path, is_dir = model.as_bytes(question["path"]), question.get("is_dir", False)
-        values = {value for file in question["files"] for value in re.findall(rb"=([\w,-]+)", model.as_bytes(file["text"]))}
+        values = {value for file in question["files"] for value in re.findall(rb"=([\w,-]*)", model.as_bytes(file["text"]))}
         states: dict[str, Any] = {}
         for name in question["names"]:
             spellings = {"": True, "-": False, "!": None}
